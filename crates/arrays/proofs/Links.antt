@@ -1,18 +1,9 @@
 -- A problem's constraints by number, the first constraint on two variables, and the values that go together by it. Assumes nothing.
-use mathlib.Core.Path.{_≡_, sym, ap, subst}
-use mathlib.Core.Bool.{Bool, true, false}
-use mathlib.Core.List.{List, [], _∷_, List·Memᴰ}
-use Prim.Native.Nat.{ℕ, _≤_, _<_}
-use lib.Dec.{T, eqb, eqb→eq, eqb-refl}
-use lib.ListN.{length}
-use borrow.Author.Tests.{lt-ltb, le-ltb, le-leb, lt-leb}
-use Rattle.model.specs.Lists.{both, either, any, at, same, ascending}
-use Rattle.model.specs.Problem.{Problem, Constraint}
-use Rattle.model.proofs.Lists.{T-of, both-l, same-eq, mem-getD, ascending-2}
-use Rattle.model.proofs.Masks.{least-is}
+use Rattle.model.specs.Kit.{_≡_, sym, ap, subst, Bool, true, false, List, [], _∷_, List·Memᴰ, ℕ, _≤_, _<_, T, eqb, eqb→eq, eqb-refl, length, lt-ltb, le-ltb, le-leb, lt-leb}
+use Rattle.model.specs.{Lists.both, Lists.either, Lists.any, Lists.at, Lists.same, Lists.ascending, Problem.Problem, Problem.Constraint, Problem.constraintAt}
 use Rattle.model.specs.WellFormed.{WellFormed, GoodConstraint}
-use Rattle.arrays.specs.Layout.{constraintAt}
-use Rattle.arrays.specs.Tables.{linkOf, byRows, allowed, goes}
+use Rattle.model.proofs.{Lists.T-of, Lists.both-l, Lists.same-eq, Lists.mem-getD, Lists.ascending-2, Masks.least-is}
+use Rattle.arrays.specs.inner.Tables.{linkOf, byRows, allowed, goes}
 
 -- ---- constraint k
 pub is-one : (p : Problem) (k : ℕ) → k < length (p .constraints) → List·Memᴰ (constraintAt p k) (p .constraints)

@@ -21,6 +21,9 @@ pub type Supports = [u16; SUPPORTS];
 
 pub type Images = [u8; IMAGES];
 
+// The set of variable k at depth k stands at DIAGONAL * k of the stack, sixteen sets a depth.
+pub const DIAGONAL: usize = 17;
+
 // What the search has besides: its tables, the sets of each depth, the prefix with the marks of each depth.
 pub type Tables = [u16; TABLES];
 
@@ -45,29 +48,30 @@ pub const CONSTRAINTS: usize = 66;
 
 pub const SYMMETRIES: usize = 67;
 
-// The node limit, and how many plans the list has room for.
+// What a run puts among them (crate run_task): the node limit, how many plans the list has room for, from ORDER on the variable that is settled at each of
+// twelve depths, and the set of the block's variables (paper 02, #111), empty where no block is lent.
 pub const LIMIT: usize = 68;
 
 pub const ROOM: usize = 69;
 
-// The variables in a constraint that is pruned by variable, and those constraints; from OTHERS on each variable's other constraints.
-pub const LINKED: usize = 70;
+pub const ORDER: usize = 70;
 
-pub const BY_ROWS: usize = 71;
+pub const BLOCK: usize = 82;
 
-pub const OTHERS: usize = 72;
+// What the search's tables have here (crate arrays_tables): the variables in a constraint that is pruned by variable, and those constraints; from OTHERS on
+// each
+// variable's other constraints; the loose variables.
+pub const LINKED: usize = 84;
 
-// The loose variables.
-pub const LOOSE: usize = 88;
+pub const BY_ROWS: usize = 85;
 
-// From here on the variable that is settled at each of twelve depths.
-pub const ORDER: usize = 96;
-// The set of the block's variables (paper 02, #111); empty where no block is lent.
-pub const BLOCK: usize = 108;
+pub const OTHERS: usize = 86;
+
+pub const LOOSE: usize = 102;
 
 // From here on, for each depth from 0 to 12, the constraints on three variables whose first two have one value each from there on: look-ups for the third.
 // Empty where there are fewer than nine values.
-pub const LOOKS: usize = 112;
+pub const LOOKS: usize = 104;
 
 // For sets of values below 8, numbers of eight lanes: from here on all of the lanes of each set; for each constraint on three variables the unions of its
 // support sets.

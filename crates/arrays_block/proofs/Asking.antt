@@ -1,22 +1,10 @@
 -- The questions to the trades of neighbours, one by one. Assumes nothing.
-use mathlib.Core.Path.{_≡_, refl, sym, ap, ap₂, _∙_, subst}
-use mathlib.Core.Bool.{Bool, true, false}
-use mathlib.Core.List.{List}
-use Prim.Native.Nat.{ℕ, _+_, _*_, _≤_, _<_}
-use native.Mathlib.Nat.{mul-le-mul}
-use native.Mathlib.Decide.{ℕ-discrete}
-use native.Mathlib.Omega.{arith}
-use lib.Dec.{T, leb}
-use borrow.Author.Tests.{le-leb, lt-leb}
-use lib.ListN.{length, getD}
-use native.Mathlib.Numerals.{add-one}
-use Rattle.model.specs.Lists.{at, both, flat}
-use Rattle.model.specs.Problem.{Problem, respects}
-use Rattle.model.specs.Verdict.{accepted, refused}
-use Rattle.model.specs.Sheet.{permutesPairs}
-use Rattle.sheet_symmetries.specs.Table.{Asked, answerOf, tableAnswer}
+use Rattle.model.specs.Kit.{_≡_, refl, sym, ap, ap₂, _∙_, subst, Bool, true, false, List, ℕ, _+_, _*_, _≤_, _<_, mul-le-mul, ℕ-discrete, arith, T, leb, le-leb, lt-leb, length}
+use Rattle.model.specs.Kit.{getD, add-one}
+use Rattle.model.specs.{Lists.at, Lists.both, Lists.flat, Problem.Problem, Problem.respects, Verdict.accepted, Verdict.refused, Sheet.permutesPairs}
+use Rattle.sheet_symmetries.specs.inner.Table.{Asked, answerOf, tableAnswer}
 use Rattle.block.specs.Block.{orderings, factorial, orderingTable, isBlock, blockVerdict, TradePasses}
-use Rattle.arrays_block.specs.Asked.{Held, BlockRow, TableBytes, rowAnswer}
+use Rattle.arrays_block.specs.inner.Asked.{Held, BlockRow, TableBytes, rowAnswer}
 use Rattle.block.proofs.Orderings.{Few, factorial-le, factorial-up}
 use Rattle.block.proofs.Block as K
 

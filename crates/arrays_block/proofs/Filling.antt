@@ -1,18 +1,9 @@
 -- The table of a row as bytes: low bytes are set one by one, and the high ones stay 0. Assumes nothing.
-use mathlib.Core.Path.{_≡_, refl, sym, ap, ap₂, _∙_, subst}
-use mathlib.Core.List.{List}
-use Prim.Native.Nat.{ℕ, _+_, _*_, _<_}
-use native.Mathlib.Decide.{ℕ-discrete}
-use native.Mathlib.Omega.{arith}
-use lib.ListN.{length, set, replicate, length-set}
-use Rattle.model.specs.Lists.{at}
-use Rattle.model.specs.Problem.{Problem}
-use Rattle.model.specs.Sheet.{word, words}
-use Rattle.model.specs.WellFormed.{WellFormed}
+use Rattle.model.specs.Kit.{_≡_, refl, sym, ap, ap₂, _∙_, subst, List, ℕ, _+_, _*_, _<_, ℕ-discrete, arith, length, set, replicate, length-set}
+use Rattle.model.specs.{Lists.at, Problem.Problem, Sheet.word, Sheet.words, WellFormed.WellFormed}
 use Rattle.block.specs.Block.{orderingTable, imageOf, ordering}
-use Rattle.arrays_block.specs.Asked.{TableBytes}
-use Rattle.model.proofs.Lists.{at-replicate, at-set, at-set-other, at-ext}
-use Rattle.model.proofs.Accepted.{length-words, at-words}
+use Rattle.arrays_block.specs.inner.Asked.{TableBytes}
+use Rattle.model.proofs.{Lists.at-replicate, Lists.at-set, Lists.at-set-other, Lists.at-ext, Accepted.length-words, Accepted.at-words}
 use Rattle.block.proofs.Tables.{length-variableTable}
 
 module _ (p : Problem) (first m row : ℕ) where

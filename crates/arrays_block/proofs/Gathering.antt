@@ -1,19 +1,9 @@
 -- The positions of a block in an order, gathered one by one. Assumes nothing.
-use mathlib.Core.Path.{_≡_, refl, sym, ap, _∙_, subst}
-use mathlib.Core.Bool.{Bool, true, false}
-use mathlib.Core.List.{List}
-use Prim.Native.Nat.{ℕ, _+_, _*_, _%_, _^_, _<_}
-use native.Mathlib.Omega.{arith}
-use lib.Bits.{bitOr, or-zero-r}
-use lib.Dec.{ltb, eqb}
-use lib.ListN.{length, getD}
-use borrow.Author.Tests.{le-leb, lt-leb}
-use Rattle.model.specs.Lists.{at, both}
-use Rattle.model.specs.Filling.{Gathered}
+use Rattle.model.specs.Kit.{_≡_, refl, sym, ap, _∙_, subst, Bool, true, false, List, ℕ, _+_, _*_, _%_, _^_, _<_, arith, bitOr, ltb, eqb, length, getD, le-leb, lt-leb}
+use lib.Bits.{or-zero-r}
+use Rattle.model.specs.{Lists.at, Lists.both, inner.Filling.Gathered}
 use Rattle.block.specs.Block.{inBlock, inLent}
-use Rattle.model.proofs.Sets.{has-none}
-use Rattle.model.proofs.Members.{one-has}
-use Rattle.model.proofs.Filling.{gathered-more}
+use Rattle.model.proofs.{Sets.has-none, Members.one-has, Filling.gathered-more}
 use Rattle.block.proofs.BlockLent.{inside-other, inside-two}
 
 pub before : (first m x : ℕ) → x < first → false ≡ inBlock first m x
@@ -40,5 +30,6 @@ both-none false = refl
 pub positions-other : (block order : List ℕ) (n : ℕ) → (length block ≡ 2 → ⊥) → Gathered (λ i. inLent block (at order i)) n 0
 positions-other block order n f = record { has-is = λ x. has-none x ∙ both-none (ltb x n) ∙ sym (ap (both (ltb x n)) (inside-other block f (at order x))) }
 
-pub positions-two : (block order : List ℕ) (n set : ℕ) → length block ≡ 2 → Gathered (λ i. inBlock (getD block 0 0) (getD block 1 0) (at order i)) n set → Gathered (λ i. inLent block (at order i)) n set
+pub positions-two : (block order : List ℕ) (n set : ℕ) → length block ≡ 2 → Gathered (λ i. inBlock (getD block 0 0) (getD block 1 0) (at order i)) n set → Gathered
+    (λ i. inLent block (at order i)) n set
 positions-two block order n set e g = record { has-is = λ x. g .has-is x ∙ ap (both (ltb x n)) (inside-two block e (at order x)) }

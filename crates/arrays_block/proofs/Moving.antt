@@ -1,23 +1,12 @@
 -- Rows of the table of orderings, and where the table of a row takes a number. Assumes nothing.
-use mathlib.Core.Path.{_≡_, sym, ap, ap₂, _∙_, subst}
-use mathlib.Core.Bool.{true, false}
-use mathlib.Core.List.{List}
-use mathlib.Core.Logic.{_⊎_}
-use Prim.Native.Nat.{ℕ, _+_, _-_, _*_, _/_, _%_, _≤_, _<_}
-use native.Mathlib.Nat.{mul-le-mul}
-use native.Mathlib.Omega.{arith}
-use lib.ListN.{getD}
-use Rattle.model.specs.Lists.{at}
-use Rattle.model.specs.Problem.{Problem, pair, isPair}
-use Rattle.model.specs.WellFormed.{WellFormed}
+use Rattle.model.specs.Kit.{_≡_, sym, ap, ap₂, _∙_, subst, true, false, List, _⊎_, ℕ, _+_, _-_, _*_, _/_, _%_, _≤_, _<_, mul-le-mul, arith, getD}
+use Rattle.model.specs.{Lists.at, Problem.Problem, Problem.pair, Problem.isPair, WellFormed.WellFormed}
 use Rattle.block.specs.Block.{ordering, imageOf, orderingTable}
-use Rattle.arrays_block.specs.Asked.{Row, BlockRow}
+use Rattle.arrays_block.specs.inner.Asked.{Row, BlockRow}
 use Rattle.model.proofs.Lists.{T-of, of-not}
-use Rattle.model.proofs.Pairs as P
-use Rattle.block.proofs.Orderings.{Few, factorial-le, moves, moves-small, moves-high}
-use Rattle.block.proofs.Table.{table-at}
-use Rattle.block.proofs.Tables.{moved-pair, unmoved}
+use Rattle.block.proofs.{Orderings.Few, Orderings.factorial-le, Orderings.moves, Orderings.moves-small, Orderings.moves-high, Table.table-at, Tables.moved-pair, Tables.unmoved}
 use Rattle.block.proofs.Block.{image-at, image-outside, image-variable}
+use Rattle.model.proofs.Pairs as P
 
 module _ (rows : List ℕ) (row m : ℕ) (r : Row rows row m) where
   pub few : Few m
@@ -82,7 +71,8 @@ module _ (p : Problem) (rows : List ℕ) (row first m : ℕ) (numbers : List ℕ
     unfolding orderingTable
     stays-out t o =
         let o′ : (q / p .values < first) ⊎ (first + m ≤ q / p .values) = subst (λ (d : ℕ). (q / d < first) ⊎ (first + m ≤ q / d)) values-are o in (
-          sym (moved-pair p w (imageOf first m (ordering row)) q (T-of (isPair p q) t) ∙ ap (λ (x : ℕ). pair p x (q % p .values)) (image-outside first m few-of (ordering row) (q / p .values) o′) ∙ P.pair-of p w q),
+          sym (moved-pair p w (imageOf first m (ordering row)) q (T-of (isPair p q) t) ∙ ap (λ (x : ℕ). pair p x (q % p .values)) (image-outside first m few-of (ordering row) (q / p .values) o′)
+              ∙ P.pair-of p w q),
           small,
         )
 
@@ -96,7 +86,8 @@ module _ (p : Problem) (rows : List ℕ) (row first m : ℕ) (numbers : List ℕ
       pub goes-small : isPair p q ≡ true → y * getD numbers 65 0 + q % getD numbers 65 0 < 192
       unfolding pair
       goes-small t =
-          let x< : y < p .variables = subst (λ (x : ℕ). x < p .variables) (sym image-of) (image-variable p w first m few-of (b .inside) row (b .uses .used) (q / p .values) (P.isPair-var p w q (T-of (isPair p q) t))) in
+          let x< : y < p .variables = subst (λ (x : ℕ). x < p .variables) (sym image-of) (image-variable p w first m few-of (b .inside) row (b .uses .used) (q / p .values)
+          (P.isPair-var p w q (T-of (isPair p q) t))) in
           let k = P.pair-lt p w y (q % p .values) x< (P.mod-small p w q) in
           let s = size-few in
           subst (λ (d : ℕ). y * d + q % d < 192) (sym values-are) (omega arith)

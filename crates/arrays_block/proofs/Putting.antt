@@ -1,32 +1,19 @@
 -- The images of a block's tables, row by row, after the problem's own. Assumes nothing.
-use mathlib.Core.Path.{_≡_, refl, sym, ap, ap₂, _∙_, subst}
-use mathlib.Core.Bool.{Bool, true, false}
-use mathlib.Core.List.{List, [], _∷_, _++_, append-nil}
-use Prim.Native.Nat.{ℕ, _+_, _*_, _/_, _%_, _≤_, _<_}
-use native.Mathlib.Nat.{mul-le-mul-right, div-lt-iff-lt-mul}
-use native.Mathlib.Decide.{decLt}
-use native.Mathlib.Omega.{arith}
-use lib.Dec.{T}
-use lib.ListN.{length, getD, set, length-append, List·getD-append}
+use Rattle.model.specs.Kit.{_≡_, refl, sym, ap, ap₂, _∙_, subst, Bool, true, false, List, [], _∷_, _++_, append-nil, ℕ, _+_, _*_, _/_, _%_, _≤_, _<_, mul-le-mul-right, decLt}
+use Rattle.model.specs.Kit.{arith, T, length, getD, set, length-append}
+use native.Mathlib.Nat.{div-lt-iff-lt-mul}
+use lib.ListN.{List·getD-append}
 use lib.Seq.{getD-append-add}
-use Rattle.model.specs.Lists.{at, flat}
-use Rattle.model.specs.Problem.{Problem, pair, isPair, withSymmetries}
-use Rattle.model.specs.Filling.{Filled}
-use Rattle.model.specs.Verdict.{accepted}
-use Rattle.arrays.specs.Layout.{symmetryAt, pairCode, imageCode}
-use Rattle.arrays.specs.Places.{IMAGES}
+use Rattle.model.specs.{Lists.at, Lists.flat, Problem.Problem, Problem.pair, Problem.isPair, Problem.withSymmetries, Problem.symmetryAt, inner.Filling.Filled, Verdict.accepted}
+use Rattle.arrays.specs.{inner.Layout.pairCode, inner.Layout.imageCode, inner.Places.IMAGES}
 use Rattle.block.specs.Block.{orderings, ordering, factorial, variableTable, imageOf, orderingTable, blockTables, withBlock, isBlock, tablesLent, blockLent, withLent}
-use Rattle.arrays_block.specs.Asked.{BlockRow, RowPut, Imaged, PutOn}
-use Rattle.model.proofs.Lists.{T-of, of-not, length-below}
-use Rattle.model.proofs.Pairs as P
-use Rattle.model.proofs.Filling.{filled-turn}
+use Rattle.arrays_block.specs.inner.Asked.{BlockRow, RowPut, Imaged, PutOn}
+use Rattle.model.proofs.{Lists.T-of, Lists.of-not, Lists.length-below, Filling.filled-turn}
 use Rattle.sheet_symmetries.proofs.Codes.{code-inj}
 use Rattle.sheet.proofs.Any.{getD-below}
-use Rattle.block.proofs.Orderings.{factorial-le}
-use Rattle.block.proofs.Tables.{moved-pair, unmoved}
-use Rattle.block.proofs.Block.{image-variable, block-is, is-block, block-e}
-use Rattle.block.proofs.BlockLent.{lent-two}
+use Rattle.block.proofs.{Orderings.factorial-le, Tables.moved-pair, Tables.unmoved, Block.image-variable, Block.block-is, Block.is-block, Block.block-e, BlockLent.lent-two}
 use Rattle.arrays_block.proofs.Moving.{values-are, few}
+use Rattle.model.proofs.Pairs as P
 
 -- ---- one row
 module _ (p : Problem) (rows : List ℕ) (row first m : ℕ) (numbers : List ℕ) (b : BlockRow p rows row first m numbers) where
@@ -43,7 +30,8 @@ module _ (p : Problem) (rows : List ℕ) (row first m : ℕ) (numbers : List ℕ
           let w = b .wellFormed in
           let t = T-of (isPair p q) e in
           subst (λ (k : ℕ). k < p .variables * p .values) (sym (moved-pair p w (imageOf first m (ordering row)) q t))
-          (P.pair-lt p w (imageOf first m (ordering row) (q / p .values)) (q % p .values) (image-variable p w first m (few rows row m (b .uses)) (b .inside) row (b .uses .used) (q / p .values) (P.isPair-var p w q t)) (P.mod-small p w q))
+          (P.pair-lt p w (imageOf first m (ordering row) (q / p .values)) (q % p .values)
+          (image-variable p w first m (few rows row m (b .uses)) (b .inside) row (b .uses .used) (q / p .values) (P.isPair-var p w q t)) (P.mod-small p w q))
       go false e = subst (λ (k : ℕ). k < p .variables * p .values) (sym (unmoved p (b .wellFormed) (imageOf first m (ordering row)) q h (of-not (isPair p q) e))) h
 
   -- what `pair_code` is lent
@@ -161,7 +149,8 @@ unfolding at
 put-none p numbers images block i n =
     let s : length (p .symmetries) ≤ 16 = i .symmetries in
     let e : getD numbers 67 0 ≡ length (p .symmetries) = i .framed .numbered .symmetries in
-    subst (λ (gs : List (List ℕ)). PutOn (withSymmetries p gs) images images (getD numbers 67 0)) (sym (none-lent p block n)) (record { put = record { imaged = i .imaged; sized = i .sized; all = e; few = omega arith }; others = λ j h. refl })
+    subst (λ (gs : List (List ℕ)). PutOn (withSymmetries p gs) images images (getD numbers 67 0)) (sym (none-lent p block n))
+    (record { put = record { imaged = i .imaged; sized = i .sized; all = e; few = omega arith }; others = λ j h. refl })
 
 -- two are those of a block
 pub two-is : (p : Problem) (numbers images block : List ℕ) → Imaged p numbers images → length block ≡ 2 → blockLent p block ≡ accepted → T (isBlock p (getD block 0 0) (getD block 1 0))

@@ -4,13 +4,13 @@ ghost use Prim.Native.Nat.{_+_, _*_, _≤_, _<_};
 ghost use lib.Dec.{T};
 ghost use lib.ListN.{length};
 ghost use Rattle.model.specs.Lists.{at};
-ghost use Rattle.model.specs.Filling.{Gathered};
+ghost use Rattle.model.specs.inner.Filling.{Gathered};
 ghost use Rattle.model.specs.Problem.{Problem};
 ghost use Rattle.model.specs.Verdict.{accepted};
-ghost use Rattle.arrays.specs.Places.{IMAGES};
+ghost use Rattle.arrays.specs.inner.Places.{IMAGES};
 ghost use Rattle.sheet.specs.Meaning.{means};
 ghost use Rattle.block.specs.Block.{ordering, factorial, inBlock, imageOf, orderingTable, withBlock, isBlock, blockVerdict, blockLent, inLent, withLent};
-ghost use Rattle.arrays_block.specs.Asked.{Held, Row, BlockRow, TableBytes, rowAnswer, RowPut, Imaged, PutOn};
+ghost use Rattle.arrays_block.specs.inner.Asked.{Held, Row, BlockRow, TableBytes, rowAnswer, RowPut, Imaged, PutOn};
 use arrays::Images;
 use arrays::Numbers;
 use arrays::SYMMETRIES;
@@ -33,7 +33,8 @@ fn image(rows: &[u8; 600], row: usize, first: usize, m: usize, i: usize) -> usiz
 // Where the table of a row takes number q.
 fn moved(rows: &[u8; 600], row: usize, first: usize, m: usize, numbers: &Numbers, q: usize) -> usize
     requires { ⌜ ((p : Problem) × BlockRow p (now rows) row first m (now numbers) × (q < p .variables * p .values)) ⌝ }
-    ensures { λ r. ⌜ ((p : Problem) → BlockRow p (now (rows .entry)) row first m (now (numbers .entry)) → q < p .variables * p .values → (r ≡ at (orderingTable p first m row) q) × (r < 192)) ⌝ }
+    ensures { λ r. ⌜ ((p : Problem) → BlockRow p (now (rows .entry)) row first m (now (numbers .entry)) → q < p .variables * p .values →
+        (r ≡ at (orderingTable p first m row) q) × (r < 192)) ⌝ }
 {
     let d = numbers[VALUES] as usize;
     let x = q / d;
@@ -74,7 +75,8 @@ fn row_question(
     supports: &Supports,
 ) -> u8
     requires { ⌜ ((p : Problem) × Held p (now numbers) (now supports) × BlockRow p (now rows) row first m (now numbers)) ⌝ }
-    ensures { λ r. ⌜ ((p : Problem) → Held p (now (numbers .entry)) (now (supports .entry)) → BlockRow p (now (rows .entry)) row first m (now (numbers .entry)) → r ≡ rowAnswer p first m row) ⌝ }
+    ensures { λ r. ⌜ ((p : Problem) → Held p (now (numbers .entry)) (now (supports .entry)) → BlockRow p (now (rows .entry)) row first m
+        (now (numbers .entry)) → r ≡ rowAnswer p first m row) ⌝ }
 {
     let bytes = table(rows, row, first, m, numbers);
     table_question(&bytes, 0, numbers, supports)
@@ -204,7 +206,8 @@ fn put_row(
     images: &mut Images,
 )
     requires { ⌜ ((p : Problem) × BlockRow p (now rows) row first m (now numbers)) × (base + 192 ≤ IMAGES) × (length (now images) ≡ IMAGES) ⌝ }
-    ensures { λ _. ⌜ ((p : Problem) → BlockRow p (now (rows .entry)) row first m (now (numbers .entry)) → RowPut p first m row base (now (images .entry)) (now (images .exit))) ⌝ }
+    ensures { λ _. ⌜ ((p : Problem) → BlockRow p (now (rows .entry)) row first m (now (numbers .entry)) → RowPut p first m row base (now (images .entry))
+        (now (images .exit))) ⌝ }
 {
     let d = numbers[VALUES] as usize;
     let size = numbers[VARIABLES] as usize * d;
@@ -233,7 +236,8 @@ fn row_count(m: usize) -> usize
 // Writes the images of a block's tables after the problem's own, and nothing else; how many there are then.
 fn put_rows(first: usize, m: usize, numbers: &Numbers, images: &mut Images) -> usize
     requires { ⌜ ((p : Problem) × Imaged p (now numbers) (now images) × T (isBlock p first m)) ⌝ }
-    ensures { λ r. ⌜ ((p : Problem) → Imaged p (now (numbers .entry)) (now (images .entry)) → T (isBlock p first m) → PutOn (withBlock first m p) (now (images .entry)) (now (images .exit)) r) ⌝ }
+    ensures { λ r. ⌜ ((p : Problem) → Imaged p (now (numbers .entry)) (now (images .entry)) → T (isBlock p first m) → PutOn (withBlock first m p)
+        (now (images .entry)) (now (images .exit)) r) ⌝ }
 {
     let rows = block::rows();
     let g = numbers[SYMMETRIES] as usize;
@@ -249,7 +253,8 @@ fn put_rows(first: usize, m: usize, numbers: &Numbers, images: &mut Images) -> u
 // The same of a block as it is lent, of which the questions are passed.
 pub fn put_images(block: &[u8], numbers: &Numbers, images: &mut Images) -> usize
     requires { ⌜ ((p : Problem) × Imaged p (now numbers) (now images) × (blockLent p (now block) ≡ accepted)) ⌝ }
-    ensures { λ r. ⌜ ((p : Problem) → Imaged p (now (numbers .entry)) (now (images .entry)) → blockLent p (now (block .entry)) ≡ accepted → PutOn (withLent (now (block .entry)) p) (now (images .entry)) (now (images .exit)) r) ⌝ }
+    ensures { λ r. ⌜ ((p : Problem) → Imaged p (now (numbers .entry)) (now (images .entry)) → blockLent p (now (block .entry)) ≡ accepted → PutOn
+        (withLent (now (block .entry)) p) (now (images .entry)) (now (images .exit)) r) ⌝ }
 {
     if block.len() != 2 {
         return numbers[SYMMETRIES] as usize;

@@ -1,26 +1,8 @@
 -- Loops: one more, and the end. Assumes nothing.
-use mathlib.Core.Path.{_≡_, refl, sym, ap, _∙_, subst}
-use mathlib.Core.Bool.{Bool, false}
-use mathlib.Core.List.{List}
-use Prim.Native.Nat.{ℕ, _+_, _^_, _<_}
-use native.Mathlib.Decide.{ℕ-discrete}
-use native.Mathlib.Omega.{arith}
-use lib.Bits.{bitOr, or-lt}
-use lib.ListN.{length}
-use borrow.Author.Tests.{lt-ltb}
-use Rattle.model.specs.Lists.{at, both}
-use Rattle.model.specs.ValueSets.{has, maskOf}
-use Rattle.model.proofs.Masks.{is-mask}
-use Rattle.model.proofs.Filling.{gathered-begin, gathered-more}
-use Rattle.model.specs.Filling.{Filled, Gathered}
-use Rattle.arrays_order.specs.Steps.{Cell, Added}
-
-pub more-no : (f : ℕ → Bool) (i : ℕ) → ((j : ℕ) → j < i → f j ≡ false) → f i ≡ false → (j : ℕ) → j < i + 1 → f j ≡ false
-more-no f i h k j m = go (ℕ-discrete j i)
-  where
-    go : Dec (j ≡ i) → f j ≡ false
-    go (yes e) = ap f e ∙ k
-    go (no e) = h j (omega arith)
+use Rattle.model.specs.Kit.{_≡_, refl, sym, ap, _∙_, subst, Bool, List, ℕ, _+_, _^_, _<_, arith, bitOr, or-lt, length, lt-ltb}
+use Rattle.model.specs.{Lists.at, Lists.both, ValueSets.has, ValueSets.maskOf, inner.Filling.Filled, inner.Filling.Gathered}
+use Rattle.model.proofs.{Masks.is-mask, Filling.gathered-begin, Filling.gathered-more}
+use Rattle.arrays_order.specs.inner.Steps.{Cell, Added}
 
 -- ---- a set, one cell after another
 pub record Column (f : ℕ → Bool) (i set : ℕ) : Type 0 where
@@ -53,7 +35,8 @@ module _ (base : ℕ) (supports : List ℕ) where
 
   pub columns-turn : (i : ℕ) (old new : List ℕ) → Columns i old → Filled (λ w. w) (Added (at supports (base + i)) i old) 16 old new → Columns (i + 1) new
   columns-turn i old new c f = record {
-    column = λ w l. (let q = f .here w l in subst (λ (n : ℕ). Column (member w) (i + 1) n) (sym (q .2)) (column-turn (member w) i (at old w) (at supports (base + i)) w (q .0) (c .column w l) refl (q .1)));
+    column = λ w l. (let q = f .here w l in subst (λ (n : ℕ). Column (member w) (i + 1) n) (sym (q .2))
+        (column-turn (member w) i (at old w) (at supports (base + i)) w (q .0) (c .column w l) refl (q .1)));
     size = f .size ∙ c .size;
   }
 

@@ -1,12 +1,7 @@
 -- Sets and images, moved one after another. Assumes nothing.
-use mathlib.Core.Path.{_≡_, refl, sym, ap, _∙_, subst}
-use mathlib.Core.List.{List}
-use Prim.Native.Nat.{ℕ, _+_, _*_, _≤_, _<_}
-use native.Mathlib.Decide.{ℕ-discrete}
-use native.Mathlib.Omega.{arith}
-use Rattle.model.specs.Lists.{at}
-use Rattle.model.specs.Filling.{Filled}
-use Rattle.arrays_order.specs.Steps.{Small, MovedSets, renamedTo, imageFrom, MovedImages}
+use Rattle.model.specs.Kit.{_≡_, refl, sym, ap, _∙_, subst, List, ℕ, _+_, _*_, _≤_, _<_, ℕ-discrete, arith}
+use Rattle.model.specs.{Lists.at, inner.Filling.Filled}
+use Rattle.arrays_order.specs.inner.Steps.{Small, MovedSets, renamedTo, imageFrom, MovedImages}
 
 -- ---- sets by variable
 pub moved-sets : (n : ℕ) (order old mid new : List ℕ) → n ≤ 12 → Small n order → Filled (λ i. 0 + i) (λ i r. r ≡ at old (0 + at order i)) n old mid →
@@ -37,7 +32,8 @@ module _ (n : ℕ) (order stands old : List ℕ) where
   }
     where
       here : (e j : ℕ) → e < g + 1 → j < 16 * n → Dec (e ≡ g) → at new (192 * e + j) ≡ renamedTo stands (at old (192 * e + imageFrom order j))
-      here e j l m (yes q) = subst (λ (z : ℕ). at new (192 * z + j) ≡ renamedTo stands (at old (192 * z + imageFrom order j))) (sym q) (f .here j m ∙ ap (renamedTo stands) (r .rest (192 * g + imageFrom order j) (omega arith)))
+      here e j l m (yes q) = subst (λ (z : ℕ). at new (192 * z + j) ≡ renamedTo stands (at old (192 * z + imageFrom order j))) (sym q)
+          (f .here j m ∙ ap (renamedTo stands) (r .rest (192 * g + imageFrom order j) (omega arith)))
       here e j l m (no q) = f .other (192 * e + j) (λ v k z. omega arith) ∙ r .here e j (omega arith) m
 
   pub images-end : (g i : ℕ) (new : List ℕ) → g ≤ i → i ≤ g → MovedImages n order stands i old new → MovedImages n order stands g old new

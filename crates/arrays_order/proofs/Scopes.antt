@@ -1,16 +1,9 @@
 -- A scope's number says how many names it has, and which. Assumes nothing.
-use mathlib.Core.Path.{_≡_, refl, sym, ap, _∙_, subst}
-use mathlib.Core.List.{List, [], _∷_}
-use Prim.Native.Nat.{ℕ, suc, _+_, _*_, _/_, _%_, _^_, _≤_, _<_}
-use native.Mathlib.Decide.{ℕ-discrete}
-use native.Mathlib.Omega.{arith}
-use lib.ListN.{length, set, length-set}
-use Rattle.model.specs.Lists.{at}
-use Rattle.model.specs.ValueSets.{has}
+use Rattle.model.specs.Kit.{_≡_, refl, sym, ap, _∙_, subst, List, [], _∷_, ℕ, suc, _+_, _*_, _/_, _%_, _^_, _≤_, _<_, ℕ-discrete, arith, length, set, length-set}
+use Rattle.model.specs.{Lists.at, ValueSets.has}
 use Rattle.model.proofs.Lists.{list-1, list-2, list-3, at-set, at-set-other}
-use Rattle.arrays.specs.Layout.{place}
-use Rattle.arrays.specs.Places.{NUMBERS}
-use Rattle.arrays_order.specs.Steps.{Narrow, Sorting, Framed, Scope, ScopeMoved, Renamed}
+use Rattle.arrays.specs.{inner.Layout.place, inner.Places.NUMBERS}
+use Rattle.arrays_order.specs.inner.Steps.{Narrow, Sorting, Framed, Scope, ScopeMoved, Renamed}
 
 module _ (stands : List ℕ) (w : ℕ) (names : List ℕ) (s : Scope stands w names) where
   name-0 : (x : ℕ) → x ≡ at stands (w / 256 % 16) → at names 0 ≡ x
@@ -123,11 +116,13 @@ module _ (stands numbers supports : List ℕ) where
           (λ j n. sym (q .rest (256 * c + j) (omega arith))) (λ j n. refl) (s names (subst (λ (z : ℕ). Scope stands z names) (sym same-number) t)))
       moved k l (no e) =
           let i : k < c = omega arith in
-          λ names t. block names (256 * k) supports mid supports new (at numbers′ (32 + k)) (at (set numbers′ (32 + c) r) (32 + k)) (t .few) (at-set-other numbers′ (32 + c) r (32 + k) (λ z. omega arith))
+          λ names t. block names (256 * k) supports mid supports new (at numbers′ (32 + k)) (at (set numbers′ (32 + c) r) (32 + k)) (t .few)
+          (at-set-other numbers′ (32 + c) r (32 + k) (λ z. omega arith))
           (λ j n. refl) (λ j n. f .low (256 * k + j) (omega arith)) (q .moved k i names t)
 
   -- the next scope and its table are still as they were
-  pub scope-still : (d c : ℕ) (numbers′ mid : List ℕ) → Renamed stands c numbers supports numbers′ mid → (names : List ℕ) × Scope stands (at numbers (32 + c)) names × (length names ≡ 3 → Narrow d (256 * c) supports) →
+  pub scope-still : (d c : ℕ) (numbers′ mid : List ℕ) → Renamed stands c numbers supports numbers′ mid → (names : List ℕ) × Scope stands (at numbers (32 + c)) names ×
+      (length names ≡ 3 → Narrow d (256 * c) supports) →
       (names : List ℕ) × Scope stands (at numbers′ (32 + c)) names × (length names ≡ 3 → Narrow d (256 * c) mid)
   scope-still d c numbers′ mid q s = (
     s .0,

@@ -1,14 +1,9 @@
 -- Two or three names are sorted, and the table along with them. Assumes nothing.
-use mathlib.Core.Path.{_≡_, refl, sym, _∙_, subst}
-use mathlib.Core.Bool.{Bool}
-use mathlib.Core.Logic.{_↔_}
-use mathlib.Core.List.{List, [], _∷_, List·Memᴰ, List·Memᴰ·head, List·Memᴰ·tail, List·Memᴰ·not-nil}
-use Prim.Native.Nat.{ℕ, zero, suc, _+_, _*_, _/_, _%_, _^_, _<_}
-use native.Mathlib.Omega.{arith}
-use lib.ListN.{length}
+use Rattle.model.specs.Kit.{_≡_, refl, sym, _∙_, subst, Bool, _↔_, List, [], _∷_, List·Memᴰ, List·Memᴰ·head, List·Memᴰ·tail, List·Memᴰ·not-nil, ℕ, zero, suc, _+_, _*_, _/_, _%_}
+use Rattle.model.specs.Kit.{_^_, _<_, arith, length}
 use Rattle.model.specs.Lists.{at}
 use Rattle.model.proofs.Lists.{Sorted}
-use Rattle.arrays_order.specs.Steps.{Swapped, Transposed, Meant, Sorting, Framed}
+use Rattle.arrays_order.specs.inner.Steps.{Swapped, Transposed, Meant, Sorting, Framed}
 use Rattle.arrays_order.proofs.Tables.{transposed-2, swapped-3, transposed-3, framed-of, framed-none, framed-both}
 
 -- ---- the same names in another order
@@ -74,7 +69,16 @@ stays-2 x y base s h k = (
 
 pub stays-3 : (x y z base : ℕ) (s : List ℕ) → x < y → y < z → z < 16 → Settles (x ∷ y ∷ z ∷ []) base s s (3 + 256 * x + 65536 * y + 16777216 * z)
 stays-3 x y z base s h k l = (
-  record { sorted = x ∷ y ∷ z ∷ []; ascends = sorted-3 x y z h k; same = λ i. (λ m. m, λ m. m); long = refl; arity = omega arith; scope = scope-3 x y z (omega arith) (omega arith) l; meant = λ Q m. m },
+  record {
+    sorted = x ∷ y ∷ z ∷ [];
+    ascends = sorted-3 x y z h k;
+    same = λ i. (λ m. m, λ m. m);
+    long = refl;
+    arity = omega arith;
+    scope = scope-3 x y z (omega arith)
+        (omega arith) l;
+    meant = λ Q m. m;
+  },
   framed-none base s,
 )
 
@@ -100,8 +104,10 @@ after-2 x y base old mid new r h t q =
 
 pub after-swap : (x y z base : ℕ) (old mid new : List ℕ) (r : ℕ) → (x ≡ y → ⊥) → Swapped base old mid → Settles (y ∷ x ∷ z ∷ []) base mid new r → Settles (x ∷ y ∷ z ∷ []) base old new r
 after-swap x y z base old mid new r h t q =
-    after (x ∷ y ∷ z ∷ []) (y ∷ x ∷ z ∷ []) base old mid new r (λ i. (exchange y x i (z ∷ []), exchange x y i (z ∷ []))) refl (λ Q. swapped-3 Q x y z base old mid h t) (framed-of base 256 _ old mid (omega arith) t) q
+    after (x ∷ y ∷ z ∷ []) (y ∷ x ∷ z ∷ []) base old mid new r (λ i. (exchange y x i (z ∷ []), exchange x y i (z ∷ []))) refl (λ Q. swapped-3 Q x y z base old mid h t)
+    (framed-of base 256 _ old mid (omega arith) t) q
 
 pub after-transpose : (x y z base : ℕ) (old mid new : List ℕ) (r : ℕ) → (y ≡ z → ⊥) → Transposed base 256 old mid → Settles (x ∷ z ∷ y ∷ []) base mid new r → Settles (x ∷ y ∷ z ∷ []) base old new r
 after-transpose x y z base old mid new r h t q =
-    after (x ∷ y ∷ z ∷ []) (x ∷ z ∷ y ∷ []) base old mid new r (λ i. (exchange-last x z y i [], exchange-last x y z i [])) refl (λ Q. transposed-3 Q x y z base old mid h t) (framed-of base 256 _ old mid (omega arith) t) q
+    after (x ∷ y ∷ z ∷ []) (x ∷ z ∷ y ∷ []) base old mid new r (λ i. (exchange-last x z y i [], exchange-last x y z i [])) refl (λ Q. transposed-3 Q x y z base old mid h t)
+    (framed-of base 256 _ old mid (omega arith) t) q

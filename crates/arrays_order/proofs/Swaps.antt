@@ -1,15 +1,8 @@
 -- The first two coordinates of a table exchanged, set by set; tables of values below d. Assumes nothing.
-use mathlib.Core.Path.{_≡_, refl, sym, ap, _∙_, subst}
-use mathlib.Core.List.{List}
-use Prim.Native.Nat.{ℕ, _+_, _*_, _/_, _%_, _≤_, _<_}
-use native.Mathlib.Decide.{ℕ-discrete, decLt}
-use native.Mathlib.Omega.{arith}
-use lib.ListN.{length, set, length-set}
-use Rattle.model.specs.Lists.{at}
-use Rattle.model.specs.ValueSets.{has, maskOf}
-use Rattle.model.proofs.Lists.{at-set, at-set-other}
-use Rattle.model.proofs.Sets.{has-none, has-mask}
-use Rattle.arrays_order.specs.Steps.{Narrow, Crossed, Swapped, Transposed}
+use Rattle.model.specs.Kit.{_≡_, refl, sym, ap, _∙_, subst, List, ℕ, _+_, _*_, _/_, _%_, _≤_, _<_, ℕ-discrete, decLt, arith, length, set, length-set}
+use Rattle.model.specs.{Lists.at, ValueSets.has, ValueSets.maskOf}
+use Rattle.model.proofs.{Lists.at-set, Lists.at-set-other, Sets.has-none, Sets.has-mask}
+use Rattle.arrays_order.specs.inner.Steps.{Narrow, Crossed, Swapped, Transposed}
 use Rattle.arrays_order.proofs.Tables.{mask-none}
 
 -- ---- one value with each below it
@@ -99,7 +92,8 @@ module _ (base : ℕ) (old : List ℕ) where
       here : (j : ℕ) → j < 256 → Dec (j / 16 < d) → Dec (j % 16 < d) → at new (base + j) ≡ at old (base + (16 * (j % 16) + j / 16))
       here j l (yes a) (yes b) = ap (at new) (parts j) ∙ t .here (j / 16) (j % 16) (omega arith) (omega arith)
       here j l (no a) b = still j l (λ m o. a m) ∙ s .first (j / 16) (j % 16) (omega arith) (omega arith) (omega arith) ∙ sym (s .second (j % 16) (j / 16) (omega arith) (omega arith) (omega arith))
-      here j l (yes a) (no b) = still j l (λ m o. b o) ∙ s .second (j / 16) (j % 16) (omega arith) (omega arith) (omega arith) ∙ sym (s .first (j % 16) (j / 16) (omega arith) (omega arith) (omega arith))
+      here j l (yes a) (no b) = still j l (λ m o. b o) ∙ s .second (j / 16) (j % 16) (omega arith) (omega arith) (omega arith) ∙ sym
+          (s .first (j % 16) (j / 16) (omega arith) (omega arith) (omega arith))
 
 -- ---- tables of values below d stay such
 module _ (d base : ℕ) (old new : List ℕ) (s : Narrow d base old) where
@@ -126,7 +120,8 @@ module _ (d base : ℕ) (old new : List ℕ) (s : Narrow d base old) where
       was a b h k =
           let e : (16 * a + b) / 16 ≡ a = omega arith in
           let f : (16 * a + b) % 16 ≡ b = omega arith in
-          t .here (16 * a + b) (omega arith) ∙ ap (λ (z : ℕ). maskOf (λ v. has (at old (base + (16 * z + v))) ((16 * a + b) % 16))) e ∙ ap (λ (z : ℕ). maskOf (λ v. has (at old (base + (16 * a + v))) z)) f
+          t .here (16 * a + b) (omega arith) ∙ ap (λ (z : ℕ). maskOf (λ v. has (at old (base + (16 * z + v))) ((16 * a + b) % 16))) e ∙ ap
+          (λ (z : ℕ). maskOf (λ v. has (at old (base + (16 * a + v))) z)) f
 
   -- the groups from d on are empty
   pub transposed-of : (i : ℕ) → d ≤ i → i ≤ d → d ≤ 16 → Transposed base (16 * i) old new → Transposed base 256 old new

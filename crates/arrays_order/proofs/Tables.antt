@@ -1,20 +1,10 @@
 -- Support tables with two coordinates exchanged. Assumes nothing.
-use mathlib.Core.Path.{_≡_, refl, sym, ap, _∙_, fun-ext}
-use mathlib.Core.Bool.{Bool, true, false}
-use mathlib.Core.List.{List, [], _∷_}
-use Prim.Native.Nat.{ℕ, zero, suc, _+_, _*_, _/_, _%_, _^_, _≤_, _<_}
-use native.Mathlib.Decide.{decLt}
-use native.Mathlib.Omega.{arith}
-use lib.Dec.{eqb}
-use borrow.Author.Tests.{eqb-true}
-use Rattle.model.specs.Lists.{at, both}
-use Rattle.model.specs.ValueSets.{has, maskOf, leastStep, least}
+use Rattle.model.specs.Kit.{_≡_, refl, sym, ap, _∙_, Bool, true, false, List, [], _∷_, ℕ, _+_, _*_, _/_, _%_, _^_, _≤_, _<_, decLt, arith, eqb, eqb-true}
+use mathlib.Core.Path.{fun-ext}
+use Rattle.model.specs.{Lists.at, Lists.both, ValueSets.has, ValueSets.maskOf, ValueSets.leastStep, ValueSets.least, inner.Filling.Filled}
 use Rattle.order.specs.Reordered.{position, valueOf}
-use Rattle.model.proofs.Sets.{has-mask, mask-lt, has-none}
-use Rattle.model.proofs.Masks.{is-mask}
-use Rattle.model.proofs.Members.{one-has}
-use Rattle.model.specs.Filling.{Filled}
-use Rattle.arrays_order.specs.Steps.{Cell, Swapped, Transposed, Meant, Framed}
+use Rattle.model.proofs.{Sets.has-mask, Sets.mask-lt, Sets.has-none, Masks.is-mask, Members.one-has, Lists.at-small-1, Lists.at-small-2}
+use Rattle.arrays_order.specs.inner.Steps.{Cell, Swapped, Transposed, Meant, Framed}
 
 -- ---- sets
 pub mask-same : (f g : ℕ → Bool) → ((v : ℕ) → v < 16 → f v ≡ g v) → maskOf f ≡ maskOf g
@@ -53,7 +43,8 @@ transposed-turn base k old mid new a b = record {
         ∙ mask-same (λ v. has (at mid (base + 16 * k + (16 * (j % 16 / 16) + v))) (j % 16 % 16)) (λ v. has (at old (base + (16 * (j / 16) + v))) (j % 16)) (λ v m.
         let f : base + 16 * k + (16 * (j % 16 / 16) + v) ≡ base + (16 * (j / 16) + v) = omega arith in
         let g : j % 16 % 16 ≡ j % 16 = omega arith in
-        ap (λ (n : ℕ). has (at mid n) (j % 16 % 16)) f ∙ ap (has (at mid (base + (16 * (j / 16) + v)))) g ∙ ap (λ (n : ℕ). has n (j % 16)) (a .other (base + (16 * (j / 16) + v)) (λ u o q. omega arith)))
+        ap (λ (n : ℕ). has (at mid n) (j % 16 % 16)) f ∙ ap (has (at mid (base + (16 * (j / 16) + v)))) g ∙ ap (λ (n : ℕ). has n (j % 16))
+        (a .other (base + (16 * (j / 16) + v)) (λ u o q. omega arith)))
 
 -- ---- the value of a variable, whose name is one of two or three
 -- no number has two names
@@ -108,23 +99,13 @@ meant-2 Q x y base s h [] e l = absurd (omega arith)
 meant-2 Q x y base s h (b ∷ []) e l = h b (l 0 (omega arith))
 meant-2 Q x y base s h (b ∷ c ∷ vs) e l = absurd (omega arith)
 
-meant-3 : (Q : (ℕ → ℕ) → Bool) (x y z base : ℕ) (s : List ℕ) → ((a b : ℕ) → a < 16 → b < 16 → at s (base + (16 * a + b)) ≡ maskOf (λ v. Q (valueOf (x ∷ y ∷ z ∷ []) (a ∷ b ∷ v ∷ [])))) → Meant Q (x ∷ y ∷ z ∷ []) base s
+meant-3 : (Q : (ℕ → ℕ) → Bool) (x y z base : ℕ) (s : List ℕ) → ((a b : ℕ) → a < 16 → b < 16 → at s (base + (16 * a + b)) ≡ maskOf (λ v. Q (valueOf (x ∷ y ∷ z ∷ []) (a ∷ b ∷ v ∷ [])))) → Meant Q
+    (x ∷ y ∷ z ∷ []) base s
 unfolding at
 meant-3 Q x y z base s h [] e l = absurd (omega arith)
 meant-3 Q x y z base s h (a ∷ []) e l = absurd (omega arith)
 meant-3 Q x y z base s h (a ∷ b ∷ []) e l = h a b (l 0 (omega arith)) (l 1 (omega arith))
 meant-3 Q x y z base s h (a ∷ b ∷ c ∷ vs) e l = absurd (omega arith)
-
-small-1 : (b : ℕ) → b < 16 → (i : ℕ) → i < 1 → at (b ∷ []) i < 16
-unfolding at
-small-1 b h zero l = h
-small-1 b h (suc i) l = absurd (omega arith)
-
-pub small-2 : (a b : ℕ) → a < 16 → b < 16 → (i : ℕ) → i < 2 → at (a ∷ b ∷ []) i < 16
-unfolding at
-small-2 a b h k zero l = h
-small-2 a b h k (suc zero) l = k
-small-2 a b h k (suc (suc i)) l = absurd (omega arith)
 
 pub transposed-2 : (Q : (ℕ → ℕ) → Bool) (x y base : ℕ) (old new : List ℕ) → (x ≡ y → ⊥) → Transposed base 16 old new → Meant Q (x ∷ y ∷ []) base old → Meant Q (y ∷ x ∷ []) base new
 transposed-2 Q x y base old new h t m = meant-2 Q y x base new (λ c l.
@@ -132,14 +113,14 @@ transposed-2 Q x y base old new h t m = meant-2 Q y x base new (λ c l.
     let f : c % 16 ≡ c = omega arith in
     t .here c l ∙ mask-same (λ v. has (at old (base + (16 * (c / 16) + v))) (c % 16)) (λ v. Q (valueOf (y ∷ x ∷ []) (c ∷ v ∷ []))) (λ v k.
     let g : base + (16 * (c / 16) + v) ≡ base + v = omega arith in
-    ap (λ (n : ℕ). has (at old n) (c % 16)) g ∙ ap (has (at old (base + v))) f ∙ ap (λ (n : ℕ). has n c) (m (v ∷ []) refl (small-1 v k))
+    ap (λ (n : ℕ). has (at old n) (c % 16)) g ∙ ap (has (at old (base + v))) f ∙ ap (λ (n : ℕ). has n c) (m (v ∷ []) refl (at-small-1 v k))
     ∙ has-mask 16 (λ w. Q (valueOf (x ∷ y ∷ []) (v ∷ w ∷ []))) c l ∙ ap Q (value-2 x y v c h)))
 
 pub swapped-3 : (Q : (ℕ → ℕ) → Bool) (x y z base : ℕ) (old new : List ℕ) → (x ≡ y → ⊥) → Swapped base old new → Meant Q (x ∷ y ∷ z ∷ []) base old → Meant Q (y ∷ x ∷ z ∷ []) base new
 swapped-3 Q x y z base old new h t m = meant-3 Q y x z base new (λ b a l k.
     let j : 16 * b + a < 256 = omega arith in
     let g : base + (16 * ((16 * b + a) % 16) + (16 * b + a) / 16) ≡ base + (16 * a + b) = omega arith in
-    t .here (16 * b + a) j ∙ ap (at old) g ∙ m (a ∷ b ∷ []) refl (small-2 a b k l) ∙ ap maskOf (fun-ext (λ v. ap Q (value-first x y z a b v h))))
+    t .here (16 * b + a) j ∙ ap (at old) g ∙ m (a ∷ b ∷ []) refl (at-small-2 a b k l) ∙ ap maskOf (fun-ext (λ v. ap Q (value-first x y z a b v h))))
 
 pub transposed-3 : (Q : (ℕ → ℕ) → Bool) (x y z base : ℕ) (old new : List ℕ) → (y ≡ z → ⊥) → Transposed base 256 old new → Meant Q (x ∷ y ∷ z ∷ []) base old → Meant Q (x ∷ z ∷ y ∷ []) base new
 transposed-3 Q x y z base old new h t m = meant-3 Q x z y base new (λ a c k l.
@@ -147,7 +128,7 @@ transposed-3 Q x y z base old new h t m = meant-3 Q x z y base new (λ a c k l.
     let f : (16 * a + c) % 16 ≡ c = omega arith in
     t .here (16 * a + c) j ∙ mask-same (λ v. has (at old (base + (16 * ((16 * a + c) / 16) + v))) ((16 * a + c) % 16)) (λ v. Q (valueOf (x ∷ z ∷ y ∷ []) (a ∷ c ∷ v ∷ []))) (λ v i.
     let g : base + (16 * ((16 * a + c) / 16) + v) ≡ base + (16 * a + v) = omega arith in
-    ap (λ (n : ℕ). has (at old n) ((16 * a + c) % 16)) g ∙ ap (has (at old (base + (16 * a + v)))) f ∙ ap (λ (n : ℕ). has n c) (m (a ∷ v ∷ []) refl (small-2 a v k i))
+    ap (λ (n : ℕ). has (at old n) ((16 * a + c) % 16)) g ∙ ap (has (at old (base + (16 * a + v)))) f ∙ ap (λ (n : ℕ). has n c) (m (a ∷ v ∷ []) refl (at-small-2 a v k i))
     ∙ has-mask 16 (λ w. Q (valueOf (x ∷ y ∷ z ∷ []) (a ∷ v ∷ w ∷ []))) c l ∙ ap Q (value-last x y z a v c h)))
 
 -- ---- the rest of the supports

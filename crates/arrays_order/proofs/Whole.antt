@@ -1,29 +1,20 @@
 -- The arrays of the reordered problem, from what the parts leave. Assumes nothing.
-use mathlib.Core.Path.{_≡_, refl, sym, ap, ap₂, _∙_, subst, fun-ext}
-use mathlib.Core.Bool.{Bool, false}
-use mathlib.Core.List.{List, [], _∷_, _++_, map, List·Memᴰ, List·Memᴰ·head, List·Memᴰ·tail}
-use Prim.Native.Nat.{ℕ, zero, suc, _+_, _*_, _/_, _%_, _^_, _≤_, _<_}
-use native.Mathlib.Nat.{not-suc-le-zero, le-of-suc-le-suc}
-use native.Mathlib.Decide.{decLt}
-use native.Mathlib.Omega.{arith}
-use lib.Dec.{eqb}
-use lib.ListN.{length, getD, length-map, length-append}
-use Rattle.model.specs.Lists.{any, at, same}
-use Rattle.model.specs.ValueSets.{has, maskOf, least, leastStep}
-use Rattle.model.specs.Problem.{Problem, Constraint, pair}
-use Rattle.order.specs.Order.{Ordering}
-use Rattle.order.specs.Reordered.{position, valueOf, scopeIn, constraintIn, renamed, symmetryIn, reordered}
-use Rattle.model.proofs.Sets.{has-mask}
-use Rattle.model.proofs.Lists.{not-of, any-e, same-eq, among-e, mem-at, mem-getD, at-take, at-map, ascending-sorted}
-use Rattle.model.specs.WellFormed.{WellFormed, GoodConstraint, GoodSymmetry}
-use Rattle.model.specs.Filling.{Filled}
+use Rattle.model.specs.Kit.{_≡_, refl, sym, ap, ap₂, _∙_, subst, Bool, false, List, [], _∷_, _++_, map, List·Memᴰ, List·Memᴰ·head, List·Memᴰ·tail, ℕ, zero, suc, _+_, _*_, _/_, _%_}
+use Rattle.model.specs.Kit.{_^_, _≤_, _<_, not-suc-le-zero, le-of-suc-le-suc, decLt, arith, eqb, length, getD, length-map}
+use mathlib.Core.Path.{fun-ext}
+use Rattle.model.specs.{Lists.any, Lists.at, Lists.same, ValueSets.has, ValueSets.maskOf, ValueSets.least, ValueSets.leastStep, Problem.Problem, Problem.Constraint, Problem.pair}
+use Rattle.model.specs.{Problem.constraintAt, Problem.symmetryAt, WellFormed.WellFormed, WellFormed.GoodConstraint, WellFormed.GoodSymmetry, inner.Filling.Filled}
+use Rattle.order.specs.{Order.Ordering, Reordered.position, Reordered.valueOf, Reordered.scopeIn, Reordered.constraintIn, Reordered.renamed, Reordered.symmetryIn}
+use Rattle.order.specs.Reordered.{reordered}
+use Rattle.model.proofs.{Sets.has-mask, Lists.not-of, Lists.any-e, Lists.same-eq, Lists.among-e, Lists.mem-at, Lists.mem-getD, Lists.at-take, Lists.at-map, Lists.ascending-sorted}
+use Rattle.model.proofs.Lists.{length-snoc, at-small-2}
+use Rattle.arrays.specs.inner.Layout.{place, Numbers, Supports, Images}
+use Rattle.arrays.proofs.Links.{good}
+use Rattle.arrays_order.specs.{inner.Reorder.orderOf, inner.Reorder.Movable, inner.Reorder.Moved, inner.Steps.stand, inner.Steps.Small, inner.Steps.MovedSets}
+use Rattle.arrays_order.specs.inner.Steps.{renamedTo, MovedImages, Narrow, Meant, Sorting, Scope, Renamed}
+use Rattle.arrays_order.proofs.Tables.{mask-none}
 use Rattle.order.proofs.Reordered as R
 use Rattle.model.proofs.Pairs as P
-use Rattle.arrays.specs.Layout.{constraintAt, symmetryAt, place, Numbers, Supports, Images}
-use Rattle.arrays.proofs.Links.{good}
-use Rattle.arrays_order.specs.Reorder.{orderOf, Movable, Moved}
-use Rattle.arrays_order.specs.Steps.{stand, Small, MovedSets, renamedTo, MovedImages, Narrow, Meant, Sorting, Scope, Renamed}
-use Rattle.arrays_order.proofs.Tables.{mask-none, small-2}
 
 -- ---- lists
 least-same : (k : ℕ) (f g : ℕ → Bool) → ((i : ℕ) → i < k → f i ≡ g i) → least k f ≡ least k g
@@ -39,9 +30,6 @@ getD-map f (x ∷ l) (suc k) d e h = getD-map f l k d e (le-of-suc-le-suc h)
 map-twice : (f g : ℕ → ℕ) (l : List ℕ) → map f (map g l) ≡ map (λ x. f (g x)) l
 map-twice f g [] = refl
 map-twice f g (x ∷ l) = ap (λ (r : List ℕ). f (g x) ∷ r) (map-twice f g l)
-
-one-longer : (l : List ℕ) (v : ℕ) → length (l ++ (v ∷ [])) ≡ suc (length l)
-one-longer l v = length-append l (v ∷ []) ∙ (let e : length l + 1 ≡ suc (length l) = omega arith in e)
 
 -- ---- what the arrays hold
 module _ (p : Problem) (order numbers supports images : List ℕ) (m : Movable p order numbers supports images) where
@@ -145,11 +133,12 @@ module _ (p : Problem) (order numbers supports images : List ℕ) (m : Movable p
     narrow e = record {
       first = λ a b l i j. row a b i j ∙ mask-none _ (λ u n. no-row (a ∷ b ∷ u ∷ []) a (List·Memᴰ·head refl) l);
       second = λ a b i l j. row a b i j ∙ mask-none _ (λ u n. no-row (a ∷ b ∷ u ∷ []) b (List·Memᴰ·tail (List·Memᴰ·head refl)) l);
-      last = λ a b v i j l n. ap (λ (z : ℕ). has z v) (row a b i j) ∙ has-mask 16 (λ u. any (same (a ∷ b ∷ u ∷ [])) (constraintAt p k .rows)) v n ∙ no-row (a ∷ b ∷ v ∷ []) v (List·Memᴰ·tail (List·Memᴰ·tail (List·Memᴰ·head refl))) l;
+      last = λ a b v i j l n. ap (λ (z : ℕ). has z v) (row a b i j) ∙ has-mask 16 (λ u. any (same (a ∷ b ∷ u ∷ [])) (constraintAt p k .rows)) v n ∙ no-row (a ∷ b ∷ v ∷ []) v
+          (List·Memᴰ·tail (List·Memᴰ·tail (List·Memᴰ·head refl))) l;
     }
       where
         row : (a b : ℕ) → a < 16 → b < 16 → at supports (256 * k + (16 * a + b)) ≡ maskOf (λ u. any (same (a ∷ b ∷ u ∷ [])) (constraintAt p k .rows))
-        row a b i j = m .compiled .supported k h (a ∷ b ∷ []) (sym e ∙ names-long) (small-2 a b i j)
+        row a b i j = m .compiled .supported k h (a ∷ b ∷ []) (sym e ∙ names-long) (at-small-2 a b i j)
 
     -- the constraint's test, of the values by position
     test : (ℕ → ℕ) → Bool
@@ -162,7 +151,7 @@ module _ (p : Problem) (order numbers supports images : List ℕ) (m : Movable p
     unfolding test
     begin vs e l =
         m .compiled .supported k h vs (e ∙ names-long) l
-        ∙ ap maskOf (fun-ext (λ v. ap (λ (r : List ℕ). any (same r) (constraintAt p k .rows)) (sym (begin-row (vs ++ (v ∷ [])) (one-longer vs v ∙ e)))))
+        ∙ ap maskOf (fun-ext (λ v. ap (λ (r : List ℕ). any (same r) (constraintAt p k .rows)) (sym (begin-row (vs ++ (v ∷ [])) (length-snoc vs v ∙ e)))))
 
     -- ---- after it was moved
     module _ (supports′ : List ℕ) (word : ℕ) (s : Sorting names (256 * k) supports supports′ word) where
@@ -189,7 +178,7 @@ module _ (p : Problem) (order numbers supports images : List ℕ) (m : Movable p
           at supports′ (256 * k + place vs) ≡ maskOf (λ v. any (same (vs ++ (v ∷ []))) (constraintAt q k .rows))
       support-after vs e l =
           let a : suc (length vs) ≡ length (s .sorted) = e ∙ ap (λ (c : Constraint). length (c .scope)) constraint-at ∙ sym (ap length sorted-is) in
-          s .meant test begin vs a l ∙ ap maskOf (fun-ext (λ v. row-after (vs ++ (v ∷ [])) (one-longer vs v ∙ a ∙ s .long ∙ names-long)))
+          s .meant test begin vs a l ∙ ap maskOf (fun-ext (λ v. row-after (vs ++ (v ∷ [])) (length-snoc vs v ∙ a ∙ s .long ∙ names-long)))
 
   -- ---- a symmetry
   module _ (e : ℕ) (h : e < length (p .symmetries)) where
@@ -218,9 +207,11 @@ module _ (p : Problem) (order numbers supports images : List ℕ) (m : Movable p
           let l : k < length (p .constraints) = omega (arith, m .compiled .numbered .constraints) in
           (map (position ord) (constraintAt p k .scope), scope-of k l stands (at mid (32 + k)) (a .other (32 + k) (omega arith)) stands-is, narrow k l)
 
-      module _ (numbers′ supports′ images′ : List ℕ) (b : MovedImages (at numbers 64) order stands (at numbers 67) images images′) (c : Renamed stands (at numbers 66) mid supports numbers′ supports′) where
+      module _ (numbers′ supports′ images′ : List ℕ) (b : MovedImages (at numbers 64) order stands (at numbers 67) images images′)
+          (c : Renamed stands (at numbers 66) mid supports numbers′ supports′) where
         moved-at : (k : ℕ) (h : k < length (p .constraints)) → Sorting (map (position ord) (constraintAt p k .scope)) (256 * k) supports supports′ (at numbers′ (32 + k))
-        moved-at k h = c .moved k (omega (arith, m .compiled .numbered .constraints)) (map (position ord) (constraintAt p k .scope)) (scope-of k h stands (at mid (32 + k)) (a .other (32 + k) (omega arith)) stands-is)
+        moved-at k h = c .moved k (omega (arith, m .compiled .numbered .constraints)) (map (position ord) (constraintAt p k .scope))
+            (scope-of k h stands (at mid (32 + k)) (a .other (32 + k) (omega arith)) stands-is)
 
         low : (j : ℕ) → j < 32 → at numbers′ j ≡ at mid j
         low j h = c .other j (λ k l e. omega arith)
@@ -246,7 +237,8 @@ module _ (p : Problem) (order numbers supports images : List ℕ) (m : Movable p
             let t : at numbers 64 ≤ x = omega (arith, variables-is) in
             ap (λ (z : ℕ). has z k) (low x (omega arith) ∙ a .touching-rest x t l) ∙ m .compiled .numbered .touching x k l h
             ∙ not-of (any (eqb x) (constraintAt p k .scope)) (λ y. i (fine k h .inside x (among-e x (constraintAt p k .scope) y)))
-            ∙ sym (not-of (any (eqb x) (scopeIn ord (constraintAt p k .scope))) (λ y. i (R.scope-e p ord o (constraintAt p k .scope) (fine k h .inside) (fine k h .ordered) x (among-e x (scopeIn ord (constraintAt p k .scope)) y) .0)))
+            ∙ sym (not-of (any (eqb x) (scopeIn ord (constraintAt p k .scope))) (λ y. i (R.scope-e p ord o (constraintAt p k .scope) (fine k h .inside) (fine k h .ordered) x
+            (among-e x (scopeIn ord (constraintAt p k .scope)) y) .0)))
             ∙ ap (λ (c : Constraint). any (eqb x) (c .scope)) (sym (constraint-at k h))
 
         few-after : (x : ℕ) → x < 16 → Dec (x < p .variables) → at numbers′ x < 2 ^ length (p .constraints)
@@ -280,7 +272,8 @@ module _ (p : Problem) (order numbers supports images : List ℕ) (m : Movable p
         supports-after k h = let l : k < length (p .constraints) = omega (arith, constraints-long) in support-after k l supports′ (at numbers′ (32 + k)) (moved-at k l)
 
         -- the image of the pair (order[x], v), as p's arrays have it, renamed
-        renamed-image : (i : ℕ) → i < p .variables * p .values → renamedTo stands (16 * (i / p .values) + i % p .values) ≡ 16 * (renamed p (position ord) i / p .values) + renamed p (position ord) i % p .values
+        renamed-image : (i : ℕ) → i < p .variables * p .values → renamedTo stands (16 * (i / p .values) + i % p .values) ≡ 16 * (renamed p (position ord) i / p .values) + renamed p
+            (position ord) i % p .values
         renamed-image i h =
             let y : i / p .values < p .variables = R.var-lt p ord o w i h in
             let v : i % p .values < 16 = omega (arith, P.mod-small p w i, w .sixteen) in

@@ -11,8 +11,8 @@ ghost use mathlib.Core.List.{List, [], _∷_};
 ghost use Prim.Native.Nat.{ℕ, _+_, _*_, _≤_, _<_};
 ghost use lib.ListN.{length};
 ghost use Rattle.model.specs.Lists.{at};
-ghost use Rattle.arrays.specs.Places.{NUMBERS, SUPPORTS};
-ghost use Rattle.arrays_order.specs.Steps.{Narrow, Sorting, Framed, Scope, ScopeMoved, Renamed};
+ghost use Rattle.arrays.specs.inner.Places.{NUMBERS, SUPPORTS};
+ghost use Rattle.arrays_order.specs.inner.Steps.{Narrow, Sorting, Framed, Scope, ScopeMoved, Renamed};
 
 // Two names.
 fn two(base: usize, x: u64, y: u64, supports: &mut Supports) -> u64
@@ -28,8 +28,10 @@ fn two(base: usize, x: u64, y: u64, supports: &mut Supports) -> u64
 
 // Three names, of which the last is the greatest.
 fn third(base: usize, d: usize, x: u64, y: u64, z: u64, supports: &mut Supports) -> u64
-    requires { ⌜ (base + 256 ≤ SUPPORTS) × (d ≤ 16) × Narrow d base (now supports) × (x < z) × (y < z) × (z < 16) × (x ≡ y → ⊥) × (length (now supports) ≡ SUPPORTS) ⌝ }
-    ensures { λ r. ⌜ Sorting (x ∷ y ∷ z ∷ []) base (now (supports .entry)) (now (supports .exit)) r × Framed base (now (supports .entry)) (now (supports .exit)) ⌝ }
+    requires { ⌜ (base + 256 ≤ SUPPORTS) × (d ≤ 16) × Narrow d base (now supports) × (x < z) × (y < z) × (z < 16) × (x ≡ y → ⊥) ×
+        (length (now supports) ≡ SUPPORTS) ⌝ }
+    ensures { λ r. ⌜ Sorting (x ∷ y ∷ z ∷ []) base (now (supports .entry)) (now (supports .exit)) r × Framed base (now (supports .entry))
+        (now (supports .exit)) ⌝ }
 {
     if x < y {
         return 3 + 256 * x + 65536 * y + 16777216 * z;
@@ -40,8 +42,10 @@ fn third(base: usize, d: usize, x: u64, y: u64, z: u64, supports: &mut Supports)
 
 // Three names, of which the first is less than the second.
 fn second(base: usize, d: usize, x: u64, y: u64, z: u64, supports: &mut Supports) -> u64
-    requires { ⌜ (base + 256 ≤ SUPPORTS) × (d ≤ 16) × Narrow d base (now supports) × (x < y) × (y < 16) × (z < 16) × (x ≡ z → ⊥) × (y ≡ z → ⊥) × (length (now supports) ≡ SUPPORTS) ⌝ }
-    ensures { λ r. ⌜ Sorting (x ∷ y ∷ z ∷ []) base (now (supports .entry)) (now (supports .exit)) r × Framed base (now (supports .entry)) (now (supports .exit)) ⌝ }
+    requires { ⌜ (base + 256 ≤ SUPPORTS) × (d ≤ 16) × Narrow d base (now supports) × (x < y) × (y < 16) × (z < 16) × (x ≡ z → ⊥) × (y ≡ z → ⊥) ×
+        (length (now supports) ≡ SUPPORTS) ⌝ }
+    ensures { λ r. ⌜ Sorting (x ∷ y ∷ z ∷ []) base (now (supports .entry)) (now (supports .exit)) r × Framed base (now (supports .entry))
+        (now (supports .exit)) ⌝ }
 {
     if y < z {
         return third(base, d, x, y, z, supports);
@@ -52,8 +56,10 @@ fn second(base: usize, d: usize, x: u64, y: u64, z: u64, supports: &mut Supports
 
 // Three names.
 fn three(base: usize, d: usize, x: u64, y: u64, z: u64, supports: &mut Supports) -> u64
-    requires { ⌜ (base + 256 ≤ SUPPORTS) × (d ≤ 16) × Narrow d base (now supports) × (x < 16) × (y < 16) × (z < 16) × (x ≡ y → ⊥) × (x ≡ z → ⊥) × (y ≡ z → ⊥) × (length (now supports) ≡ SUPPORTS) ⌝ }
-    ensures { λ r. ⌜ Sorting (x ∷ y ∷ z ∷ []) base (now (supports .entry)) (now (supports .exit)) r × Framed base (now (supports .entry)) (now (supports .exit)) ⌝ }
+    requires { ⌜ (base + 256 ≤ SUPPORTS) × (d ≤ 16) × Narrow d base (now supports) × (x < 16) × (y < 16) × (z < 16) × (x ≡ y → ⊥) × (x ≡ z → ⊥) ×
+        (y ≡ z → ⊥) × (length (now supports) ≡ SUPPORTS) ⌝ }
+    ensures { λ r. ⌜ Sorting (x ∷ y ∷ z ∷ []) base (now (supports .entry)) (now (supports .exit)) r × Framed base (now (supports .entry))
+        (now (supports .exit)) ⌝ }
 {
     if x < y {
         return second(base, d, x, y, z, supports);
@@ -64,8 +70,10 @@ fn three(base: usize, d: usize, x: u64, y: u64, z: u64, supports: &mut Supports)
 
 // The scope's number of one constraint, and its support table.
 fn scope(stands: &[u8; 16], w: u64, base: usize, d: usize, supports: &mut Supports) -> u64
-    requires { ⌜ (base + 256 ≤ SUPPORTS) × (d ≤ 16) × ((names : List ℕ) × Scope (now stands) w names × (length names ≡ 3 → Narrow d base (now supports))) × (length (now supports) ≡ SUPPORTS) ⌝ }
-    ensures { λ r. ⌜ ScopeMoved (now (stands .entry)) w base (now (supports .entry)) (now (supports .exit)) r × Framed base (now (supports .entry)) (now (supports .exit)) ⌝ }
+    requires { ⌜ (base + 256 ≤ SUPPORTS) × (d ≤ 16) × ((names : List ℕ) × Scope (now stands) w names × (length names ≡ 3 → Narrow d base (now supports))) ×
+        (length (now supports) ≡ SUPPORTS) ⌝ }
+    ensures { λ r. ⌜ ScopeMoved (now (stands .entry)) w base (now (supports .entry)) (now (supports .exit)) r × Framed base (now (supports .entry))
+        (now (supports .exit)) ⌝ }
 {
     let a = w % 256;
     let x = entry(stands, (w / 256 % 16) as usize) as u64;
@@ -82,7 +90,8 @@ fn scope(stands: &[u8; 16], w: u64, base: usize, d: usize, supports: &mut Suppor
 
 // Every constraint.
 pub fn rename(stands: &[u8; 16], c: usize, d: usize, numbers: &mut Numbers, supports: &mut Supports)
-    requires { ⌜ (c ≤ 32) × (d ≤ 16) × ((k : ℕ) → k < c → (names : List ℕ) × Scope (now stands) (at (now numbers) (32 + k)) names × (length names ≡ 3 → Narrow d (256 * k) (now supports))) × (length (now numbers) ≡ NUMBERS) × (length (now supports) ≡ SUPPORTS) ⌝ }
+    requires { ⌜ (c ≤ 32) × (d ≤ 16) × ((k : ℕ) → k < c → (names : List ℕ) × Scope (now stands) (at (now numbers) (32 + k)) names ×
+        (length names ≡ 3 → Narrow d (256 * k) (now supports))) × (length (now numbers) ≡ NUMBERS) × (length (now supports) ≡ SUPPORTS) ⌝ }
     ensures { λ _. ⌜ Renamed (now (stands .entry)) c (now (numbers .entry)) (now (supports .entry)) (now (numbers .exit)) (now (supports .exit)) ⌝ }
 {
     let mut k = 0;

@@ -5,9 +5,9 @@ ghost use mathlib.Core.Path.{_≡_};
 ghost use Prim.Native.Nat.{_+_, _*_, _≤_, _<_};
 ghost use lib.ListN.{length};
 ghost use Rattle.model.specs.Lists.{at};
-ghost use Rattle.model.specs.Filling.{Filled};
-ghost use Rattle.arrays.specs.Places.{IMAGES};
-ghost use Rattle.arrays_order.specs.Steps.{Small, renamedTo, imageFrom, MovedImages};
+ghost use Rattle.model.specs.inner.Filling.{Filled};
+ghost use Rattle.arrays.specs.inner.Places.{IMAGES};
+ghost use Rattle.arrays_order.specs.inner.Steps.{Small, renamedTo, imageFrom, MovedImages};
 
 // The images of a symmetry, which stand from a place on.
 fn load(images: &Images, from: usize, old: &mut [u8; 192])
@@ -40,7 +40,8 @@ fn renamed(stands: &[u8; 16], q: u8) -> u8
 // The pairs of a symmetry whose images stand from a place on.
 fn symmetry(order: &[u8; 16], stands: &[u8; 16], n: usize, from: usize, images: &mut Images)
     requires { ⌜ (n ≤ 12) × (from + 192 ≤ IMAGES) × Small n (now order) × (length (now images) ≡ IMAGES) ⌝ }
-    ensures { λ _. ⌜ Filled (λ j. from + j) (λ j r. r ≡ renamedTo (now (stands .entry)) (at (now (images .entry)) (from + imageFrom (now (order .entry)) j))) (16 * n) (now (images .entry)) (now (images .exit)) ⌝ }
+    ensures { λ _. ⌜ Filled (λ j. from + j) (λ j r. r ≡ renamedTo (now (stands .entry))
+        (at (now (images .entry)) (from + imageFrom (now (order .entry)) j))) (16 * n) (now (images .entry)) (now (images .exit)) ⌝ }
 {
     let mut old = [0u8; 192];
     load(images, from, &mut old);

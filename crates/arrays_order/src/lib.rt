@@ -1,4 +1,5 @@
-// The compiled problem (crate arrays) with its variables in another order (paper 02, request 108): variable i of the new problem is variable order[i] of the old.
+// The compiled problem (crate arrays) with its variables in another order (paper 02, request 108): variable i of the new problem is variable order[i] of the
+// old.
 // It runs once a run, before the search's tables are made.
 use arrays::CONSTRAINTS;
 use arrays::Images;
@@ -8,7 +9,7 @@ use arrays::Supports;
 use arrays::VALUES;
 use arrays::VARIABLES;
 ghost use Rattle.model.specs.Problem.{Problem};
-ghost use Rattle.arrays_order.specs.Reorder.{Movable, Moved};
+ghost use Rattle.arrays_order.specs.inner.Reorder.{Movable, Moved};
 
 mod constraints;
 mod images;
@@ -24,7 +25,9 @@ pub fn reorder(
     images: &mut Images,
 )
     requires { ⌜ ((p : Problem) × Movable p (now order) (now numbers) (now supports) (now images)) ⌝ }
-    ensures { λ _. ⌜ ((p : Problem) → Movable p (now (order .entry)) (now (numbers .entry)) (now (supports .entry)) (now (images .entry)) → Moved p (now (order .entry)) (now (numbers .entry)) (now (supports .entry)) (now (images .entry)) (now (numbers .exit)) (now (supports .exit)) (now (images .exit))) ⌝ }
+    ensures { λ _. ⌜ ((p : Problem) → Movable p (now (order .entry)) (now (numbers .entry)) (now (supports .entry)) (now (images .entry)) → Moved p
+        (now (order .entry)) (now (numbers .entry)) (now (supports .entry)) (now (images .entry)) (now (numbers .exit)) (now (supports .exit))
+        (now (images .exit))) ⌝ }
 {
     let n = numbers[VARIABLES] as usize;
     let d = numbers[VALUES] as usize;

@@ -3,8 +3,8 @@ ghost use mathlib.Core.Path.{_≡_};
 ghost use Prim.Native.Nat.{_≤_, _<_};
 ghost use lib.ListN.{length};
 ghost use Rattle.model.specs.Lists.{at};
-ghost use Rattle.model.specs.Filling.{Filled};
-ghost use Rattle.arrays_order.specs.Steps.{stand};
+ghost use Rattle.model.specs.inner.Filling.{Filled};
+ghost use Rattle.arrays_order.specs.inner.Steps.{stand};
 
 // Read by a function, whose result is known to be a byte.
 pub fn entry(order: &[u8; 16], i: usize) -> u8

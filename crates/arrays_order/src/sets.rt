@@ -7,9 +7,9 @@ ghost use mathlib.Core.Path.{_≡_};
 ghost use Prim.Native.Nat.{_+_, _≤_};
 ghost use lib.ListN.{length};
 ghost use Rattle.model.specs.Lists.{at};
-ghost use Rattle.model.specs.Filling.{Filled};
-ghost use Rattle.arrays.specs.Places.{NUMBERS};
-ghost use Rattle.arrays_order.specs.Steps.{Small, MovedSets};
+ghost use Rattle.model.specs.inner.Filling.{Filled};
+ghost use Rattle.arrays.specs.inner.Places.{NUMBERS};
+ghost use Rattle.arrays_order.specs.inner.Steps.{Small, MovedSets};
 
 // The numbers of sixteen variables, which stand from a place on.
 fn load(numbers: &Numbers, from: usize, old: &mut [u64; 16])
@@ -26,7 +26,8 @@ fn load(numbers: &Numbers, from: usize, old: &mut [u64; 16])
 // From a place on, number i becomes that of variable order[i].
 fn spread(order: &[u8; 16], n: usize, from: usize, numbers: &mut Numbers)
     requires { ⌜ (n ≤ 12) × (from ≤ 16) × Small n (now order) × (length (now numbers) ≡ NUMBERS) ⌝ }
-    ensures { λ _. ⌜ Filled (λ i. from + i) (λ i r. r ≡ at (now (numbers .entry)) (from + at (now (order .entry)) i)) n (now (numbers .entry)) (now (numbers .exit)) ⌝ }
+    ensures { λ _. ⌜ Filled (λ i. from + i) (λ i r. r ≡ at (now (numbers .entry)) (from + at (now (order .entry)) i)) n (now (numbers .entry))
+        (now (numbers .exit)) ⌝ }
 {
     let mut old = [0u64; 16];
     load(numbers, from, &mut old);

@@ -1,4 +1,5 @@
-// A support table with two coordinates exchanged. A constraint has 256 sets: the set of last values stands at 16 times the first value plus the second of three,
+// A support table with two coordinates exchanged. A constraint has 256 sets: the set of last values stands at 16 times the first value plus the second of
+// three,
 // at the first of two, and at 0 for one.
 use arrays::Supports;
 ghost use mathlib.Core.Path.{_≡_};
@@ -6,9 +7,9 @@ ghost use Prim.Native.Nat.{ℕ, _+_, _≤_, _<_};
 ghost use lib.ListN.{length};
 ghost use Rattle.model.specs.Lists.{at};
 ghost use Rattle.model.specs.ValueSets.{has, maskOf};
-ghost use Rattle.model.specs.Filling.{Filled};
-ghost use Rattle.arrays.specs.Places.{SUPPORTS};
-ghost use Rattle.arrays_order.specs.Steps.{Cell, Added, Narrow, Crossed, Swapped, Transposed};
+ghost use Rattle.model.specs.inner.Filling.{Filled};
+ghost use Rattle.arrays.specs.inner.Places.{SUPPORTS};
+ghost use Rattle.arrays_order.specs.inner.Steps.{Cell, Added, Narrow, Crossed, Swapped, Transposed};
 
 // The set of v if w is in the set, else none.
 fn cell(s: u16, w: usize, v: usize) -> u16
@@ -33,7 +34,8 @@ fn add(s: u16, v: usize, columns: &mut [u16; 16])
 // For each w the values whose sets have it, of sixteen sets from a base on.
 fn gather(supports: &Supports, base: usize, columns: &mut [u16; 16])
     requires { ⌜ (base + 16 ≤ SUPPORTS) × (length (now columns) ≡ 16) × ((w : ℕ) → at (now columns) w ≡ 0) ⌝ }
-    ensures { λ _. ⌜ (length (now (columns .exit)) ≡ 16) × ((w : ℕ) → w < 16 → at (now (columns .exit)) w ≡ maskOf (λ v. has (at (now (supports .entry)) (base + v)) w)) ⌝ }
+    ensures { λ _. ⌜ (length (now (columns .exit)) ≡ 16) × ((w : ℕ) → w < 16 → at (now (columns .exit)) w ≡ maskOf
+        (λ v. has (at (now (supports .entry)) (base + v)) w)) ⌝ }
 {
     let mut v = 0;
     while v < 16 {

@@ -1,30 +1,14 @@
 -- All tables together. Assumes nothing.
-use mathlib.Core.Path.{_≡_, refl, sym, ap, ap₂, _∙_, subst}
-use mathlib.Core.Bool.{Bool, true, false}
-use mathlib.Core.List.{List}
-use Prim.Native.Nat.{ℕ, suc, _+_, _*_, _/_, _%_, _^_, _≤_, _<_}
-use native.Mathlib.Nat.{lt-of-lt-of-le}
-use native.Mathlib.Omega.{arith}
-use lib.Dec.{T, ltb}
+use Rattle.model.specs.Kit.{_≡_, refl, sym, ap, ap₂, _∙_, subst, Bool, true, false, List, ℕ, suc, _+_, _*_, _/_, _%_, _^_, _≤_, _<_, lt-of-lt-of-le, arith, T, ltb, length, set}
+use Rattle.model.specs.Kit.{length-set, ltb-true, ltb-false}
 use lib.Pow.{pow-mono}
-use lib.ListN.{length, set, length-set}
-use borrow.Author.Tests.{ltb-true, ltb-false}
-use Rattle.model.specs.Lists.{at, either}
-use Rattle.model.specs.ValueSets.{has}
-use Rattle.model.specs.Problem.{Problem}
-use Rattle.model.specs.WellFormed.{WellFormed}
-use Rattle.model.specs.Filling.{Filled}
-use Rattle.model.proofs.Lists.{at-set, at-set-other}
-use Rattle.model.proofs.Sets.{has-lt, has-mask, has-at-lt}
-use Rattle.arrays.specs.Places.{INITIAL, SCOPES, VARIABLES, VALUES, CONSTRAINTS, SYMMETRIES, LINKED, BY-ROWS, OTHERS, LOOSE, LOOKS, SPREAD, NUMBERS}
-use Rattle.arrays.specs.Layout.{Numbers}
-use Rattle.arrays.specs.Tables.{goes, Rows, Linked}
-use Rattle.arrays_tables.specs.Index.{Compact, Made}
-use Rattle.arrays_tables.specs.Steps.{Spread, Unions, SymmetriesStored, LinkedFirst, LinkNumbers, RowsSource, LooseTo, LooseSet, LookScopes}
-use Rattle.arrays_tables.proofs.Initial.{initial-is}
-use Rattle.arrays_tables.proofs.UnionTables.{worded}
-use Rattle.arrays_tables.proofs.LookScopes.{look-scopes-from, looks-up}
-use Rattle.arrays_tables.proofs.ImageTables.{imageTables}
+use Rattle.model.specs.{Lists.at, Lists.either, ValueSets.has, Problem.Problem, WellFormed.WellFormed, inner.Filling.Filled}
+use Rattle.model.proofs.{Lists.at-set, Lists.at-set-other, Sets.has-lt, Sets.has-mask, Sets.has-at-lt}
+use Rattle.arrays.specs.inner.Places.{INITIAL, SCOPES, VARIABLES, VALUES, CONSTRAINTS, SYMMETRIES, LINKED, BY-ROWS, OTHERS, LOOSE, LOOKS, SPREAD, NUMBERS}
+use Rattle.arrays.specs.{inner.Layout.Numbers, inner.Tables.goes, inner.Tables.Rows, inner.Tables.Linked}
+use Rattle.arrays_tables.specs.{inner.Index.Compact, inner.Index.Made, inner.Steps.Spread, inner.Steps.Unions, inner.Steps.SymmetriesStored, inner.Steps.LinkedFirst}
+use Rattle.arrays_tables.specs.inner.Steps.{LinkNumbers, RowsSource, LooseTo, LooseSet, LookScopes}
+use Rattle.arrays_tables.proofs.{Initial.initial-is, UnionTables.worded, LookScopes.look-scopes-from, LookScopes.looks-up, ImageTables.imageTables}
 
 -- ---- what the numbers before LINKED say, where these stay
 pub numbers-kept : (p : Problem) (old new : List ℕ) → WellFormed p → length (p .constraints) ≤ 32 → ((j : ℕ) → j < LINKED → at new j ≡ at old j) → Numbers p old → Numbers p new
@@ -59,16 +43,19 @@ module _ (p : Problem) (wf : WellFormed p) (numbers tables : List ℕ) (nb : Num
       let e : 256 * x + y + 16 * v ≡ 256 * x + 16 * v + y = omega arith in
       ap (λ (n : ℕ). has n w) (ap (at tables) e ∙ rows x v y (omega (arith, wf .few)) hv (omega (arith, wf .few))) ∙ has-mask 16 (goes p x v y) w hw
 
-  loose-goes : (x u v y w : ℕ) → LooseTo numbers tables x (at numbers VARIABLES) → u < v → T (has (at (p .initial) x) u) → T (has (at (p .initial) x) v) → T (has (at (p .initial) y) w) → T (either (goes p x u y w) (goes p x v y w))
+  loose-goes : (x u v y w : ℕ) → LooseTo numbers tables x (at numbers VARIABLES) → u < v → T (has (at (p .initial) x) u) → T (has (at (p .initial) x) v) → T (has (at (p .initial) y) w) → T
+      (either (goes p x u y w) (goes p x v y w))
   loose-goes x u v y w s l a b c =
       let hu = narrow x u a in
       let hv = narrow x v b in
       let hw = narrow y w c in
       let n : y < at numbers VARIABLES = omega (arith, nb .variables, hw .0) in
-      let t = s .goes u v y w n l (hv .1) (subst (λ (z : ℕ). T (has z u)) (sym (initial-is p numbers wf nb x (hu .0))) a) (subst (λ (z : ℕ). T (has z v)) (sym (initial-is p numbers wf nb x (hu .0))) b) (hw .1) (subst (λ (z : ℕ). T (has z w)) (sym (initial-is p numbers wf nb y (hw .0))) c) in
+      let t = s .goes u v y w n l (hv .1) (subst (λ (z : ℕ). T (has z u)) (sym (initial-is p numbers wf nb x (hu .0))) a)
+      (subst (λ (z : ℕ). T (has z v)) (sym (initial-is p numbers wf nb x (hu .0))) b) (hw .1) (subst (λ (z : ℕ). T (has z w)) (sym (initial-is p numbers wf nb y (hw .0))) c) in
       subst T (ap₂ either (row-goes x u y w (hu .0) (hu .1) (hw .0) (hw .1)) (row-goes x v y w (hu .0) (hv .1) (hw .0) (hw .1))) t
 
-  loose-is : (x u v y w : ℕ) → LooseTo numbers tables x (at numbers VARIABLES) → T (has (at (p .initial) x) u) → T (has (at (p .initial) x) v) → (u ≡ v → ⊥) → T (has (at (p .initial) y) w) → T (either (goes p x u y w) (goes p x v y w))
+  loose-is : (x u v y w : ℕ) → LooseTo numbers tables x (at numbers VARIABLES) → T (has (at (p .initial) x) u) → T (has (at (p .initial) x) v) → (u ≡ v → ⊥) → T (has (at (p .initial) y) w) → T
+      (either (goes p x u y w) (goes p x v y w))
   loose-is x u v y w s a b n c = go (ltb u v) refl
     where
       go : (t : Bool) → ltb u v ≡ t → T (either (goes p x u y w) (goes p x v y w))
@@ -85,7 +72,8 @@ module _ (p : Problem) (n0 supports images t0 : List ℕ) (c : Compact p n0 supp
 
   module _ (t1 : List ℕ) (rows : (length t1 ≡ length t0) × ((q : Problem) → RowsSource q n1 supports → Rows q t1)) (r : ℕ) (loose : LooseSet n1 t1 (at n1 VARIABLES) r)
       (n2 : List ℕ) (looks : Filled (λ k. LOOKS + k) (LookScopes (set n1 LOOSE r)) 13 (set n1 LOOSE r) n2)
-      (n3 : List ℕ) (spreads : Filled (λ b. SPREAD + b) Spread 256 n2 n3) (n4 : List ℕ) (unions : Unions supports 32 n3 n4) (t2 : List ℕ) (stored : SymmetriesStored n4 images (at n4 VARIABLES) (at n4 SYMMETRIES) t1 t2) where
+      (n3 : List ℕ) (spreads : Filled (λ b. SPREAD + b) Spread 256 n2 n3) (n4 : List ℕ) (unions : Unions supports 32 n3 n4) (t2 : List ℕ)
+      (stored : SymmetriesStored n4 images (at n4 VARIABLES) (at n4 SYMMETRIES) t1 t2) where
     before-spread : (j : ℕ) → j < SPREAD → at n4 j ≡ at n2 j
     before-spread j h = unions .kept j (omega arith) ∙ spreads .other j (λ v k e. omega arith)
 
@@ -125,7 +113,8 @@ module _ (p : Problem) (n0 supports images t0 : List ℕ) (c : Compact p n0 supp
         linked = linked;
         rowed = λ x v y hx hv hy. stored .kept .low (256 * x + 16 * v + y) (omega arith) ∙ rows .1 p rows-source x v y hx hv hy;
         worded = worded supports n2 n3 n4 spreads unions;
-        looks = λ k j h t. looks-up p n1 k (at n2 (LOOKS + k)) numbered-1 (look-scopes-from n1 (set n1 LOOSE r) k (at n2 (LOOKS + k)) (λ i l. at-set-other n1 LOOSE r i (λ e. omega arith)) (omega (arith, numbered-1 .constraints, c .constraints)) (looks .here k h)) j
+        looks = λ k j h t. looks-up p n1 k (at n2 (LOOKS + k)) numbered-1 (look-scopes-from n1 (set n1 LOOSE r) k (at n2 (LOOKS + k)) (λ i l. at-set-other n1 LOOSE r i (λ e. omega arith))
+            (omega (arith, numbered-1 .constraints, c .constraints)) (looks .here k h)) j
             (subst (λ (z : ℕ). T (has z j)) (before-spread (LOOKS + k) (omega arith)) t);
         imageTables = imageTables p n4 images t1 t2 (c .wellFormed) numbered (c .compiled .imaged) stored;
       };
@@ -137,7 +126,12 @@ module _ (p : Problem) (n0 supports images t0 : List ℕ) (c : Compact p n0 supp
 -- ---- what the functions ask
 module _ (p : Problem) (n0 supports images t0 : List ℕ) (c : Compact p n0 supports images t0) where
   pub bounds : (at n0 VARIABLES ≤ 12) × (at n0 CONSTRAINTS ≤ 32) × (at n0 SYMMETRIES ≤ 16)
-  bounds = (omega (arith, c .compiled .numbered .variables, c .wellFormed .few), omega (arith, c .compiled .numbered .constraints, c .constraints), omega (arith, c .compiled .numbered .symmetries, c .symmetries))
+  bounds = (
+    omega (arith, c .compiled .numbered .variables, c .wellFormed .few),
+    omega (arith, c .compiled .numbered .constraints, c .constraints),
+    omega
+        (arith, c .compiled .numbered .symmetries, c .symmetries),
+  )
 
   module _ (n1 : List ℕ) (l : LinkNumbers n0 n1) where
     pub link-bounds : (at n1 VARIABLES ≤ 12) × (at n1 CONSTRAINTS ≤ 32) × (at n1 SYMMETRIES ≤ 16)

@@ -1,12 +1,8 @@
 -- The low bits of a sum of two parts, and the high ones. Assumes nothing.
-use mathlib.Core.Path.{_≡_, sym, ap, _∙_}
-use Prim.Native.Nat.{ℕ, zero, suc, _+_, _*_, _/_, _%_, _^_, _<_}
-use native.Mathlib.Nat.{not-suc-le-zero, le-of-suc-le-suc, mul-assoc}
-use native.Mathlib.Omega.{arith}
-use lib.Dec.{eqb}
+use Rattle.model.specs.Kit.{_≡_, sym, ap, _∙_, ℕ, zero, suc, _+_, _*_, _/_, _%_, _^_, _<_, not-suc-le-zero, le-of-suc-le-suc, arith, eqb}
+use native.Mathlib.Nat.{mul-assoc}
 use Rattle.model.specs.ValueSets.{has}
-use Rattle.model.proofs.Sets.{has-zero, has-suc, pow2}
-use Rattle.model.proofs.Masks.{has-shr}
+use Rattle.model.proofs.{Sets.has-zero, Sets.has-suc, Sets.pow2, Masks.has-shr}
 
 -- ---- the bits below a number, and those from it on
 pub low-bits : (k a b w : ℕ) → w < k → has (2 ^ k * a + b) w ≡ has b w

@@ -1,22 +1,12 @@
 -- What is stored are the problem's image tables. Assumes nothing.
-use mathlib.Core.Path.{_≡_, sym, ap, _∙_, subst}
-use mathlib.Core.List.{List}
-use Prim.Native.Nat.{ℕ, _+_, _*_, _<_}
-use native.Mathlib.Omega.{arith}
-use lib.Dec.{T, eqb, ltb}
-use lib.ListN.{length}
-use Rattle.model.specs.Lists.{any, at, keep}
-use Rattle.model.specs.ValueSets.{has, members}
-use Rattle.model.specs.Problem.{Problem}
-use Rattle.model.specs.WellFormed.{WellFormed}
-use Rattle.model.proofs.Lists.{T-ext, any-i, any-e, keep-e}
-use Rattle.model.proofs.Sets.{has-mask, mask-lt, mask-ext, members-e}
-use Rattle.model.proofs.Pairs
-use Rattle.arrays.specs.Places.{OWN, SMALLER, SYMMETRIES, VARIABLES}
-use Rattle.arrays.specs.Layout.{Numbers, Images}
-use Rattle.arrays.specs.Tables.{imageOf, ImageTables}
-use Rattle.arrays_tables.specs.Steps.{initialOf, smallerOf, PairStored, SymmetriesStored}
+use Rattle.model.specs.Kit.{_≡_, sym, ap, _∙_, subst, List, ℕ, _+_, _*_, _<_, arith, T, eqb, ltb, length}
+use Rattle.model.specs.{Lists.any, Lists.at, Lists.keep, ValueSets.has, ValueSets.members, Problem.Problem, WellFormed.WellFormed}
+use Rattle.model.proofs.{Lists.T-ext, Lists.any-i, Lists.any-e, Lists.keep-e, Sets.has-mask, Sets.mask-lt, Sets.mask-ext, Sets.members-e}
+use Rattle.arrays.specs.{inner.Places.OWN, inner.Places.SMALLER, inner.Places.SYMMETRIES, inner.Places.VARIABLES, inner.Layout.Numbers, inner.Layout.Images, inner.Tables.imageOf}
+use Rattle.arrays.specs.inner.Tables.{ImageTables}
+use Rattle.arrays_tables.specs.inner.Steps.{initialOf, smallerOf, PairStored, SymmetriesStored}
 use Rattle.arrays_tables.proofs.Initial.{initial-is}
+use Rattle.model.proofs.Pairs
 
 -- the images of members are all that counts
 hit : (f g : ℕ → ℕ) (m v y w : ℕ) → ((u : ℕ) → T (has m u) → f u ≡ g u) →
@@ -31,7 +21,8 @@ smaller-ext f g m v y e =
     mask-ext 16 (smallerOf f m v y) (smallerOf g m v y) (mask-lt 16 _) (mask-lt 16 _)
     (λ w l. has-mask 16 _ w l ∙ T-ext _ _ (hit f g m v y w e) (hit g f m v y w (λ u t. sym (e u t))) ∙ sym (has-mask 16 (λ w. any (λ u. eqb (g u) (16 * y + w)) (keep (λ u. ltb u v) (members m))) w l))
 
-module _ (p : Problem) (numbers images old new : List ℕ) (wf : WellFormed p) (nb : Numbers p numbers) (im : Images p images) (s : SymmetriesStored numbers images (at numbers VARIABLES) (at numbers SYMMETRIES) old new) where
+module _ (p : Problem) (numbers images old new : List ℕ) (wf : WellFormed p) (nb : Numbers p numbers) (im : Images p images)
+    (s : SymmetriesStored numbers images (at numbers VARIABLES) (at numbers SYMMETRIES) old new) where
   point : (e x v : ℕ) → e < length (p .symmetries) → x < p .variables → T (has (at (p .initial) x) v) → PairStored images (initialOf numbers x) (192 * e + 16 * x) v new
   point e x v k l t =
       let d = Pairs.init-lt p wf x v l t in

@@ -1,34 +1,23 @@
 -- Images of pairs, and of the smaller values of a variable. Assumes nothing.
-use mathlib.Core.Path.{_≡_, refl, sym, ap, ap₂, _∙_, subst}
-use mathlib.Core.Bool.{Bool, false}
-use mathlib.Core.Logic.{⊎-elim}
-use mathlib.Core.List.{List, List·Memᴰ}
-use Prim.Native.Nat.{ℕ, _+_, _*_, _/_, _%_, _^_, _≤_, _<_}
-use native.Mathlib.Nat.{not-suc-le-zero}
-use native.Mathlib.Omega.{arith}
-use native.Mathlib.Decide.{ℕ-discrete}
-use lib.Dec.{T, eqb, ltb, ltb→lt, lt→ltb, eqb→eq}
-use lib.Bits.{bitOr, or-lt}
-use lib.Pow.{pow-lt}
-use lib.ListN.{length, set, length-set, replicate}
-use borrow.Author.Tests.{eq-eqb, ne-eqb}
-use Rattle.model.specs.Lists.{any, at, keep, both, either}
-use Rattle.model.specs.ValueSets.{has, fullMask, onlyMask, unionMask, members}
-use Rattle.model.specs.Filling.{Filled}
-use Rattle.model.proofs.Lists.{T-ext, T-of, of-T, of-not, not-of, both-i, both-l, both-r, either-l, either-r, either-e, any-i, any-e, keep-i, keep-e, at-set, at-set-other, at-replicate}
-use Rattle.model.proofs.Sets.{has-none, has-mask, mask-lt, mask-ext, members-i, members-e}
-use Rattle.model.proofs.Masks.{has-or, has-one, union-op}
-use Rattle.model.proofs.Members.{both-no, either-no, one-op}
-use Rattle.arrays.specs.Places.{OWN, SMALLER, TABLES}
-use Rattle.arrays_tables.specs.Steps.{initialOf, smallerOf, PairStored, VariableStored, EarlierKept, PairsStored, SymmetryStored, SymmetriesStored}
+use Rattle.model.specs.Kit.{_≡_, refl, sym, ap, ap₂, _∙_, subst, Bool, false, ⊎-elim, List, List·Memᴰ, ℕ, _+_, _*_, _/_, _%_, _^_, _≤_, _<_, not-suc-le-zero, arith, ℕ-discrete, T}
+use Rattle.model.specs.Kit.{eqb, ltb, ltb→lt, lt→ltb, eqb→eq, bitOr, or-lt, pow-lt, length, set, length-set, replicate, eq-eqb, ne-eqb}
+use Rattle.model.specs.{Lists.any, Lists.at, Lists.keep, Lists.both, Lists.either, ValueSets.has, ValueSets.fullMask, ValueSets.onlyMask, ValueSets.unionMask, ValueSets.members}
+use Rattle.model.specs.inner.Filling.{Filled}
+use Rattle.model.proofs.Lists.{T-ext, T-of, of-T, of-not, not-of, both-i, both-l, both-r, either-l, either-r, either-e, any-i, any-e, keep-i, keep-e, at-set, at-set-other}
+use Rattle.model.proofs.{Lists.at-replicate, Lists.both-false, Sets.has-none, Sets.has-mask, Sets.mask-lt, Sets.mask-ext, Sets.members-i, Sets.members-e, Masks.has-or}
+use Rattle.model.proofs.{Masks.has-one, Masks.union-op, Members.either-no, Members.one-op}
+use Rattle.arrays.specs.inner.Places.{OWN, SMALLER, TABLES}
+use Rattle.arrays_tables.specs.inner.Steps.{initialOf, smallerOf, PairStored, VariableStored, EarlierKept, PairsStored, SymmetryStored, SymmetriesStored}
 
 -- ---- the images of the smaller values
 module _ (f : ℕ → ℕ) (m : ℕ) where
   -- one value more
-  any-more : (v y w : ℕ) → v < 16 → any (λ u. eqb (f u) (16 * y + w)) (keep (λ u. ltb u (v + 1)) (members m)) ≡ either (any (λ u. eqb (f u) (16 * y + w)) (keep (λ u. ltb u v) (members m))) (both (has m v) (eqb (f v) (16 * y + w)))
+  any-more : (v y w : ℕ) → v < 16 → any (λ u. eqb (f u) (16 * y + w)) (keep (λ u. ltb u (v + 1)) (members m)) ≡ either (any (λ u. eqb (f u) (16 * y + w)) (keep (λ u. ltb u v) (members m)))
+      (both (has m v) (eqb (f v) (16 * y + w)))
   any-more v y w h = T-ext _ _ there back
     where
-      there : T (any (λ u. eqb (f u) (16 * y + w)) (keep (λ u. ltb u (v + 1)) (members m))) → T (either (any (λ u. eqb (f u) (16 * y + w)) (keep (λ u. ltb u v) (members m))) (both (has m v) (eqb (f v) (16 * y + w))))
+      there : T (any (λ u. eqb (f u) (16 * y + w)) (keep (λ u. ltb u (v + 1)) (members m))) → T
+          (either (any (λ u. eqb (f u) (16 * y + w)) (keep (λ u. ltb u v) (members m))) (both (has m v) (eqb (f v) (16 * y + w))))
       there t =
           let r = any-e _ _ t in
           let k = keep-e _ _ _ (r .1) in
@@ -43,7 +32,8 @@ module _ (f : ℕ → ℕ) (m : ℕ) where
               let b : u < v = omega arith in
               either-l (any (λ u. eqb (f u) (16 * y + w)) (keep (λ u. ltb u v) (members m))) _ (any-i _ _ u (keep-i _ _ u i (lt→ltb u v b)) q)
 
-      back : T (either (any (λ u. eqb (f u) (16 * y + w)) (keep (λ u. ltb u v) (members m))) (both (has m v) (eqb (f v) (16 * y + w)))) → T (any (λ u. eqb (f u) (16 * y + w)) (keep (λ u. ltb u (v + 1)) (members m)))
+      back : T (either (any (λ u. eqb (f u) (16 * y + w)) (keep (λ u. ltb u v) (members m))) (both (has m v) (eqb (f v) (16 * y + w)))) → T
+          (any (λ u. eqb (f u) (16 * y + w)) (keep (λ u. ltb u (v + 1)) (members m)))
       back t = ⊎-elim old new (either-e (any (λ u. eqb (f u) (16 * y + w)) (keep (λ u. ltb u v) (members m))) _ t)
         where
           old : T (any (λ u. eqb (f u) (16 * y + w)) (keep (λ u. ltb u v) (members m))) → T (any (λ u. eqb (f u) (16 * y + w)) (keep (λ u. ltb u (v + 1)) (members m)))
@@ -78,8 +68,10 @@ module _ (f : ℕ → ℕ) (m : ℕ) where
 
   pub smaller-more : (v y : ℕ) → v < 16 → T (has m v) → y ≡ f v / 16 → bitOr (smallerOf f m v y) (2 ^ (f v % 16)) ≡ smallerOf f m (v + 1) y
   smaller-more v y h t e =
-      mask-ext 16 (bitOr (smallerOf f m v y) (2 ^ (f v % 16))) (smallerOf f m (v + 1) y) (or-lt 16 (smallerOf f m v y) (2 ^ (f v % 16)) (mask-lt 16 _) (pow-lt (let q : f v % 16 < 16 = omega arith in q))) (mask-lt 16 _)
-      (λ w l. has-or (smallerOf f m v y) (2 ^ (f v % 16)) w ∙ ap (either (has (smallerOf f m v y) w)) (has-one (f v % 16) w ∙ hit w l ∙ ap (λ (b : Bool). both b (eqb (f v) (16 * y + w))) (sym (of-T (has m v) t))) ∙ sym (more-has v y w h l))
+      mask-ext 16 (bitOr (smallerOf f m v y) (2 ^ (f v % 16))) (smallerOf f m (v + 1) y) (or-lt 16 (smallerOf f m v y) (2 ^ (f v % 16)) (mask-lt 16 _)
+      (pow-lt (let q : f v % 16 < 16 = omega arith in q))) (mask-lt 16 _)
+      (λ w l. has-or (smallerOf f m v y) (2 ^ (f v % 16)) w ∙ ap (either (has (smallerOf f m v y) w))
+      (has-one (f v % 16) w ∙ hit w l ∙ ap (λ (b : Bool). both b (eqb (f v) (16 * y + w))) (sym (of-T (has m v) t))) ∙ sym (more-has v y w h l))
     where
       hit : (w : ℕ) → w < 16 → eqb w (f v % 16) ≡ eqb (f v) (16 * y + w)
       hit w l = T-ext _ _
@@ -120,7 +112,8 @@ module _ (images : List ℕ) (m from v : ℕ) (old new sets : List ℕ) (room : 
       stored u l t (yes q) = absurd (of-not (has m v) e (subst (λ (z : ℕ). T (has m z)) q t))
       stored u l t (no n) = d .stored u (omega arith) t
 
-  module _ (filled : List ℕ) (r : Filled (λ i. SMALLER + 16 * (from + v) + i) (λ i w. w ≡ at sets i) 16 new filled) (y : ℕ) (img : y ≡ at images (from + v)) (byte : y < 256) (t : T (has m v)) (long : length new ≡ TABLES)
+  module _ (filled : List ℕ) (r : Filled (λ i. SMALLER + 16 * (from + v) + i) (λ i w. w ≡ at sets i) 16 new filled) (y : ℕ) (img : y ≡ at images (from + v)) (byte : y < 256) (t : T (has m v))
+      (long : length new ≡ TABLES)
       (one more : ℕ) (on : one ≡ onlyMask (fullMask 16) (y % 16)) (mo : more ≡ unionMask (at sets (y / 16)) one) where
     kept-here : EarlierKept (from + v) new (set filled (OWN + (from + v)) y)
     kept-here = record {
@@ -152,7 +145,7 @@ module _ (images : List ℕ) (m from v : ℕ) (old new sets : List ℕ) (room : 
         ∙ smaller-more (λ u. at images (from + u)) m v z h t k
     held-more z l (no n) =
         at-set-other sets (y / 16) _ z n ∙ d .held z l
-        ∙ smaller-same (λ u. at images (from + u)) m v z h (λ w k. ap (both (has m v)) (ne-eqb _ _ (λ e. n (let q : y ≡ 16 * z + w = img ∙ e in omega arith))) ∙ both-no (has m v))
+        ∙ smaller-same (λ u. at images (from + u)) m v z h (λ w k. ap (both (has m v)) (ne-eqb _ _ (λ e. n (let q : y ≡ 16 * z + w = img ∙ e in omega arith))) ∙ both-false (has m v))
 
     pub pair-more : PairsStored images m from (v + 1) old (set filled (OWN + (from + v)) y) (set sets (y / 16) more)
     pair-more = record {
@@ -182,7 +175,8 @@ pairs-end images m from i old new sets h d = (λ v l t. d .stored v (omega arith
 pub symmetry-begin : (numbers images : List ℕ) (from : ℕ) (l : List ℕ) → SymmetryStored numbers images from 0 l l
 symmetry-begin numbers images from l = record { stored = λ x h. absurd (not-suc-le-zero h); kept = kept-refl from l }
 
-pub symmetry-turn : (numbers images : List ℕ) (from i m : ℕ) (old new next : List ℕ) → m ≡ initialOf numbers i → SymmetryStored numbers images from i old new → VariableStored images m (from + 16 * i) next × EarlierKept (from + 16 * i) new next →
+pub symmetry-turn : (numbers images : List ℕ) (from i m : ℕ) (old new next : List ℕ) → m ≡ initialOf numbers i → SymmetryStored numbers images from i old new → VariableStored images m
+    (from + 16 * i) next × EarlierKept (from + 16 * i) new next →
     SymmetryStored numbers images from (i + 1) old next
 symmetry-turn numbers images from i m old new next f s r = record { stored = λ x h. go x h (ℕ-discrete x i); kept = kept-then from (from + 16 * i) old new next (omega arith) (s .kept) (r .1) }
   where
@@ -197,7 +191,8 @@ symmetry-end numbers images from i n old new h s = record { stored = λ x l. s .
 pub symmetries-begin : (numbers images : List ℕ) (n : ℕ) (l : List ℕ) → SymmetriesStored numbers images n 0 l l
 symmetries-begin numbers images n l = record { stored = λ e x h. absurd (not-suc-le-zero h); kept = kept-refl 0 l }
 
-pub symmetries-turn : (numbers images : List ℕ) (n i : ℕ) (old new next : List ℕ) → n ≤ 12 → SymmetriesStored numbers images n i old new → SymmetryStored numbers images (192 * i) n new next → SymmetriesStored numbers images n (i + 1) old next
+pub symmetries-turn : (numbers images : List ℕ) (n i : ℕ) (old new next : List ℕ) → n ≤ 12 → SymmetriesStored numbers images n i old new → SymmetryStored numbers images (192 * i) n new next
+    → SymmetriesStored numbers images n (i + 1) old next
 symmetries-turn numbers images n i old new next few s r = record { stored = λ e x h l. go e x h l (ℕ-discrete e i); kept = kept-then 0 (192 * i) old new next (omega arith) (s .kept) (r .kept) }
   where
     go : (e x : ℕ) → e < i + 1 → x < n → Dec (e ≡ i) → VariableStored images (initialOf numbers x) (192 * e + 16 * x) next

@@ -1,22 +1,11 @@
 -- Numbers of eight lanes: eight sets in one number, and all of the lanes of a set. Assumes nothing.
-use mathlib.Core.Path.{_≡_, refl, sym, ap, _∙_, subst}
-use mathlib.Core.List.{List}
-use Prim.Native.Nat.{ℕ, zero, suc, _+_, _-_, _*_, _/_, _%_, _^_, _≤_, _<_}
-use native.Mathlib.Nat.{mul-le-mul}
-use native.Mathlib.Omega.{arith}
-use lib.Bits.{bitAnd}
-use lib.Dec.{eqb, lit<}
-use lib.ListN.{length, set, length-set}
+use Rattle.model.specs.Kit.{_≡_, refl, sym, ap, _∙_, subst, List, ℕ, zero, suc, _+_, _-_, _*_, _/_, _%_, _^_, _≤_, _<_, mul-le-mul, arith, bitAnd, eqb, lit<, length, set}
+use Rattle.model.specs.Kit.{length-set, lt-ltb}
 use lib.Pow.{pow-add, pow-mono, pow-pos}
-use borrow.Author.Tests.{lt-ltb}
-use Rattle.model.specs.Lists.{at}
-use Rattle.model.specs.ValueSets.{has}
-use Rattle.model.specs.Filling.{Filled}
-use Rattle.model.proofs.Lists.{at-set, at-set-other}
-use Rattle.model.proofs.Sets.{has-zero, has-suc, has-none, pow2}
-use Rattle.model.proofs.Masks.{has-ones, byte-has, byte-lt}
-use Rattle.arrays.specs.Places.{SPREAD}
-use Rattle.arrays_tables.specs.Steps.{Lanes, Spread}
+use Rattle.model.specs.{Lists.at, ValueSets.has, inner.Filling.Filled}
+use Rattle.model.proofs.{Lists.at-set, Lists.at-set-other, Sets.has-zero, Sets.has-suc, Sets.has-none, Sets.pow2, Masks.has-ones, Masks.byte-has, Masks.byte-lt}
+use Rattle.arrays.specs.inner.Places.{SPREAD}
+use Rattle.arrays_tables.specs.inner.Steps.{Lanes, Spread}
 use Rattle.arrays_tables.proofs.Bits.{low-bits, high-bits}
 
 -- ---- one lane more in front

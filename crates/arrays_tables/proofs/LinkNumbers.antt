@@ -1,28 +1,13 @@
 -- The numbers of the constraints that are pruned by variable. Assumes nothing.
-use mathlib.Core.Path.{_≡_, sym, ap, ap₂, _∙_, subst}
-use mathlib.Core.Bool.{true, not}
-use mathlib.Core.List.{List}
-use Prim.Native.Nat.{ℕ, _+_, _-_, _^_, _≤_, _<_}
-use native.Mathlib.Nat.{lt-of-le-of-lt}
-use native.Mathlib.Omega.{arith}
-use lib.Bits.{bitAnd, and-le-l}
-use lib.Dec.{T, eqb}
-use lib.ListN.{length, set, length-set}
-use borrow.Author.Tests.{ne-eqb}
-use Rattle.model.specs.Lists.{any, at, both}
-use Rattle.model.specs.ValueSets.{has}
-use Rattle.model.specs.Problem.{Problem}
-use Rattle.model.specs.WellFormed.{WellFormed}
-use Rattle.model.specs.Filling.{Filled, Gathered}
-use Rattle.model.proofs.Lists.{T-of, among-e, at-set, at-set-other}
-use Rattle.model.proofs.Masks.{has-and, has-not}
-use Rattle.model.proofs.Members.{has-0, and-i}
-use Rattle.arrays.specs.Places.{BY-ROWS, CONSTRAINTS, LINKED, LOOSE, OTHERS, VARIABLES, NUMBERS}
-use Rattle.arrays.specs.Layout.{constraintAt, Numbers}
-use Rattle.arrays.specs.Tables.{byRows}
+use Rattle.model.specs.Kit.{_≡_, sym, ap, ap₂, _∙_, subst, true, not, List, ℕ, _+_, _-_, _^_, _≤_, _<_, lt-of-le-of-lt, arith, bitAnd, and-le-l, T, eqb, length, set, length-set}
+use Rattle.model.specs.Kit.{ne-eqb}
+use Rattle.model.specs.{Lists.any, Lists.at, Lists.both, ValueSets.has, Problem.Problem, Problem.constraintAt, WellFormed.WellFormed, inner.Filling.Filled, inner.Filling.Gathered}
+use Rattle.model.proofs.{Lists.T-of, Lists.among-e, Lists.at-set, Lists.at-set-other, Masks.has-and, Masks.has-not, Members.has-0, Members.and-i, Filling.gathered-is}
+use Rattle.model.proofs.Filling.{gathered-lt}
+use Rattle.arrays.specs.inner.Places.{BY-ROWS, CONSTRAINTS, LINKED, LOOSE, OTHERS, VARIABLES, NUMBERS}
+use Rattle.arrays.specs.{inner.Layout.Numbers, inner.Tables.byRows}
 use Rattle.arrays.proofs.Links.{good}
-use Rattle.arrays_tables.specs.Steps.{LinkedFirst, LinkNumbers}
-use Rattle.model.proofs.Filling.{gathered-is, gathered-lt}
+use Rattle.arrays_tables.specs.inner.Steps.{LinkedFirst, LinkNumbers}
 
 -- two sets with a common member meet
 meet : (a b k : ℕ) → T (has a k) → T (has b k) → not (eqb (bitAnd a b) 0) ≡ true

@@ -1,21 +1,9 @@
 -- The constraints on three variables that are looked up at a depth. Assumes nothing.
-use mathlib.Core.Path.{_≡_, sym, ap, _∙_, subst}
-use mathlib.Core.Bool.{Bool}
-use mathlib.Core.List.{List}
-use Prim.Native.Nat.{ℕ, _+_, _*_, _/_, _%_, _≤_, _<_}
-use native.Mathlib.Omega.{arith}
-use lib.Dec.{T, eqb, ltb, eqb→eq}
-use lib.ListN.{length}
-use Rattle.model.specs.Lists.{at}
-use Rattle.model.specs.ValueSets.{has}
-use Rattle.model.specs.Problem.{Problem}
-use Rattle.model.specs.Filling.{Gathered}
-use Rattle.model.proofs.Lists.{both-r}
-use Rattle.model.proofs.Filling.{gathered-lt}
-use Rattle.arrays.specs.Places.{SCOPES, CONSTRAINTS, LINKED}
-use Rattle.arrays.specs.Layout.{Numbers}
-use Rattle.arrays.specs.Tables.{LooksUp}
-use Rattle.arrays_tables.specs.Steps.{LookScopes}
+use Rattle.model.specs.Kit.{_≡_, sym, ap, _∙_, subst, Bool, List, ℕ, _+_, _*_, _/_, _%_, _≤_, _<_, arith, T, eqb, ltb, eqb→eq, length}
+use Rattle.model.specs.{Lists.at, ValueSets.has, Problem.Problem, inner.Filling.Gathered}
+use Rattle.model.proofs.{Lists.both-r, Filling.gathered-lt}
+use Rattle.arrays.specs.{inner.Places.SCOPES, inner.Places.CONSTRAINTS, inner.Places.LINKED, inner.Layout.Numbers, inner.Tables.LooksUp}
+use Rattle.arrays_tables.specs.inner.Steps.{LookScopes}
 
 -- the test of constraint c, whose arity and second variable are compared at once
 abbrev pub isLook : List ℕ → ℕ → ℕ → Bool
@@ -23,7 +11,8 @@ isLook numbers k c = eqb (at numbers (SCOPES + c) % 256 + 256 * (at numbers (SCO
 
 pub look-scopes : (numbers : List ℕ) (k r : ℕ) → Gathered (isLook numbers k) (at numbers CONSTRAINTS) r → LookScopes numbers k r
 look-scopes numbers k r g c t =
-    let e : at numbers (SCOPES + c) % 256 + 256 * (at numbers (SCOPES + c) / 65536 % 256 + 1) ≡ 3 + 256 * k = eqb→eq _ _ (both-r (ltb c (at numbers CONSTRAINTS)) (isLook numbers k c) (subst T (g .has-is c) t)) in
+    let e : at numbers (SCOPES + c) % 256 + 256 * (at numbers (SCOPES + c) / 65536 % 256 + 1) ≡ 3 + 256 * k = eqb→eq _ _
+    (both-r (ltb c (at numbers CONSTRAINTS)) (isLook numbers k c) (subst T (g .has-is c) t)) in
     (gathered-lt (isLook numbers k) (at numbers CONSTRAINTS) r c g t, omega arith, omega arith)
 
 -- they are read from numbers before LINKED

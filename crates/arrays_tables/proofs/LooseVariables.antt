@@ -1,22 +1,10 @@
 -- Loose variables. Assumes nothing.
-use mathlib.Core.Path.{_≡_, sym, subst}
-use mathlib.Core.Bool.{Bool, true, false, not}
-use mathlib.Core.Logic.{_⊎_, inl, inr, ⊎-elim}
-use mathlib.Core.List.{List}
-use Prim.Native.Nat.{ℕ, _+_, _*_, _≤_, _<_}
-use native.Mathlib.Nat.{not-suc-le-zero}
-use native.Mathlib.Omega.{arith}
-use native.Mathlib.Decide.{ℕ-discrete}
-use lib.Bits.{bitOr}
-use lib.Dec.{T, eqb, eqb→eq}
-use Rattle.model.specs.Lists.{at, both, either}
-use Rattle.model.specs.ValueSets.{has, unionMask, commonMask, oneIf}
-use Rattle.model.proofs.Lists.{of-T, of-not, both-i, both-l, both-r, either-l, either-r, either-e}
-use Rattle.model.proofs.Sets.{mask-i}
-use Rattle.model.proofs.Masks.{has-oneIf}
+use Rattle.model.specs.Kit.{_≡_, sym, subst, Bool, true, false, not, _⊎_, inl, inr, ⊎-elim, List, ℕ, _+_, _*_, _≤_, _<_, not-suc-le-zero, arith, ℕ-discrete, bitOr, T, eqb, eqb→eq}
+use Rattle.model.specs.{Lists.at, Lists.both, Lists.either, ValueSets.has, ValueSets.unionMask, ValueSets.commonMask, ValueSets.oneIf}
+use Rattle.model.proofs.{Lists.of-T, Lists.of-not, Lists.both-i, Lists.both-l, Lists.both-r, Lists.either-l, Lists.either-r, Lists.either-e, Sets.mask-i, Masks.has-oneIf}
 use Rattle.model.proofs.Members.{has-0, or-e}
-use Rattle.arrays.specs.Places.{VARIABLES}
-use Rattle.arrays_tables.specs.Steps.{initialOf, Refused, Twice, LooseTo, LooseSet}
+use Rattle.arrays.specs.inner.Places.{VARIABLES}
+use Rattle.arrays_tables.specs.inner.Steps.{initialOf, Refused, Twice, LooseTo, LooseSet}
 
 -- ---- one value
 pub refused-none : (tables : List ℕ) (m from v : ℕ) → has m v ≡ false → Refused tables m from v 0
@@ -56,13 +44,20 @@ in-union s t r w e l (inr q) = subst (λ (n : ℕ). T (has n w)) (sym e) (mask-i
 in-common : (s t r w : ℕ) → r ≡ commonMask s t → w < 16 → T (both (has s w) (has t w)) → T (has r w)
 in-common s t r w e l q = subst (λ (n : ℕ). T (has n w)) (sym e) (mask-i _ w l q)
 
-module _ (tables : List ℕ) (m from i once all r : ℕ) (s : RefusedSoFar tables m from i once all) (q : Refused tables m from i r) (common once′ all′ : ℕ) (ec : common ≡ commonMask once r) (eo : once′ ≡ unionMask once r) (ea : all′ ≡ unionMask all common) where
+module _ (tables : List ℕ) (m from i once all r : ℕ) (s : RefusedSoFar tables m from i once all) (q : Refused tables m from i r) (common once′ all′ : ℕ) (ec : common ≡ commonMask once r)
+    (eo : once′ ≡ unionMask once r) (ea : all′ ≡ unionMask all common) where
   pub refused-turn : RefusedSoFar tables m from (i + 1) once′ all′
   refused-turn = record { one = λ v l. one v l (ℕ-discrete v i); two = record { refused = λ u v k l a b w h. two u v k l a b w h (ℕ-discrete v i) } }
     where
       one : (v : ℕ) → v < i + 1 → Dec (v ≡ i) → Refused tables m from v once′
-      one v l (yes e) = record { refused = λ t w h. subst (λ (z : ℕ). T (either (has (at tables (from + 16 * z)) w) (has once′ w))) (sym e) (either-map (has (at tables (from + 16 * i)) w) (has r w) (has once′ w) (λ t. in-union once r once′ w eo h (inr t)) (q .refused (subst (λ (z : ℕ). T (has m z)) e t) w h)) }
-      one v l (no n) = record { refused = λ t w h. either-map (has (at tables (from + 16 * v)) w) (has once w) (has once′ w) (λ t. in-union once r once′ w eo h (inl t)) (s .one v (omega arith) .refused t w h) }
+      one v l (yes e) = record {
+        refused = λ t w h. subst (λ (z : ℕ). T (either (has (at tables (from + 16 * z)) w) (has once′ w))) (sym e)
+            (either-map (has (at tables (from + 16 * i)) w) (has r w) (has once′ w) (λ t. in-union once r once′ w eo h (inr t)) (q .refused (subst (λ (z : ℕ). T (has m z)) e t) w h));
+      }
+      one v l (no n) = record {
+        refused = λ t w h. either-map (has (at tables (from + 16 * v)) w) (has once w) (has once′ w) (λ t. in-union once r once′ w eo h (inl t))
+            (s .one v (omega arith) .refused t w h);
+      }
 
       two : (u v : ℕ) → u < v → v < i + 1 → T (has m u) → T (has m v) → (w : ℕ) → w < 16 → Dec (v ≡ i) →
           T (either (either (has (at tables (from + 16 * u)) w) (has (at tables (from + 16 * v)) w)) (has all′ w))
@@ -82,7 +77,8 @@ refused-end tables m from i once all h s = record { refused = λ u v k l. s .two
 pub loose-begin : (numbers tables : List ℕ) (x : ℕ) → LooseTo numbers tables x 0
 loose-begin numbers tables x = record { goes = λ u v y w l. absurd (not-suc-le-zero l) }
 
-pub loose-turn : (numbers tables : List ℕ) (x i m r lost : ℕ) → m ≡ initialOf numbers x → LooseTo numbers tables x i → Twice tables m (256 * x + i) 16 r → lost ≡ commonMask r (initialOf numbers i) → lost ≡ 0 → LooseTo numbers tables x (i + 1)
+pub loose-turn : (numbers tables : List ℕ) (x i m r lost : ℕ) → m ≡ initialOf numbers x → LooseTo numbers tables x i → Twice tables m (256 * x + i) 16 r → lost ≡ commonMask r (initialOf numbers i)
+    → lost ≡ 0 → LooseTo numbers tables x (i + 1)
 loose-turn numbers tables x i m r lost f s g e z = record { goes = λ u v y w l k h a b c d. go u v y w l k h a b c d (ℕ-discrete y i) }
   where
     t : Twice tables (initialOf numbers x) (256 * x + i) 16 r
@@ -92,7 +88,8 @@ loose-turn numbers tables x i m r lost f s g e z = record { goes = λ u v y w l 
         T (either (has (at tables (256 * x + y + 16 * u)) w) (has (at tables (256 * x + y + 16 * v)) w))
     go u v y w l k h a b c d (yes q) =
         subst (λ (j : ℕ). T (either (has (at tables (256 * x + j + 16 * u)) w) (has (at tables (256 * x + j + 16 * v)) w))) (sym q)
-        (⊎-elim (λ j. j) (λ j. absurd (has-0 w (subst (λ (n : ℕ). T (has n w)) z (in-common r (initialOf numbers i) lost w e c (both-i (has r w) _ j (subst (λ (n : ℕ). T (has (initialOf numbers n) w)) q d))))))
+        (⊎-elim (λ j. j) (λ j. absurd (has-0 w (subst (λ (n : ℕ). T (has n w)) z (in-common r (initialOf numbers i) lost w e c
+        (both-i (has r w) _ j (subst (λ (n : ℕ). T (has (initialOf numbers n) w)) q d))))))
         (either-e (either (has (at tables (256 * x + i + 16 * u)) w) (has (at tables (256 * x + i + 16 * v)) w)) (has r w) (t .refused u v k h a b w c)))
     go u v y w l k h a b c d (no n) = s .goes u v y w (omega arith) k h a b c d
 

@@ -1,30 +1,19 @@
 -- The rows of constraints on two variables, one constraint after another. Assumes nothing.
-use mathlib.Core.Path.{_≡_, refl, sym, ap, _∙_, subst, fun-ext}
-use mathlib.Core.Bool.{Bool, true, false, not}
-use mathlib.Core.List.{List, [], _∷_, List·Memᴰ, List·Memᴰ·head, List·Memᴰ·tail}
-use Prim.Native.Nat.{ℕ, zero, suc, _+_, _*_, _/_, _%_, _^_, _≤_, _<_}
-use native.Mathlib.Nat.{mod-eq-of-lt, lt-of-le-of-lt}
-use native.Mathlib.Omega.{arith}
-use native.Mathlib.Decide.{ℕ-discrete}
-use lib.Dec.{T, eqb, ltb, leb, leb·zero}
-use lib.ListN.{length}
-use lib.Bits.{bitAnd, and-le-r}
-use lib.Pow.{pow-mono, pow-lt}
-use borrow.Author.Tests.{eqb-true, eq-eqb, ne-eqb, lt-ltb, le-ltb, le-leb, lt-leb, leb-true, leb-false, ltb-true, ltb-false}
-use Rattle.model.specs.Lists.{any, at, same, both, either}
-use Rattle.model.specs.ValueSets.{has, maskOf, commonMask}
-use Rattle.model.specs.Problem.{Problem}
-use Rattle.model.specs.Filling.{Filled, Gathered}
-use Rattle.model.proofs.Lists.{T-of, of-T, of-not, list-2, at-set-other}
-use Rattle.model.proofs.Sets.{has-none, has-out, pow2, has-mask, mask-lt, mask-ext}
-use Rattle.model.proofs.Masks.{has-and, has-not, has-one, is-mask}
-use Rattle.model.proofs.Members.{both-no, common-op-r}
-use Rattle.model.proofs.Filling.{gathered-is}
-use Rattle.arrays.specs.Places.{SCOPES, BY-ROWS, LOOSE, SMALLER}
-use Rattle.arrays.specs.Layout.{constraintAt}
-use Rattle.arrays.specs.Tables.{linkOf, byRows, goes, Rows}
+use Rattle.model.specs.Kit.{_≡_, refl, sym, ap, _∙_, subst, Bool, true, false, not, List, [], _∷_, List·Memᴰ, List·Memᴰ·head, List·Memᴰ·tail, ℕ, zero, suc, _+_, _*_, _/_, _%_, _^_}
+use Rattle.model.specs.Kit.{_≤_, _<_, mod-eq-of-lt, lt-of-le-of-lt, arith, ℕ-discrete, T, eqb, ltb, leb, length, bitAnd, pow-lt, eqb-true, eq-eqb, ne-eqb, lt-ltb, le-ltb, le-leb}
+use Rattle.model.specs.Kit.{lt-leb, leb-true, leb-false, ltb-true, ltb-false}
+use mathlib.Core.Path.{fun-ext}
+use lib.Dec.{leb·zero}
+use lib.Bits.{and-le-r}
+use lib.Pow.{pow-mono}
+use Rattle.model.specs.{Lists.any, Lists.at, Lists.same, Lists.both, Lists.either, ValueSets.has, ValueSets.maskOf, ValueSets.commonMask, Problem.Problem, Problem.constraintAt}
+use Rattle.model.specs.inner.Filling.{Filled, Gathered}
+use Rattle.model.proofs.{Lists.T-of, Lists.of-T, Lists.of-not, Lists.list-2, Lists.at-set-other, Lists.both-false, Sets.has-none, Sets.has-out, Sets.pow2, Sets.has-mask}
+use Rattle.model.proofs.{Sets.mask-lt, Sets.mask-ext, Masks.has-and, Masks.has-not, Masks.has-one, Masks.is-mask, Members.common-op-r, Filling.gathered-is}
+use Rattle.arrays.specs.{inner.Places.SCOPES, inner.Places.BY-ROWS, inner.Places.LOOSE, inner.Places.SMALLER, inner.Tables.linkOf, inner.Tables.byRows, inner.Tables.goes}
+use Rattle.arrays.specs.inner.Tables.{Rows}
 use Rattle.arrays.proofs.Links.{good, scope-order, link-scope, by-rows-link, by-rows-two}
-use Rattle.arrays_tables.specs.Steps.{RowsSource, allowedTo, goesTo, RowsTo}
+use Rattle.arrays_tables.specs.inner.Steps.{RowsSource, allowedTo, goesTo, RowsTo}
 
 -- ---- no constraint yet
 all-go : (p : Problem) (x v y w : ℕ) → goesTo p 0 x v y w ≡ true
@@ -61,7 +50,8 @@ goes-other p i x v y m n = ap maskOf (fun-ext (λ w. go w (ltb x y)))
     step k a b q = ap (λ (t : Bool). either t (any (same (a ∷ b ∷ [])) (constraintAt p k .rows))) (other-link i k q)
 
     go : (w : ℕ) (t : Bool) →
-        _≡_ {A = Bool} (elim t [ true ↦ allowedTo p i (linkOf p x y) v w | false ↦ allowedTo p i (linkOf p y x) w v ]) (elim t [ true ↦ allowedTo p (i + 1) (linkOf p x y) v w | false ↦ allowedTo p (i + 1) (linkOf p y x) w v ])
+        _≡_ {A = Bool} (elim t [ true ↦ allowedTo p i (linkOf p x y) v w | false ↦ allowedTo p i (linkOf p y x) w v ])
+        (elim t [ true ↦ allowedTo p (i + 1) (linkOf p x y) v w | false ↦ allowedTo p (i + 1) (linkOf p y x) w v ])
     go w true = step (linkOf p x y) v w m
     go w false = step (linkOf p y x) w v n
 
@@ -87,11 +77,12 @@ meets-one s w one r l e m = go (has s w) refl
         ap not (ne-eqb r 0 (λ z. of-not (has r w) (ap (λ (n : ℕ). has n w) z ∙ has-none w)
         (T-of (has r w) (ap (λ (n : ℕ). has n w) is ∙ has-and s (2 ^ w) w ∙ ap (λ (b : Bool). both b (has (2 ^ w) w)) q ∙ has-one w w ∙ eq-eqb w w refl))))
     go false q =
-        ap not (eq-eqb r 0 (is ∙ mask-ext 16 (bitAnd s (2 ^ w)) 0 (lt-of-le-of-lt (and-le-r s (2 ^ w)) (pow-lt l)) (omega arith) (λ v k. has-and s (2 ^ w) v ∙ none v (ℕ-discrete v w) ∙ sym (has-none v))))
+        ap not (eq-eqb r 0 (is ∙ mask-ext 16 (bitAnd s (2 ^ w)) 0 (lt-of-le-of-lt (and-le-r s (2 ^ w)) (pow-lt l)) (omega arith)
+        (λ v k. has-and s (2 ^ w) v ∙ none v (ℕ-discrete v w) ∙ sym (has-none v))))
       where
         none : (v : ℕ) → Dec (v ≡ w) → both (has s v) (has (2 ^ w) v) ≡ false
         none v (yes z) = ap (λ (b : Bool). both b (has (2 ^ w) v)) (ap (has s) z ∙ q)
-        none v (no z) = ap (both (has s v)) (has-one w v ∙ ne-eqb v w z) ∙ both-no (has s v)
+        none v (no z) = ap (both (has s v)) (has-one w v ∙ ne-eqb v w z) ∙ both-false (has s v)
 
 below-power : (n : ℕ) → n < 2 ^ n
 below-power zero = omega arith
@@ -123,12 +114,14 @@ module _ (p : Problem) (numbers supports : List ℕ) (g : RowsSource p numbers s
     pub link : linkOf p x y ≡ i
 
   pub two-of : T (byRows p i) → TwoVariables (at numbers (SCOPES + i) / 256 % 16) (at numbers (SCOPES + i) / 65536 % 16)
-  two-of t = make (at (constraintAt p i .scope) 0) (at (constraintAt p i .scope) 1) (list-2 (constraintAt p i .scope) _ _ l refl refl) (g .numbered .scope i 0 h (omega (arith, l))) (g .numbered .scope i 1 h (omega (arith, l)))
+  two-of t = make (at (constraintAt p i .scope) 0) (at (constraintAt p i .scope) 1) (list-2 (constraintAt p i .scope) _ _ l refl refl) (g .numbered .scope i 0 h (omega (arith, l)))
+      (g .numbered .scope i 1 h (omega (arith, l)))
     where
       l : length (constraintAt p i .scope) ≡ 2
       l = by-rows-two p i t
 
-      make : (a b : ℕ) → constraintAt p i .scope ≡ a ∷ b ∷ [] → at numbers (SCOPES + i) / 256 % 256 ≡ a → at numbers (SCOPES + i) / 65536 % 256 ≡ b → TwoVariables (at numbers (SCOPES + i) / 256 % 16) (at numbers (SCOPES + i) / 65536 % 16)
+      make : (a b : ℕ) → constraintAt p i .scope ≡ a ∷ b ∷ [] → at numbers (SCOPES + i) / 256 % 256 ≡ a → at numbers (SCOPES + i) / 65536 % 256 ≡ b → TwoVariables
+          (at numbers (SCOPES + i) / 256 % 16) (at numbers (SCOPES + i) / 65536 % 16)
       make a b s u v =
           let o : a < b = scope-order (constraintAt p i) a b (good (g .wellFormed) i h) s in
           let n : b < p .variables = good (g .wellFormed) i h .inside b (subst (λ (z : List ℕ). List·Memᴰ b z) (sym s) (List·Memᴰ·tail (List·Memᴰ·head refl))) in
@@ -196,8 +189,10 @@ module _ (p : Problem) (numbers supports : List ℕ) (g : RowsSource p numbers s
             ap (at new) e ∙ t .here v hv ∙ over v hv
 
         go : Dec (a ≡ x) → Dec (b ≡ y) → Dec (a ≡ y) → Dec (b ≡ x) → at new (256 * a + 16 * v + b) ≡ maskOf (goesTo p (i + 1) a v b)
-        go (yes m) (yes n) c e = subst (λ (z : ℕ). at new (256 * z + 16 * v + b) ≡ maskOf (goesTo p (i + 1) z v b)) (sym m) (subst (λ (z : ℕ). at new (256 * x + 16 * v + z) ≡ maskOf (goesTo p (i + 1) x v z)) (sym n) here)
+        go (yes m) (yes n) c e = subst (λ (z : ℕ). at new (256 * z + 16 * v + b) ≡ maskOf (goesTo p (i + 1) z v b)) (sym m)
+            (subst (λ (z : ℕ). at new (256 * x + 16 * v + z) ≡ maskOf (goesTo p (i + 1) x v z)) (sym n) here)
         go (yes m) (no n) c e = other (λ q. n (q .1)) (λ q. omega arith)
-        go (no m) f (yes c) (yes e) = subst (λ (z : ℕ). at new (256 * z + 16 * v + b) ≡ maskOf (goesTo p (i + 1) z v b)) (sym c) (subst (λ (z : ℕ). at new (256 * y + 16 * v + z) ≡ maskOf (goesTo p (i + 1) y v z)) (sym e) back)
+        go (no m) f (yes c) (yes e) = subst (λ (z : ℕ). at new (256 * z + 16 * v + b) ≡ maskOf (goesTo p (i + 1) z v b)) (sym c)
+            (subst (λ (z : ℕ). at new (256 * y + 16 * v + z) ≡ maskOf (goesTo p (i + 1) y v z)) (sym e) back)
         go (no m) f (yes c) (no e) = other (λ q. m (q .0)) (λ q. e (q .1))
         go (no m) f (no c) e = other (λ q. m (q .0)) (λ q. c (q .0))

@@ -1,20 +1,8 @@
 -- The scope of a constraint on two variables, as the numbers hold it. Assumes nothing.
-use mathlib.Core.Path.{_≡_, refl, sym, ap, _∙_, subst}
-use mathlib.Core.Bool.{Bool, true, false}
-use mathlib.Core.List.{List, [], _∷_}
-use Prim.Native.Nat.{ℕ, _+_, _*_, _/_, _%_, _<_}
-use native.Mathlib.Omega.{arith}
-use native.Mathlib.Decide.{ℕ-discrete}
-use lib.Dec.{T, eqb}
-use lib.ListN.{length}
-use borrow.Author.Tests.{eq-eqb, ne-eqb}
-use Rattle.model.specs.Lists.{at, same, both}
-use Rattle.model.specs.Problem.{Problem}
-use Rattle.model.proofs.Lists.{of-T, of-not, not-of, same-eq, same-refl, list-2}
-use Rattle.model.proofs.Masks.{least-at, least-below}
-use Rattle.arrays.specs.Places.{SCOPES}
-use Rattle.arrays.specs.Layout.{constraintAt, Numbers}
-use Rattle.arrays.specs.Tables.{linkOf, byRows}
+use Rattle.model.specs.Kit.{_≡_, refl, sym, ap, _∙_, subst, Bool, true, false, List, [], _∷_, ℕ, _+_, _*_, _/_, _%_, _<_, arith, ℕ-discrete, T, eqb, length, eq-eqb, ne-eqb}
+use Rattle.model.specs.{Lists.at, Lists.same, Lists.both, Problem.Problem, Problem.constraintAt}
+use Rattle.model.proofs.{Lists.of-T, Lists.of-not, Lists.not-of, Lists.same-eq, Lists.same-refl, Lists.list-2, Masks.least-at, Masks.least-below}
+use Rattle.arrays.specs.{inner.Places.SCOPES, inner.Layout.Numbers, inner.Tables.linkOf, inner.Tables.byRows}
 use Rattle.arrays.proofs.Links.{by-rows-link}
 
 -- ---- as the numbers hold it
@@ -33,7 +21,8 @@ byte-2 m n e = second-byte m ∙ ap (λ (z : ℕ). z / 65536) e ∙ sym (second-
 module _ (p : Problem) (numbers : List ℕ) (nb : Numbers p numbers) where
   -- arity and scope in the first three bytes
   pub key-two : (k : ℕ) → k < length (p .constraints) → length (constraintAt p k .scope) ≡ 2 →
-      (at numbers (SCOPES + k) % 16777216 ≡ 2 + 256 * at (constraintAt p k .scope) 0 + 65536 * at (constraintAt p k .scope) 1) × (at (constraintAt p k .scope) 0 < 256) × (at (constraintAt p k .scope) 1 < 256)
+      (at numbers (SCOPES + k) % 16777216 ≡ 2 + 256 * at (constraintAt p k .scope) 0 + 65536 * at (constraintAt p k .scope) 1) × (at (constraintAt p k .scope) 0 < 256) ×
+      (at (constraintAt p k .scope) 1 < 256)
   key-two k h e =
       let a : at numbers (SCOPES + k) % 256 ≡ 2 = nb .arity k h ∙ e in
       let b : at numbers (SCOPES + k) / 256 % 256 ≡ at (constraintAt p k .scope) 0 = nb .scope k 0 h (omega arith) in
@@ -46,22 +35,27 @@ module _ (p : Problem) (numbers : List ℕ) (nb : Numbers p numbers) where
   module _ (k : ℕ) (h : k < length (p .constraints)) where
     pub first-other : (at numbers (SCOPES + k) % 16777216 % 256 ≡ 2 → ⊥) → false ≡ byRows p k
     unfolding byRows
-    first-other n = sym (ap (λ (b : Bool). both b (eqb (linkOf p (at (constraintAt p k .scope) 0) (at (constraintAt p k .scope) 1)) k)) (ne-eqb (length (constraintAt p k .scope)) 2 (λ (e : length (constraintAt p k .scope) ≡ 2). n (let a : at numbers (SCOPES + k) % 256 ≡ 2 = nb .arity k h ∙ e in omega arith))))
+    first-other n = sym (ap (λ (b : Bool). both b (eqb (linkOf p (at (constraintAt p k .scope) 0) (at (constraintAt p k .scope) 1)) k))
+        (ne-eqb (length (constraintAt p k .scope)) 2 (λ (e : length (constraintAt p k .scope) ≡ 2). n (let a : at numbers (SCOPES + k) % 256 ≡ 2 = nb .arity k h ∙ e in omega arith))))
 
     module _ (e : at numbers (SCOPES + k) % 16777216 % 256 ≡ 2) where
       scope : constraintAt p k .scope ≡ at (constraintAt p k .scope) 0 ∷ at (constraintAt p k .scope) 1 ∷ []
       scope = list-2 (constraintAt p k .scope) _ _ (arity-two k h e) refl refl
 
       -- a constraint with the same number has the same scope, and the other way round
-      same-scope : (i : ℕ) → i < length (p .constraints) → at numbers (SCOPES + i) % 16777216 ≡ at numbers (SCOPES + k) % 16777216 → constraintAt p i .scope ≡ at (constraintAt p k .scope) 0 ∷ at (constraintAt p k .scope) 1 ∷ []
+      same-scope : (i : ℕ) → i < length (p .constraints) → at numbers (SCOPES + i) % 16777216 ≡ at numbers (SCOPES + k) % 16777216 → constraintAt p i .scope ≡ at (constraintAt p k .scope) 0 ∷ at
+          (constraintAt p k .scope) 1 ∷ []
       same-scope i l q =
           let d : length (constraintAt p i .scope) ≡ 2 = arity-two i l (ap (λ (n : ℕ). n % 256) q ∙ e) in
           let c : length (constraintAt p k .scope) ≡ 2 = arity-two k h e in
-          let u : at (constraintAt p i .scope) 0 ≡ at (constraintAt p k .scope) 0 = sym (nb .scope i 0 l (omega arith)) ∙ byte-1 (at numbers (SCOPES + i)) (at numbers (SCOPES + k)) q ∙ nb .scope k 0 h (omega arith) in
-          let v : at (constraintAt p i .scope) 1 ≡ at (constraintAt p k .scope) 1 = sym (nb .scope i 1 l (omega arith)) ∙ byte-2 (at numbers (SCOPES + i)) (at numbers (SCOPES + k)) q ∙ nb .scope k 1 h (omega arith) in
+          let u : at (constraintAt p i .scope) 0 ≡ at (constraintAt p k .scope) 0 = sym (nb .scope i 0 l (omega arith)) ∙ byte-1 (at numbers (SCOPES + i)) (at numbers (SCOPES + k)) q
+          ∙ nb .scope k 0 h (omega arith) in
+          let v : at (constraintAt p i .scope) 1 ≡ at (constraintAt p k .scope) 1 = sym (nb .scope i 1 l (omega arith)) ∙ byte-2 (at numbers (SCOPES + i)) (at numbers (SCOPES + k)) q
+          ∙ nb .scope k 1 h (omega arith) in
           list-2 (constraintAt p i .scope) _ _ d u v
 
-      same-number : (i : ℕ) → i < length (p .constraints) → constraintAt p i .scope ≡ at (constraintAt p k .scope) 0 ∷ at (constraintAt p k .scope) 1 ∷ [] → at numbers (SCOPES + i) % 16777216 ≡ at numbers (SCOPES + k) % 16777216
+      same-number : (i : ℕ) → i < length (p .constraints) → constraintAt p i .scope ≡ at (constraintAt p k .scope) 0 ∷ at (constraintAt p k .scope) 1 ∷ [] → at numbers
+          (SCOPES + i) % 16777216 ≡ at numbers (SCOPES + k) % 16777216
       unfolding at
       same-number i l q =
           let d : length (constraintAt p i .scope) ≡ 2 = ap length q in
@@ -69,12 +63,14 @@ module _ (p : Problem) (numbers : List ℕ) (nb : Numbers p numbers) where
 
       pub first-no : (i : ℕ) → i < k → at numbers (SCOPES + i) % 16777216 ≡ at numbers (SCOPES + k) % 16777216 → false ≡ byRows p k
       unfolding linkOf
-      first-no i l q = sym (by-rows-link p k _ _ scope ∙ ne-eqb _ k (λ z. of-not _ (least-below (length (p .constraints)) (λ j. same (constraintAt p j .scope) (at (constraintAt p k .scope) 0 ∷ at (constraintAt p k .scope) 1 ∷ [])) i (omega arith))
+      first-no i l q = sym (by-rows-link p k _ _ scope ∙ ne-eqb _ k (λ z. of-not _ (least-below (length (p .constraints))
+          (λ j. same (constraintAt p j .scope) (at (constraintAt p k .scope) 0 ∷ at (constraintAt p k .scope) 1 ∷ [])) i (omega arith))
           (subst (λ (s : List ℕ). T (same (constraintAt p i .scope) s)) (same-scope i (omega arith) q) (same-refl (constraintAt p i .scope)))))
 
       pub first-yes : ((i : ℕ) → i < k → at numbers (SCOPES + i) % 16777216 ≡ at numbers (SCOPES + k) % 16777216 → ⊥) → true ≡ byRows p k
       unfolding linkOf
-      first-yes n = sym (by-rows-link p k _ _ scope ∙ eq-eqb _ k (least-at (length (p .constraints)) (λ j. same (constraintAt p j .scope) (at (constraintAt p k .scope) 0 ∷ at (constraintAt p k .scope) 1 ∷ [])) k h
+      first-yes n = sym (by-rows-link p k _ _ scope ∙ eq-eqb _ k (least-at (length (p .constraints))
+          (λ j. same (constraintAt p j .scope) (at (constraintAt p k .scope) 0 ∷ at (constraintAt p k .scope) 1 ∷ [])) k h
           (λ j l. not-of _ (λ t. n j l (same-number j (omega arith) (same-eq _ _ t))))
           (of-T _ (subst (λ (s : List ℕ). T (same (constraintAt p k .scope) s)) scope (same-refl (constraintAt p k .scope))))))
 

@@ -1,23 +1,10 @@
 -- Unions of numbers of eight lanes, and what they say of the support sets. Assumes nothing.
-use mathlib.Core.Path.{_≡_, refl, sym, ap, _∙_, subst, subst₂}
-use mathlib.Core.Bool.{Bool, true, false}
-use mathlib.Core.Logic.{inl, inr, ⊎-elim}
-use mathlib.Core.List.{List}
-use Prim.Native.Nat.{ℕ, zero, suc, _+_, _*_, _/_, _%_, _≤_, _<_}
-use native.Mathlib.Omega.{arith}
-use native.Mathlib.Decide.{ℕ-discrete}
-use lib.Bits.{bitOr}
-use lib.Dec.{T, lit<}
-use lib.ListN.{length}
-use Rattle.model.specs.Lists.{at, both, choose}
-use Rattle.model.specs.ValueSets.{has}
-use Rattle.model.specs.Filling.{Filled}
-use Rattle.model.proofs.Lists.{both-i, both-l, both-r}
-use Rattle.model.proofs.Sets.{has-none}
-use Rattle.model.proofs.Members.{or-i, or-e}
-use Rattle.arrays.specs.Places.{SCOPES, SPREAD, UNIONS}
-use Rattle.arrays.specs.Tables.{UnionOf, Words}
-use Rattle.arrays_tables.specs.Steps.{Lanes, Word, United, Unioned, Unions, Spread}
+use Rattle.model.specs.Kit.{_≡_, refl, sym, ap, _∙_, subst, subst₂, Bool, true, false, inl, inr, ⊎-elim, List, ℕ, zero, suc, _+_, _*_, _/_, _%_, _≤_, _<_, arith, ℕ-discrete, bitOr}
+use Rattle.model.specs.Kit.{T, lit<, length}
+use Rattle.model.specs.{Lists.at, Lists.both, Lists.choose, ValueSets.has, inner.Filling.Filled}
+use Rattle.model.proofs.{Lists.both-i, Lists.both-l, Lists.both-r, Sets.has-none, Members.or-i, Members.or-e}
+use Rattle.arrays.specs.{inner.Places.SCOPES, inner.Places.SPREAD, inner.Places.UNIONS, inner.Tables.UnionOf, inner.Tables.Words}
+use Rattle.arrays_tables.specs.inner.Steps.{Lanes, Word, United, Unioned, Unions, Spread}
 
 -- ---- four numbers from a base on, of which m has some
 picked : (c : Bool) (w b : ℕ) → has (choose c w 0) b ≡ both c (has w b)
@@ -37,11 +24,13 @@ module _ (m : ℕ) (words : List ℕ) (base : ℕ) where
   from : (i n b : ℕ) → i < 4 → Part i n → T (has n b) → (j : ℕ) × (j < 4) × T (has m j) × T (has (at words (base + j)) b)
   from i n b h e t = let u = subst T (is i n b e) t in (i, h, both-l (has m i) (has (at words (base + i)) b) u, both-r (has m i) (has (at words (base + i)) b) u)
 
-  pub united : (p q r s : ℕ) → p ≡ choose (has m 0) (at words base) 0 → q ≡ choose (has m 1) (at words (base + 1)) 0 → r ≡ choose (has m 2) (at words (base + 2)) 0 → s ≡ choose (has m 3) (at words (base + 3)) 0 →
+  pub united : (p q r s : ℕ) → p ≡ choose (has m 0) (at words base) 0 → q ≡ choose (has m 1) (at words (base + 1)) 0 → r ≡ choose (has m 2) (at words (base + 2)) 0 → s ≡ choose (has m 3)
+      (at words (base + 3)) 0 →
       United m (λ i. at words (base + i)) (bitOr (bitOr p q) (bitOr r s))
   united p q r s e eq er es = record {
     union-i = any;
-    union-e = λ b t. ⊎-elim (λ u. ⊎-elim (from 0 p b (lit< tt) ep) (from 1 q b (lit< tt) eq) (or-e p q b u)) (λ u. ⊎-elim (from 2 r b (lit< tt) er) (from 3 s b (lit< tt) es) (or-e r s b u)) (or-e (bitOr p q) (bitOr r s) b t);
+    union-e = λ b t. ⊎-elim (λ u. ⊎-elim (from 0 p b (lit< tt) ep) (from 1 q b (lit< tt) eq) (or-e p q b u)) (λ u. ⊎-elim (from 2 r b (lit< tt) er) (from 3 s b (lit< tt) es) (or-e r s b u))
+        (or-e (bitOr p q) (bitOr r s) b t);
   }
     where
       ep : Part 0 p
@@ -98,7 +87,8 @@ module _ (supports before old new : List ℕ) (s : Filled (λ b. SPREAD + b) Spr
   worded = record {
     spread = λ b j w hb hj hw. ap (λ (n : ℕ). has n (8 * j + w)) (u .kept (SPREAD + b) (omega arith)) ∙ s .here b hb .lanes j w hw;
     by-first = λ k h m hk t hh hm. union-of supports k h m _ _ (omega arith) (union-at k (16 * h + m) h m _ hk t (omega arith) (omega arith) (omega arith) (omega arith)) (first k h hh);
-    by-second = λ k h m hk t hh hm. union-of supports k (2 + h) m _ _ (omega arith) (union-at k (32 + 16 * h + m) (2 + h) m _ hk t (omega arith) (omega arith) (omega arith) (omega arith)) (second k h hh);
+    by-second = λ k h m hk t hh hm. union-of supports k (2 + h) m _ _ (omega arith) (union-at k (32 + 16 * h + m) (2 + h) m _ hk t (omega arith) (omega arith) (omega arith) (omega arith))
+        (second k h hh);
   }
     where
       first : (k h : ℕ) → h < 2 → (i r : ℕ) → i < 4 → Word supports k (4 * h + i) r → Lanes (λ j. at supports (256 * k + 16 * (4 * h + i) + j)) r

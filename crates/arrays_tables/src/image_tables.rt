@@ -13,9 +13,9 @@ ghost use mathlib.Core.List.{List};
 ghost use Prim.Native.Nat.{ℕ, _+_, _≤_, _<_};
 ghost use lib.ListN.{length};
 ghost use Rattle.model.specs.Lists.{at};
-ghost use Rattle.model.specs.Filling.{Filled};
-ghost use Rattle.arrays.specs.Places.{VARIABLES, SYMMETRIES, TABLES};
-ghost use Rattle.arrays_tables.specs.Steps.{PairsStored, VariableStored, EarlierKept, SymmetryStored, SymmetriesStored};
+ghost use Rattle.model.specs.inner.Filling.{Filled};
+ghost use Rattle.arrays.specs.inner.Places.{VARIABLES, SYMMETRIES, TABLES};
+ghost use Rattle.arrays_tables.specs.inner.Steps.{PairsStored, VariableStored, EarlierKept, SymmetryStored, SymmetriesStored};
 
 // Sixteen sets into the tables.
 fn store_sets(tables: &mut Tables, from: usize, sets: &[u16; 16])
@@ -47,7 +47,8 @@ fn pair(
     sets: &mut [u16; 16],
 )
     requires { ⌜ (from + 16 ≤ 3072) × (v < 16) × (length (now tables) ≡ TABLES) × (length (now sets) ≡ 16) ⌝ }
-    ensures { λ _. ⌜ ((old : List ℕ) → PairsStored (now (images .entry)) (m .bits) from v old (now (tables .entry)) (now (sets .entry)) → PairsStored (now (images .entry)) (m .bits) from (v + 1) old (now (tables .exit)) (now (sets .exit))) ⌝ }
+    ensures { λ _. ⌜ ((old : List ℕ) → PairsStored (now (images .entry)) (m .bits) from v old (now (tables .entry)) (now (sets .entry)) → PairsStored
+        (now (images .entry)) (m .bits) from (v + 1) old (now (tables .exit)) (now (sets .exit))) ⌝ }
 {
     if !m.contains(v) {
         return;
@@ -78,7 +79,8 @@ fn variable(images: &Images, m: ValueSet, from: usize, tables: &mut Tables)
 // The pairs of the symmetry whose images start there.
 fn symmetry(numbers: &Numbers, images: &Images, from: usize, tables: &mut Tables)
     requires { ⌜ (from + 192 ≤ 3072) × (at (now numbers) VARIABLES ≤ 12) × (length (now tables) ≡ TABLES) ⌝ }
-    ensures { λ _. ⌜ SymmetryStored (now (numbers .entry)) (now (images .entry)) from (at (now (numbers .entry)) VARIABLES) (now (tables .entry)) (now (tables .exit)) ⌝ }
+    ensures { λ _. ⌜ SymmetryStored (now (numbers .entry)) (now (images .entry)) from (at (now (numbers .entry)) VARIABLES) (now (tables .entry))
+        (now (tables .exit)) ⌝ }
 {
     let n = numbers[VARIABLES] as usize;
     let mut x = 0;
@@ -91,7 +93,8 @@ fn symmetry(numbers: &Numbers, images: &Images, from: usize, tables: &mut Tables
 // The pairs of every symmetry.
 pub fn image_tables(numbers: &Numbers, images: &Images, tables: &mut Tables)
     requires { ⌜ (at (now numbers) VARIABLES ≤ 12) × (at (now numbers) SYMMETRIES ≤ 16) × (length (now tables) ≡ TABLES) ⌝ }
-    ensures { λ _. ⌜ SymmetriesStored (now (numbers .entry)) (now (images .entry)) (at (now (numbers .entry)) VARIABLES) (at (now (numbers .entry)) SYMMETRIES) (now (tables .entry)) (now (tables .exit)) ⌝ }
+    ensures { λ _. ⌜ SymmetriesStored (now (numbers .entry)) (now (images .entry)) (at (now (numbers .entry)) VARIABLES)
+        (at (now (numbers .entry)) SYMMETRIES) (now (tables .entry)) (now (tables .exit)) ⌝ }
 {
     let g = numbers[SYMMETRIES] as usize;
     let mut e = 0;

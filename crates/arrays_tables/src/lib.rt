@@ -6,7 +6,7 @@ use arrays::Numbers;
 use arrays::Supports;
 use arrays::Tables;
 ghost use Rattle.model.specs.Problem.{Problem};
-ghost use Rattle.arrays_tables.specs.Index.{Compact, Made};
+ghost use Rattle.arrays_tables.specs.inner.Index.{Compact, Made};
 
 mod image_tables;
 mod linked;
@@ -20,7 +20,8 @@ mod words;
 
 pub fn index(numbers: &mut Numbers, supports: &Supports, images: &Images, tables: &mut Tables)
     requires { ⌜ ((p : Problem) × Compact p (now numbers) (now supports) (now images) (now tables)) ⌝ }
-    ensures { λ _. ⌜ ((p : Problem) → Compact p (now (numbers .entry)) (now (supports .entry)) (now (images .entry)) (now (tables .entry)) → Made p (now (numbers .entry)) (now (supports .entry)) (now (tables .entry)) (now (numbers .exit)) (now (tables .exit))) ⌝ }
+    ensures { λ _. ⌜ ((p : Problem) → Compact p (now (numbers .entry)) (now (supports .entry)) (now (images .entry)) (now (tables .entry)) → Made p
+        (now (numbers .entry)) (now (supports .entry)) (now (tables .entry)) (now (numbers .exit)) (now (tables .exit))) ⌝ }
 {
     linked::linked(numbers);
     rows::rows(numbers, supports, tables);

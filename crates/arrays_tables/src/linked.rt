@@ -15,11 +15,11 @@ ghost use lib.Dec.{eqb};
 ghost use lib.ListN.{length};
 ghost use Rattle.model.specs.Lists.{at};
 ghost use Rattle.model.specs.Problem.{Problem};
-ghost use Rattle.model.specs.Filling.{Filled, Gathered};
-ghost use Rattle.arrays.specs.Places.{VARIABLES, CONSTRAINTS, OTHERS, NUMBERS};
-ghost use Rattle.arrays.specs.Layout.{Numbers};
-ghost use Rattle.arrays.specs.Tables.{byRows};
-ghost use Rattle.arrays_tables.specs.Steps.{LinkNumbers};
+ghost use Rattle.model.specs.inner.Filling.{Filled, Gathered};
+ghost use Rattle.arrays.specs.inner.Places.{VARIABLES, CONSTRAINTS, OTHERS, NUMBERS};
+ghost use Rattle.arrays.specs.inner.Layout.{Numbers};
+ghost use Rattle.arrays.specs.inner.Tables.{byRows};
+ghost use Rattle.arrays_tables.specs.inner.Steps.{LinkNumbers};
 
 // Whether constraint k is the first on its two variables: an arity of 2 and two variables are the number's first three bytes.
 fn first(numbers: &Numbers, k: usize) -> bool
@@ -73,7 +73,8 @@ fn variables_of(numbers: &Numbers, set: u64) -> u64
 // For each variable the constraints outside a set that have it in their scope.
 fn others(numbers: &mut Numbers, set: u64)
     requires { ⌜ length (now numbers) ≡ NUMBERS ⌝ }
-    ensures { λ _. ⌜ Filled (λ x. OTHERS + x) (λ x r. r ≡ bitAnd (at (now (numbers .entry)) x) ((2 ^ 64 - 1) - set)) 16 (now (numbers .entry)) (now (numbers .exit)) ⌝ }
+    ensures { λ _. ⌜ Filled (λ x. OTHERS + x) (λ x r. r ≡ bitAnd (at (now (numbers .entry)) x) ((2 ^ 64 - 1) - set)) 16 (now (numbers .entry))
+        (now (numbers .exit)) ⌝ }
 {
     let mut x = 0;
     while x < 16 {

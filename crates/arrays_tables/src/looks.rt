@@ -9,9 +9,9 @@ ghost use mathlib.Core.Path.{_≡_};
 ghost use Prim.Native.Nat.{_+_, _≤_};
 ghost use lib.ListN.{length};
 ghost use Rattle.model.specs.Lists.{at};
-ghost use Rattle.model.specs.Filling.{Filled};
-ghost use Rattle.arrays.specs.Places.{CONSTRAINTS, LOOKS, NUMBERS};
-ghost use Rattle.arrays_tables.specs.Steps.{LookScopes};
+ghost use Rattle.model.specs.inner.Filling.{Filled};
+ghost use Rattle.arrays.specs.inner.Places.{CONSTRAINTS, LOOKS, NUMBERS};
+ghost use Rattle.arrays_tables.specs.inner.Steps.{LookScopes};
 
 // Those whose second variable is the last of the first k: an arity of 3 and that variable in one number.
 // None where there are fewer than nine values: there the numbers of lanes are faster.

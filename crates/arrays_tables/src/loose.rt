@@ -10,8 +10,8 @@ ghost use mathlib.Core.Path.{_≡_};
 ghost use mathlib.Core.Bool.{true};
 ghost use Prim.Native.Nat.{_≤_, _<_};
 ghost use Rattle.model.specs.Lists.{at};
-ghost use Rattle.arrays.specs.Places.{VARIABLES, SMALLER};
-ghost use Rattle.arrays_tables.specs.Steps.{Refused, Twice, LooseTo, LooseSet};
+ghost use Rattle.arrays.specs.inner.Places.{VARIABLES, SMALLER};
+ghost use Rattle.arrays_tables.specs.inner.Steps.{Refused, Twice, LooseTo, LooseSet};
 
 // What value v refuses, if it is in the set m.
 fn refused(tables: &Tables, m: ValueSet, from: usize, v: u16) -> ValueSet

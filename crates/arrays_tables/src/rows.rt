@@ -15,10 +15,10 @@ ghost use lib.ListN.{length};
 ghost use Rattle.model.specs.Lists.{at};
 ghost use Rattle.model.specs.ValueSets.{has, maskOf};
 ghost use Rattle.model.specs.Problem.{Problem};
-ghost use Rattle.model.specs.Filling.{Filled};
-ghost use Rattle.arrays.specs.Places.{CONSTRAINTS, SMALLER, SUPPORTS, TABLES};
-ghost use Rattle.arrays.specs.Tables.{Rows};
-ghost use Rattle.arrays_tables.specs.Steps.{RowsSource, RowsTo};
+ghost use Rattle.model.specs.inner.Filling.{Filled};
+ghost use Rattle.arrays.specs.inner.Places.{CONSTRAINTS, SMALLER, SUPPORTS, TABLES};
+ghost use Rattle.arrays.specs.inner.Tables.{Rows};
+ghost use Rattle.arrays_tables.specs.inner.Steps.{RowsSource, RowsTo};
 
 // At first every value goes with every pair.
 fn clear(tables: &mut Tables)
@@ -67,7 +67,8 @@ fn across(supports: &Supports, base: usize, from: usize, tables: &mut Tables)
 // The same the other way round.
 fn back(supports: &Supports, base: usize, from: usize, tables: &mut Tables)
     requires { ⌜ (base + 16 ≤ SUPPORTS) × (from + 256 ≤ TABLES) × (length (now tables) ≡ TABLES) ⌝ }
-    ensures { λ _. ⌜ Filled (λ w. from + 16 * w) (λ w r. r ≡ maskOf (λ v. has (at (now (supports .entry)) (base + v)) w)) 16 (now (tables .entry)) (now (tables .exit)) ⌝ }
+    ensures { λ _. ⌜ Filled (λ w. from + 16 * w) (λ w r. r ≡ maskOf (λ v. has (at (now (supports .entry)) (base + v)) w)) 16 (now (tables .entry))
+        (now (tables .exit)) ⌝ }
 {
     let mut w = 0;
     while w < 16 {
@@ -80,7 +81,9 @@ fn back(supports: &Supports, base: usize, from: usize, tables: &mut Tables)
 // The rows of constraint k, if it is pruned by variable.
 fn link(numbers: &Numbers, supports: &Supports, k: usize, tables: &mut Tables)
     requires { ⌜ (k < 32) × (length (now tables) ≡ TABLES) ⌝ }
-    ensures { λ _. ⌜ (length (now (tables .exit)) ≡ length (now (tables .entry))) × ((p : Problem) → RowsSource p (now (numbers .entry)) (now (supports .entry)) → k < length (p .constraints) → RowsTo p k (now (tables .entry)) → RowsTo p (k + 1) (now (tables .exit))) ⌝ }
+    ensures { λ _. ⌜ (length (now (tables .exit)) ≡ length (now (tables .entry))) ×
+        ((p : Problem) → RowsSource p (now (numbers .entry)) (now (supports .entry)) → k < length (p .constraints) → RowsTo p k (now (tables .entry))
+        → RowsTo p (k + 1) (now (tables .exit))) ⌝ }
 {
     if !contains(numbers[BY_ROWS], k) {
         return;
@@ -95,7 +98,8 @@ fn link(numbers: &Numbers, supports: &Supports, k: usize, tables: &mut Tables)
 // The rows of every variable, value and other variable.
 pub fn rows(numbers: &Numbers, supports: &Supports, tables: &mut Tables)
     requires { ⌜ (at (now numbers) CONSTRAINTS ≤ 32) × (length (now tables) ≡ TABLES) ⌝ }
-    ensures { λ _. ⌜ (length (now (tables .exit)) ≡ length (now (tables .entry))) × ((p : Problem) → RowsSource p (now (numbers .entry)) (now (supports .entry)) → Rows p (now (tables .exit))) ⌝ }
+    ensures { λ _. ⌜ (length (now (tables .exit)) ≡ length (now (tables .entry))) ×
+        ((p : Problem) → RowsSource p (now (numbers .entry)) (now (supports .entry)) → Rows p (now (tables .exit))) ⌝ }
 {
     clear(tables);
     let c = numbers[CONSTRAINTS] as usize;

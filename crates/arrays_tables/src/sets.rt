@@ -7,7 +7,7 @@ ghost use mathlib.Core.Path.{_≡_};
 ghost use mathlib.Core.Bool.{not};
 ghost use Prim.Native.Nat.{ℕ, _<_};
 ghost use Rattle.model.specs.ValueSets.{has, oneIf};
-ghost use Rattle.arrays_tables.specs.Steps.{initialOf};
+ghost use Rattle.arrays_tables.specs.inner.Steps.{initialOf};
 
 pub fn contains(s: u64, v: usize) -> bool
     requires { ⌜ v < 64 ⌝ }

@@ -4,9 +4,9 @@ use arrays::SPREAD;
 ghost use mathlib.Core.Path.{_≡_};
 ghost use Prim.Native.Nat.{_+_};
 ghost use lib.ListN.{length};
-ghost use Rattle.model.specs.Filling.{Filled};
-ghost use Rattle.arrays.specs.Places.{SPREAD, NUMBERS};
-ghost use Rattle.arrays_tables.specs.Steps.{Spread};
+ghost use Rattle.model.specs.inner.Filling.{Filled};
+ghost use Rattle.arrays.specs.inner.Places.{SPREAD, NUMBERS};
+ghost use Rattle.arrays_tables.specs.inner.Steps.{Spread};
 
 // Value v + 1 of a set is value v of its half: its lanes are those of its half moved by one, and its first lane.
 pub fn spreads(numbers: &mut Numbers)

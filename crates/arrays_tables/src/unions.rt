@@ -10,9 +10,9 @@ ghost use Prim.Native.Nat.{_+_, _*_, _/_, _%_, _≤_, _<_};
 ghost use lib.ListN.{length};
 ghost use Rattle.model.specs.Lists.{at, choose};
 ghost use Rattle.model.specs.ValueSets.{has};
-ghost use Rattle.model.specs.Filling.{Filled};
-ghost use Rattle.arrays.specs.Places.{UNIONS, NUMBERS};
-ghost use Rattle.arrays_tables.specs.Steps.{United, Unioned, Unions};
+ghost use Rattle.model.specs.inner.Filling.{Filled};
+ghost use Rattle.arrays.specs.inner.Places.{UNIONS, NUMBERS};
+ghost use Rattle.arrays_tables.specs.inner.Steps.{United, Unioned, Unions};
 
 // The number w, or 0 where i is not in the set m.
 fn pick(w: u64, m: u64, i: usize) -> u64
@@ -35,7 +35,8 @@ fn union(words: &[u64; 16], base: usize, m: u64) -> u64
 // The 64 unions of constraint k, sixteen for each four of its numbers.
 fn unite(supports: &Supports, numbers: &mut Numbers, k: usize)
     requires { ⌜ (k < 32) × (length (now numbers) ≡ NUMBERS) ⌝ }
-    ensures { λ _. ⌜ Filled (λ c. UNIONS + 64 * k + c) (λ c. Unioned (now (supports .entry)) k (c / 16) (c % 16)) 64 (now (numbers .entry)) (now (numbers .exit)) ⌝ }
+    ensures { λ _. ⌜ Filled (λ c. UNIONS + 64 * k + c) (λ c. Unioned (now (supports .entry)) k (c / 16) (c % 16)) 64 (now (numbers .entry))
+        (now (numbers .exit)) ⌝ }
 {
     let mut made = [0u64; 16];
     words(supports, k, &mut made);

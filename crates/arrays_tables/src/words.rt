@@ -4,9 +4,9 @@ ghost use mathlib.Core.Path.{_≡_};
 ghost use Prim.Native.Nat.{_+_, _*_, _≤_, _<_};
 ghost use lib.ListN.{length};
 ghost use Rattle.model.specs.Lists.{at};
-ghost use Rattle.model.specs.Filling.{Filled};
-ghost use Rattle.arrays.specs.Places.{SUPPORTS};
-ghost use Rattle.arrays_tables.specs.Steps.{Lanes, Word};
+ghost use Rattle.model.specs.inner.Filling.{Filled};
+ghost use Rattle.arrays.specs.inner.Places.{SUPPORTS};
+ghost use Rattle.arrays_tables.specs.inner.Steps.{Lanes, Word};
 
 // Eight values of each of eight sets, a step apart from a base on: the first set's in the lowest byte.
 fn lanes(supports: &Supports, base: usize, step: usize) -> u64

@@ -1,11 +1,6 @@
 -- Rows in reading order: the test shows it between any two rows, and as many rows as there are, in order, are all of them. Assumes nothing.
-use mathlib.Core.Path.{_≡_, refl, sym, ap₂, _∙_, subst}
-use mathlib.Core.Bool.{Bool, true, false}
-use mathlib.Core.List.{List, [], _∷_, List·Memᴰ, List·Memᴰ·head, List·Memᴰ·tail, List·Memᴰ·not-nil}
-use Prim.Native.Nat.{ℕ, _≤_}
-use native.Mathlib.Nat.{not-suc-le-zero, le-of-suc-le-suc}
-use lib.Dec.{T}
-use lib.ListN.{length}
+use Rattle.model.specs.Kit.{_≡_, refl, sym, ap₂, _∙_, subst, Bool, true, false, List, [], _∷_, List·Memᴰ, List·Memᴰ·head, List·Memᴰ·tail, List·Memᴰ·not-nil, ℕ, _≤_}
+use Rattle.model.specs.Kit.{not-suc-le-zero, le-of-suc-le-suc, T, length}
 use Rattle.model.specs.Lists.{earlier, rowsAscend}
 use Rattle.model.proofs.Lists.{T-of, earlier-trans, Sorted}
 
@@ -15,7 +10,8 @@ rowsAscend-sorted [] t = tt
 rowsAscend-sorted (x ∷ []) t = (λ y m. absurd (List·Memᴰ·not-nil m), tt)
 rowsAscend-sorted (x ∷ y ∷ l) t = go (rowsAscend-sorted (y ∷ l)) (earlier x y) refl t
   where
-    go : (T (rowsAscend (y ∷ l)) → Sorted (λ (x y : List ℕ). T (earlier x y)) (y ∷ l)) → (b : Bool) → earlier x y ≡ b → T (elim b [ true ↦ rowsAscend (y ∷ l) | false ↦ false ]) → Sorted (λ (x y : List ℕ). T (earlier x y)) (x ∷ y ∷ l)
+    go : (T (rowsAscend (y ∷ l)) → Sorted (λ (x y : List ℕ). T (earlier x y)) (y ∷ l)) → (b : Bool) → earlier x y ≡ b → T (elim b [ true ↦ rowsAscend (y ∷ l) | false ↦ false ]) → Sorted
+        (λ (x y : List ℕ). T (earlier x y)) (x ∷ y ∷ l)
     go ih true e t = let s = ih t in (first (T-of (earlier x y) e) (s .0), s)
       where
         first : T (earlier x y) → ((z : List ℕ) → List·Memᴰ z l → T (earlier y z)) → (z : List ℕ) → List·Memᴰ z (y ∷ l) → T (earlier x z)

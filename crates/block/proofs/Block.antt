@@ -1,25 +1,11 @@
 -- A block's symmetries: what an ordering does to pairs, that trades of neighbours are enough to ask, that its variables have equal initial sets, and that two of them make one. Assumes nothing.
-use mathlib.Core.Path.{_≡_, sym, ap, ap₂, _∙_, subst}
-use mathlib.Core.Bool.{Bool, false}
-use mathlib.Core.List.{List, [], _∷_, _++_, map, List·Memᴰ, Memᴰ·cast, Memᴰ·map, Memᴰ·of-map}
-use mathlib.Core.Logic.{_⊎_, inl, inr}
-use Prim.Native.Nat.{ℕ, zero, suc, _+_, _-_, _*_, _≤_, _<_}
-use native.Mathlib.Omega.{arith}
-use native.Mathlib.Decide.{ℕ-discrete, decLt}
-use lib.Dec.{T, leb, ltb, leb→le, ltb→lt}
-use lib.ListN.{length}
-use borrow.Author.Tests.{le-leb, lt-ltb}
-use Rattle.model.specs.Lists.{both, upFrom, below, at}
-use Rattle.model.specs.ValueSets.{has}
-use Rattle.model.specs.Problem.{Problem, pair, respects}
-use Rattle.model.specs.Verdict.{Verdict, accepted, refused, ask, isAccepted}
-use Rattle.model.specs.Sheet.{permutesPairs, symmetriesVerdict}
-use Rattle.model.specs.WellFormed.{WellFormed, GoodSymmetry}
+use Rattle.model.specs.Kit.{_≡_, sym, ap, ap₂, _∙_, subst, Bool, false, List, [], _∷_, _++_, map, List·Memᴰ, Memᴰ·cast, Memᴰ·map, Memᴰ·of-map, _⊎_, inl, inr, ℕ, zero, suc, _+_}
+use Rattle.model.specs.Kit.{_-_, _*_, _≤_, _<_, arith, ℕ-discrete, decLt, T, leb, ltb, leb→le, ltb→lt, length, le-leb, lt-ltb}
+use Rattle.model.specs.{Lists.both, Lists.upFrom, Lists.below, Lists.at, ValueSets.has, Problem.Problem, Problem.pair, Problem.respects, Verdict.Verdict, Verdict.accepted}
+use Rattle.model.specs.{Verdict.refused, Verdict.ask, Verdict.isAccepted, Sheet.permutesPairs, Sheet.symmetriesVerdict, WellFormed.WellFormed, WellFormed.GoodSymmetry}
 use Rattle.block.specs.Block.{ordering, factorial, andThen, inBlock, imageOf, orderingTable, blockTables, withBlock, isBlock, blockVerdict, TradePasses}
-use Rattle.model.proofs.Asked.{symmetries-i, symmetries-first}
-use Rattle.model.proofs.Lists.{both-l, both-r, T-of, of-T, not-of, T-ext, map-append, below-i, below-e, upFrom-add, length-below}
-use Rattle.model.proofs.Sets.{mask-ext}
-use Rattle.model.proofs.Accepted.{asked, symmetries-e}
+use Rattle.model.proofs.{Asked.symmetries-i, Asked.symmetries-first, Lists.both-l, Lists.both-r, Lists.T-of, Lists.of-T, Lists.not-of, Lists.T-ext, Lists.map-append, Lists.below-i}
+use Rattle.model.proofs.{Lists.below-e, Lists.upFrom-add, Lists.length-below, Sets.mask-ext, Accepted.asked, Accepted.symmetries-e}
 use Rattle.block.proofs.Orderings.{Few, factorial-up, Moves, moves, moves-small, moves-high, at-andThen, product-row, generated, trade-at, row-zero}
 use Rattle.block.proofs.Tables as B
 
@@ -189,8 +175,10 @@ module _ (p : Problem) (w : WellFormed p) (first m : ℕ) (few : Few m) (inside 
         let f = imageOf first m (ordering (factorial k)) in
         let lx : x < p .variables = omega arith in
         let ly : y < p .variables = omega arith in
-        let there : (v : ℕ) → T (has (at (p .initial) x) v) → T (has (at (p .initial) y) v) = λ v t. subst (λ (z : ℕ). T (has (at (p .initial) z) v)) (trade-there first m few k l h) (B.moved-has p w f (passed k l h) x v lx t) in
-        let back : (v : ℕ) → T (has (at (p .initial) y) v) → T (has (at (p .initial) x) v) = λ v t. subst (λ (z : ℕ). T (has (at (p .initial) z) v)) (trade-back first m few k l h) (B.moved-has p w f (passed k l h) y v ly t) in
+        let there : (v : ℕ) → T (has (at (p .initial) x) v) → T (has (at (p .initial) y) v) = λ v t. subst (λ (z : ℕ). T (has (at (p .initial) z) v)) (trade-there first m few k l h)
+        (B.moved-has p w f (passed k l h) x v lx t) in
+        let back : (v : ℕ) → T (has (at (p .initial) y) v) → T (has (at (p .initial) x) v) = λ v t. subst (λ (z : ℕ). T (has (at (p .initial) z) v)) (trade-back first m few k l h)
+        (B.moved-has p w f (passed k l h) y v ly t) in
         mask-ext (p .values) (at (p .initial) x) (at (p .initial) y) (w .narrow x lx) (w .narrow y ly) (λ v u. T-ext (has (at (p .initial) x) v) (has (at (p .initial) y) v) (there v) (back v))
 
     as-first : (i : ℕ) → i < m → at (p .initial) (first + i) ≡ at (p .initial) first
@@ -219,7 +207,8 @@ module _ (p : Problem) (w : WellFormed p) (first m : ℕ) (few : Few m) (inside 
   row-pair row x v l t = B.moved p w (imageOf first m (ordering row)) x v l t
 
   -- ---- two of a block's tables, one after the other, are one of them
-  pub block-closed : ((row : ℕ) → row < factorial m → T (permutesPairs p (table row))) → (g h : List ℕ) → List·Memᴰ g (blockTables p first m) → List·Memᴰ h (blockTables p first m) → List·Memᴰ (andThen g h) (blockTables p first m)
+  pub block-closed : ((row : ℕ) → row < factorial m → T (permutesPairs p (table row))) → (g h : List ℕ) → List·Memᴰ g (blockTables p first m) → List·Memᴰ h (blockTables p first m) → List·Memᴰ
+      (andThen g h) (blockTables p first m)
   unfolding blockTables
   block-closed o g h i j =
       let a = Memᴰ·of-map table (below (factorial m)) i in
@@ -281,7 +270,8 @@ module _ (p : Problem) (w : WellFormed p) (first m : ℕ) where
   module _ (is : T (isBlock p first m)) (row : ℕ) (h : row < factorial m)
       (before : (r : ℕ) → r < row → T (permutesPairs p (orderingTable p first m r)) × T (respects p (orderingTable p first m r))) where
     verdict-at : (rest : Verdict)
-        × (blockVerdict p first m ≡ ask (permutesPairs p (orderingTable p first m row)) 15 (length (p .symmetries) + row) (ask (respects p (orderingTable p first m row)) 16 (length (p .symmetries) + row) rest))
+        × (blockVerdict p first m ≡ ask (permutesPairs p (orderingTable p first m row)) 15 (length (p .symmetries) + row)
+        (ask (respects p (orderingTable p first m row)) 16 (length (p .symmetries) + row) rest))
     unfolding blockVerdict blockTables below upFrom
     verdict-at =
         let table = orderingTable p first m in
@@ -315,7 +305,8 @@ module _ (p : Problem) (w : WellFormed p) (first m : ℕ) where
     pub trade-refused-15 : permutesPairs p (orderingTable p first m (factorial k)) ≡ false → blockVerdict p first m ≡ refused 15 (length (p .symmetries) + factorial k)
     trade-refused-15 = row-refused-15 is (factorial k) (factorial-up k m l h) rows-before
 
-    pub trade-refused-16 : T (permutesPairs p (orderingTable p first m (factorial k))) → respects p (orderingTable p first m (factorial k)) ≡ false → blockVerdict p first m ≡ refused 16 (length (p .symmetries) + factorial k)
+    pub trade-refused-16 : T (permutesPairs p (orderingTable p first m (factorial k))) → respects p (orderingTable p first m (factorial k)) ≡ false → blockVerdict p first m ≡ refused 16
+        (length (p .symmetries) + factorial k)
     trade-refused-16 = row-refused-16 is (factorial k) (factorial-up k m l h) rows-before
 
   -- the tables of an accepted block pass both questions

@@ -1,23 +1,13 @@
 -- A block as it is lent: by the number of bytes, the tables of an accepted one, and its variables in an order. Assumes nothing.
-use mathlib.Core.Path.{_≡_, refl, sym, subst}
-use mathlib.Core.Bool.{Bool, false}
-use mathlib.Core.List.{List, [], _∷_, _++_, map, append-nil, List·Memᴰ, List·Memᴰ·not-nil}
-use mathlib.Core.Logic.{inl, inr, ⊎-elim}
-use Prim.Native.Nat.{ℕ, _<_}
-use native.Mathlib.Omega.{arith}
-use lib.Dec.{T}
-use lib.ListN.{length, getD}
-use Rattle.model.specs.Lists.{at}
-use Rattle.model.specs.Problem.{Problem, pair, isPair, withSymmetries}
-use Rattle.model.specs.Verdict.{Verdict, accepted, refused, isAccepted}
+use Rattle.model.specs.Kit.{_≡_, refl, sym, subst, Bool, false, List, [], _∷_, _++_, map, append-nil, List·Memᴰ, List·Memᴰ·not-nil, inl, inr, ⊎-elim, ℕ, _<_, arith, T, length}
+use Rattle.model.specs.Kit.{getD}
+use Rattle.model.specs.{Lists.at, Problem.Problem, Problem.pair, Problem.isPair, Problem.withSymmetries, Verdict.accepted, Verdict.refused, Verdict.isAccepted}
 use Rattle.model.specs.WellFormed.{WellFormed}
-use Rattle.order.specs.Order.{Ordering}
-use Rattle.order.specs.Reordered.{symmetryIn, reordered}
+use Rattle.order.specs.{Order.Ordering, Reordered.symmetryIn, Reordered.reordered}
 use Rattle.block.specs.Block.{variableTable, inBlock, orderingTable, blockTables, blockVerdict, tablesLent, blockLent, inLent}
 use Rattle.block.specs.BlockSets.{Reorders, BlockIn}
-use Rattle.block.proofs.Tables.{Passes}
-use Rattle.block.proofs.Block.{row-passes}
-use Rattle.block.proofs.BlockReordered.{accepted-reordered}
+use Rattle.block.proofs.{Tables.Passes, Block.row-passes, BlockReordered.accepted-reordered}
+use Rattle.model.proofs.Accepted.{accepted-is}
 
 pub lent-none : (p : Problem) (l : List ℕ) → length l ≡ 0 → accepted ≡ blockLent p l
 unfolding blockLent
@@ -53,15 +43,11 @@ inside-two (y ∷ z ∷ []) e x = refl
 inside-two (y ∷ z ∷ u ∷ l) e x = absurd (omega arith)
 
 -- ---- the tables that it adds
-pub is-accepted : (v : Verdict) → T (isAccepted v) → v ≡ accepted
-is-accepted accepted t = refl
-is-accepted (refused number item) t = absurd t
-
 pub tables-pass : (p : Problem) → WellFormed p → (block : List ℕ) → T (isAccepted (blockLent p block)) → (g : List ℕ) → List·Memᴰ g (tablesLent p block) → Passes p g
 unfolding tablesLent blockLent
 tables-pass p w [] h g i = absurd (List·Memᴰ·not-nil i)
 tables-pass p w (first ∷ []) h g i = absurd (List·Memᴰ·not-nil i)
-tables-pass p w (first ∷ m ∷ []) h g i = row-passes p w first m (is-accepted (blockVerdict p first m) h) g i
+tables-pass p w (first ∷ m ∷ []) h g i = row-passes p w first m (accepted-is (blockVerdict p first m) h) g i
 tables-pass p w (first ∷ m ∷ x ∷ more) h g i = absurd (List·Memᴰ·not-nil i)
 
 -- they don't look at the other symmetries
@@ -104,10 +90,12 @@ block-none p block f = record {
 
 -- the block of the reordered problem: the positions of its variables
 module _ (p : Problem) (w : WellFormed p) (order : List ℕ) (o : Ordering (p .variables) order) where
-  pub lent-reordered : (block : List ℕ) → T (isAccepted (blockLent p block)) → BlockIn (reordered order p) (λ i. inLent block (at order i)) (map (symmetryIn order p) (p .symmetries ++ tablesLent p block))
+  pub lent-reordered : (block : List ℕ) → T (isAccepted (blockLent p block)) → BlockIn (reordered order p) (λ i. inLent block (at order i))
+      (map (symmetryIn order p) (p .symmetries ++ tablesLent p block))
   unfolding blockLent tablesLent inLent
   lent-reordered [] h =
-      subst (λ (gs : List (List ℕ)). BlockIn (reordered order p) (λ i. false) (map (symmetryIn order p) gs)) (sym (append-nil (p .symmetries))) (block-none (reordered order p) (λ i. false) (λ i l t. t))
+      subst (λ (gs : List (List ℕ)). BlockIn (reordered order p) (λ i. false) (map (symmetryIn order p) gs)) (sym (append-nil (p .symmetries)))
+      (block-none (reordered order p) (λ i. false) (λ i l t. t))
   lent-reordered (first ∷ []) h = absurd h
-  lent-reordered (first ∷ m ∷ []) h = accepted-reordered p w order o first m (is-accepted (blockVerdict p first m) h)
+  lent-reordered (first ∷ m ∷ []) h = accepted-reordered p w order o first m (accepted-is (blockVerdict p first m) h)
   lent-reordered (first ∷ m ∷ x ∷ more) h = absurd h

@@ -1,24 +1,15 @@
 -- The orderings of a block of neighbouring variables contain every trade of two: so they only say that its variables ascend. Assumes nothing.
-use mathlib.Core.Path.{_≡_, refl, sym, ap, _∙_, subst}
-use mathlib.Core.Bool.{true, false}
-use mathlib.Core.List.{List, _++_, map, List·Memᴰ, List·Memᴰ·append-cases, Memᴰ·append-left, Memᴰ·append-right, Memᴰ·map, Memᴰ·of-map}
-use mathlib.Core.Logic.{_⊎_, inl, inr, ⊎-elim}
-use Prim.Native.Nat.{ℕ, _+_, _-_, _≤_, _<_}
-use native.Mathlib.Decide.{ℕ-discrete}
-use native.Mathlib.Omega.{arith}
-use lib.Dec.{T, eqb, leb, ltb, leb→le, ltb→lt}
-use borrow.Author.Tests.{eq-eqb, ne-eqb, le-leb, lt-ltb}
-use Rattle.model.specs.Lists.{below, at}
-use Rattle.model.specs.Problem.{Problem, pair}
-use Rattle.model.specs.Verdict.{accepted}
-use Rattle.model.specs.WellFormed.{WellFormed}
-use Rattle.block.specs.Block.{ordering, factorial, inBlock, imageOf, orderingTable, blockTables, blockVerdict}
-use Rattle.block.specs.BlockSets.{Reorders, Trades, BlockIn}
+use Rattle.model.specs.Kit.{_≡_, refl, sym, ap, _∙_, subst, true, false, List, _++_, map, List·Memᴰ, Memᴰ·append-left, Memᴰ·map, Memᴰ·of-map, _⊎_, inl, inr, ⊎-elim, ℕ, _+_, _-_}
+use Rattle.model.specs.Kit.{_≤_, _<_, ℕ-discrete, arith, T, eqb, leb, ltb, leb→le, ltb→lt, eq-eqb, ne-eqb, le-leb, lt-ltb}
+use mathlib.Core.List.{List·Memᴰ·append-cases, Memᴰ·append-right}
+use Rattle.model.specs.{Lists.below, Lists.at, Problem.Problem, Problem.pair, Verdict.accepted, WellFormed.WellFormed}
+use Rattle.block.specs.{Block.ordering, Block.factorial, Block.inBlock, Block.imageOf, Block.orderingTable, Block.blockTables, Block.blockVerdict, BlockSets.Reorders}
+use Rattle.block.specs.BlockSets.{Trades, BlockIn}
 use Rattle.model.proofs.Lists.{T-of, T-dec, not-of, both-i, both-l, both-r, below-i, below-e, at-below, length-below}
 use Rattle.model.proofs.Counting.{distinct-below}
-use Rattle.block.proofs.Orderings.{Few, Moves, factorial-up, ordering-of, moves, moves-row}
+use Rattle.block.proofs.{Orderings.Few, Orderings.Moves, Orderings.factorial-up, Orderings.ordering-of, Orderings.moves, Orderings.moves-row, Block.image-at}
+use Rattle.block.proofs.Block.{image-block, image-injective, image-variable, row-pair, equal-sets, block-e}
 use Rattle.block.proofs.Tables as B
-use Rattle.block.proofs.Block.{image-at, image-block, image-injective, image-variable, row-pair, equal-sets, block-e}
 
 -- ---- the trade of two numbers
 swap : ℕ → ℕ → ℕ → ℕ
@@ -142,7 +133,8 @@ module _ (p : Problem) (w : WellFormed p) (first m : ℕ) (few : Few m) (inside 
       stay z c d (inl t) =
           let q = in-block first m z t in
           let s = q .2 in
-          ap (imageOf first m (ordering row)) (q .2) ∙ goes (q .0) (q .1) ∙ ap (λ (y : ℕ). first + y - (5 - m)) (swap-other a b (5 - m + q .0) (λ u. c (omega arith)) (λ u. d (omega arith))) ∙ omega arith
+          ap (imageOf first m (ordering row)) (q .2) ∙ goes (q .0) (q .1) ∙ ap (λ (y : ℕ). first + y - (5 - m)) (swap-other a b (5 - m + q .0) (λ u. c (omega arith)) (λ u. d (omega arith)))
+          ∙ omega arith
       stay z c d (inr t) = out-block first m (ordering row) z t
 
   -- D: the problem's own symmetries with the block's after them

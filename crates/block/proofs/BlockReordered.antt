@@ -1,26 +1,13 @@
 -- A block of a problem whose variables are settled in another order: the reordered problem has a block too, of the positions of the block's variables. Assumes nothing.
-use mathlib.Core.Path.{_≡_, sym, ap, ap₂, _∙_, subst}
-use mathlib.Core.Bool.{Bool, false}
-use mathlib.Core.List.{List, _++_, map, List·Memᴰ, Memᴰ·map, Memᴰ·of-map}
-use mathlib.Core.Logic.{_⊎_, inl, inr, _↔_}
-use Prim.Native.Nat.{ℕ, _*_, _≤_, _<_}
-use lib.Dec.{T}
-use Rattle.model.specs.Lists.{at}
-use Rattle.model.specs.ValueSets.{has, anyEmpty}
-use Rattle.model.specs.Problem.{Problem, pair}
-use Rattle.model.specs.Verdict.{accepted}
-use Rattle.model.specs.Search.{isPlan}
-use Rattle.model.specs.Claims.{Consistent}
-use Rattle.model.specs.WellFormed.{WellFormed}
-use Rattle.block.specs.Block.{inBlock, blockTables, withBlock, blockVerdict}
-use Rattle.block.specs.BlockSets.{Reorders, Trades, BlockIn, Ascends}
-use Rattle.order.specs.Order.{Ordering}
-use Rattle.order.specs.Reordered.{position, read, renamed, symmetryIn, reordered}
+use Rattle.model.specs.Kit.{_≡_, sym, ap, ap₂, _∙_, subst, Bool, false, List, _++_, map, List·Memᴰ, Memᴰ·map, Memᴰ·of-map, _⊎_, inl, inr, _↔_, ℕ, _*_, _≤_, _<_, T}
+use Rattle.model.specs.{Lists.at, ValueSets.has, ValueSets.anyEmpty, Problem.Problem, Problem.pair, Verdict.accepted, Search.isPlan, Claims.Consistent, WellFormed.WellFormed}
+use Rattle.block.specs.{Block.inBlock, Block.blockTables, Block.withBlock, Block.blockVerdict, BlockSets.Reorders, BlockSets.Trades, BlockSets.BlockIn, BlockSets.Ascends}
+use Rattle.order.specs.{Order.Ordering, Reordered.position, Reordered.read, Reordered.renamed, Reordered.symmetryIn, Reordered.reordered}
 use Rattle.model.proofs.Lists.{at-below}
+use Rattle.block.proofs.BlockOrderings.{accepted-block}
 use Rattle.model.proofs.Pairs as P
 use Rattle.order.proofs.Reordered as R
 use Rattle.block.proofs.BlockSets as S
-use Rattle.block.proofs.BlockOrderings.{accepted-block}
 
 module _ (p : Problem) (w : WellFormed p) (order : List ℕ) (o : Ordering (p .variables) order) where
   -- a set of the reordered problem is the set of the variable that stands there
@@ -33,7 +20,8 @@ module _ (p : Problem) (w : WellFormed p) (order : List ℕ) (o : Ordering (p .v
   unfolding symmetryIn renamed
   moved-in g i y v l t e =
       let small = P.init-lt p w (at order i) v (R.place-lt p order o i l) (has-in i v l t) in
-      ap (at (symmetryIn order p g)) (R.pair-same p order o w i v) ∙ at-below (λ q. renamed p (position order) (at g (renamed p (at order) q))) (p .variables * p .values) (pair p i v) (P.pair-lt p w i v l small)
+      ap (at (symmetryIn order p g)) (R.pair-same p order o w i v) ∙ at-below (λ q. renamed p (position order) (at g (renamed p (at order) q))) (p .variables * p .values) (pair p i v)
+      (P.pair-lt p w i v l small)
       ∙ ap (λ (q : ℕ). renamed p (position order) (at g q)) (R.from-pair p order o w i v small) ∙ ap (renamed p (position order)) e
       ∙ ap₂ (λ (a b : ℕ). pair p (position order a) b) (P.pair-div p w y v small) (P.pair-mod p w y v small) ∙ sym (R.pair-same p order o w (position order y) v)
 
@@ -89,7 +77,8 @@ module _ (p : Problem) (w : WellFormed p) (order : List ℕ) (o : Ordering (p .v
         one g (inr r) = inr (reorders-in g r)
 
   -- an accepted block of p, in the order
-  pub accepted-reordered : (first m : ℕ) → blockVerdict p first m ≡ accepted → BlockIn (reordered order p) (λ i. inBlock first m (at order i)) (map (symmetryIn order p) (p .symmetries ++ blockTables p first m))
+  pub accepted-reordered : (first m : ℕ) → blockVerdict p first m ≡ accepted → BlockIn (reordered order p) (λ i. inBlock first m (at order i))
+      (map (symmetryIn order p) (p .symmetries ++ blockTables p first m))
   accepted-reordered first m e = block-reordered (inBlock first m) (p .symmetries ++ blockTables p first m) (accepted-block p w first m e)
 
   -- the sets of a run with an accepted block, its variables settled in the order: variable i is place order[i]
@@ -97,7 +86,8 @@ module _ (p : Problem) (w : WellFormed p) (order : List ℕ) (o : Ordering (p .v
       Consistent (λ x. x) (reordered order (withBlock first m p)) prefix ds ↔ (Consistent (λ x. x) (reordered order p) prefix ds × Ascends (λ i. inBlock first m (at order i)) prefix ds)
   unfolding symmetryIn renamed pair
   reordered-consistent first m e prefix =
-      S.consistent-block (reordered order p) (R.well-reordered p order o w) (λ i. inBlock first m (at order i)) (map (symmetryIn order p) (p .symmetries ++ blockTables p first m)) (accepted-reordered first m e) prefix
+      S.consistent-block (reordered order p) (R.well-reordered p order o w) (λ i. inBlock first m (at order i)) (map (symmetryIn order p) (p .symmetries ++ blockTables p first m))
+      (accepted-reordered first m e) prefix
 
   -- and its plans
   pub reordered-plans : (first m : ℕ) → blockVerdict p first m ≡ accepted → (a : List ℕ) →
@@ -105,4 +95,5 @@ module _ (p : Problem) (w : WellFormed p) (order : List ℕ) (o : Ordering (p .v
       ↔ (T (isPlan (reordered order p) a) × ((x y : ℕ) → T (inBlock first m (at order x)) → T (inBlock first m (at order y)) → x < y → y < p .variables → at a x ≤ at a y))
   unfolding symmetryIn renamed pair
   reordered-plans first m e =
-      S.plan-block (reordered order p) (R.well-reordered p order o w) (λ i. inBlock first m (at order i)) (map (symmetryIn order p) (p .symmetries ++ blockTables p first m)) (accepted-reordered first m e)
+      S.plan-block (reordered order p) (R.well-reordered p order o w) (λ i. inBlock first m (at order i)) (map (symmetryIn order p) (p .symmetries ++ blockTables p first m))
+      (accepted-reordered first m e)

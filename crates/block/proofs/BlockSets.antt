@@ -1,36 +1,20 @@
 -- What the orderings of a block say at a prefix: its variables ascend, and nothing else. So a pruner cuts the later block variables and needs no filter for the orderings. Assumes nothing.
-use mathlib.Core.Path.{_≡_, refl, sym, ap, _∙_, subst}
-use mathlib.Core.Bool.{Bool, false, not}
-use mathlib.Core.List.{List, [], _∷_, _++_, List·Memᴰ}
-use mathlib.Core.Logic.{⊎-elim, _↔_}
-use Prim.Native.Nat.{ℕ, zero, suc, _/_, _%_, _^_, _≤_, _<_}
-use native.Mathlib.Nat.{not-suc-le-zero, le-of-suc-le-suc, le-refl}
-use native.Mathlib.Decide.{ℕ-discrete, decLt}
-use native.Mathlib.Omega.{arith}
-use lib.Dec.{T, eqb, ltb, eqb→eq, eqb-refl, ltb→lt, lt→ltb, T-not, not-T}
-use lib.ListN.{length, getD, set, length-append}
+use Rattle.model.specs.Kit.{_≡_, refl, sym, ap, _∙_, subst, Bool, false, not, List, [], _∷_, _++_, List·Memᴰ, ⊎-elim, _↔_, ℕ, zero, suc, _/_, _%_, _^_, _≤_, _<_, not-suc-le-zero}
+use Rattle.model.specs.Kit.{le-of-suc-le-suc, ℕ-discrete, decLt, arith, T, eqb, ltb, eqb→eq, eqb-refl, ltb→lt, lt→ltb, T-not, not-T, length, getD, set, length-append}
+use native.Mathlib.Nat.{le-refl}
 use lib.Seq.{getD-set-same, getD-set-other}
-use Rattle.model.specs.Lists.{both, at}
-use Rattle.model.specs.ValueSets.{has, maskOf, members, anyEmpty}
-use Rattle.model.specs.Problem.{Problem, pair, assignments, withSymmetries}
-use Rattle.model.specs.Nogood.{Entry, obeys, filtered}
-use Rattle.model.specs.Search.{entriesAt, nogoodsOf, pruned, narrowed, setsAt, isLive, isPlan}
-use Rattle.model.specs.Claims.{Consistent, Drawn}
-use Rattle.model.specs.Pruning.{Sets, Inside, closed, Way, Prunes}
-use Rattle.model.specs.WellFormed.{WellFormed}
+use Rattle.model.specs.{Lists.both, Lists.at, ValueSets.has, ValueSets.maskOf, ValueSets.members, ValueSets.anyEmpty, ValueSets.Inside, Problem.Problem, Problem.pair}
+use Rattle.model.specs.{Problem.assignments, Problem.withSymmetries, Nogood.Entry, Nogood.obeys, Nogood.filtered, Search.entriesAt, Search.nogoodsOf, Search.pruned}
+use Rattle.model.specs.{Search.narrowed, Search.setsAt, Search.isLive, Search.isPlan, Claims.Consistent, Claims.Drawn, inner.Pruning.Sets, inner.Pruning.closed, inner.Pruning.Way}
+use Rattle.model.specs.{inner.Pruning.Prunes, WellFormed.WellFormed}
 use Rattle.block.specs.BlockSets.{Reorders, Trades, BlockIn, Ascends, lostAfter, cutAfter}
 use Rattle.model.proofs.Lists.{of-not, not-of, T-of, both-i, both-l, both-r, keep-i, keep-e, getD-at, at-out, at-append, at-seam, at-tabulate, length-tabulate, stable}
-use Rattle.model.proofs.Counting.{twice}
-use Rattle.model.proofs.Sets.{members-i, members-e, mask-i, mask-e, mask-lt, inside-antisym, has-at-lt, has-lt, member, empty-i}
-use Rattle.model.proofs.Masks.{has-one}
-use Rattle.model.proofs.Assignments.{drawn-i, drawn-e, drawn-through}
-use Rattle.model.proofs.Filter.{filtered-i, filtered-e, filtered-sets, filtered-inside}
+use Rattle.model.proofs.{Counting.twice, Sets.members-i, Sets.members-e, Sets.mask-i, Sets.mask-e, Sets.mask-lt, Sets.inside-antisym, Sets.has-at-lt, Sets.has-lt, Sets.member}
+use Rattle.model.proofs.{Sets.empty-i, Masks.has-one, Assignments.drawn-i, Assignments.drawn-e, Assignments.drawn-through, Filter.filtered-i, Filter.filtered-e}
+use Rattle.model.proofs.{Filter.filtered-sets, Filter.filtered-inside, Obey.meetsIn, Obey.smallerIn, Obey.prefix-e, Obey.prefix-not, Prune.Kept, Prune.fixed-i, Prune.fixed-e}
+use Rattle.model.proofs.Prune.{narrowed-e, Sized, largest, Removal, way-removal, setsAt-live, value-live, live-is, live-closed}
+use Rattle.model.proofs.{Consistent.consistent-e, Consistent.consistent-inside, Consistent.live-consistent, Consistent.dead-empty, Tree.well-sized, Child.child-start}
 use Rattle.model.proofs.Pairs as P
-use Rattle.model.proofs.Obey.{meetsIn, smallerIn, prefix-e, prefix-not}
-use Rattle.model.proofs.Prune.{Kept, fixed-i, fixed-e, narrowed-e, Sized, largest, Removal, way-removal, setsAt-live, value-live, live-is, live-closed}
-use Rattle.model.proofs.Consistent.{consistent-e, consistent-inside, live-consistent, dead-empty}
-use Rattle.model.proofs.Tree.{well-sized}
-use Rattle.model.proofs.Child.{child-start}
 use Rattle.model.proofs.More as M
 
 -- ---- along a permutation of variables that ascend, the first difference is not downwards
@@ -152,7 +136,8 @@ module _ (p : Problem) (w : WellFormed p) (prefix : List ℕ) where
         filtered-i ds (nogoodsOf p g prefix) x v (r .0) (has-at-lt ds x v t) m (ascending-obeys block g o up (r .0) m) (r .2))
 
     -- B, needed: what the filter of a trade leaves at the later variable is no smaller than the prefix's value at the earlier
-    pub trade-above : (x y v : ℕ) (g : List ℕ) → Trades p x y g → at (p .initial) x ≡ at (p .initial) y → x < y → x < length prefix → T (has (at (filtered ds (nogoodsOf p g prefix)) y) v) → at prefix x ≤ v
+    pub trade-above : (x y v : ℕ) (g : List ℕ) → Trades p x y g → at (p .initial) x ≡ at (p .initial) y → x < y → x < length prefix → T (has (at (filtered ds (nogoodsOf p g prefix)) y) v)
+        → at prefix x ≤ v
     trade-above x y v g o equal l b t = go (decLt v (at prefix x))
       where
         go : Dec (v < at prefix x) → at prefix x ≤ v
@@ -253,7 +238,8 @@ module _ (p : Problem) (w : WellFormed p) (block : ℕ → Bool) (gs : List (Lis
     kept-own = M.kept-less p gs same-sized (b .own) prefix
 
     -- and back, where the sets ascend and none is empty
-    pub kept-whole : (ds : List ℕ) → Sets (p .variables) ds → Inside ds (narrowed prefix (p .initial)) → Ascends block prefix ds → anyEmpty ds ≡ false → (x v : ℕ) → Kept p prefix ds x v → Kept whole prefix ds x v
+    pub kept-whole : (ds : List ℕ) → Sets (p .variables) ds → Inside ds (narrowed prefix (p .initial)) → Ascends block prefix ds → anyEmpty ds ≡ false → (x v : ℕ) → Kept p prefix ds x v
+        → Kept whole prefix ds x v
     kept-whole ds sets inner up some x v k = record {
       member = k .member;
       rows = k .rows;
@@ -296,7 +282,8 @@ module _ (p : Problem) (w : WellFormed p) (block : ℕ → Bool) (gs : List (Lis
 
     -- the sets at a live prefix ascend, and are consistent without the block's symmetries
     pub live-ascends : T (isLive whole prefix) → Consistent (λ x. x) p prefix (setsAt whole prefix) × Ascends block prefix (setsAt whole prefix)
-    live-ascends t = consistent-block (setsAt whole prefix) (subst (λ (ds : List ℕ). anyEmpty ds ≡ false) (sym (setsAt-live whole prefix (live-closed whole prefix t))) (live-closed whole prefix t)) .0 (live-consistent whole prefix same-sized t)
+    live-ascends t = consistent-block (setsAt whole prefix) (subst (λ (ds : List ℕ). anyEmpty ds ≡ false) (sym (setsAt-live whole prefix (live-closed whole prefix t)))
+        (live-closed whole prefix t)) .0 (live-consistent whole prefix same-sized t)
 
     -- and they are the largest such sets
     pub ascending-inside : (es : List ℕ) → Consistent (λ x. x) p prefix es → Ascends block prefix es → anyEmpty es ≡ false → T (isLive whole prefix) × Inside es (setsAt whole prefix)
@@ -326,7 +313,8 @@ module _ (p : Problem) (w : WellFormed p) (block : ℕ → Bool) (gs : List (Lis
         }
 
     -- sets that ascend, where a round without the block's filters takes nothing away: no round does
-    pub fixed-whole : (es : List ℕ) → Sets (p .variables) es → Inside es (narrowed prefix (p .initial)) → Ascends block prefix es → anyEmpty es ≡ false → pruned p prefix es ≡ es → pruned whole prefix es ≡ es
+    pub fixed-whole : (es : List ℕ) → Sets (p .variables) es → Inside es (narrowed prefix (p .initial)) → Ascends block prefix es → anyEmpty es ≡ false → pruned p prefix es ≡ es
+        → pruned whole prefix es ≡ es
     fixed-whole es sets inner up some e = fixed-i whole prefix es sets (λ x v t. kept-whole es sets inner up some x v (fixed-e p prefix es e x v t))
 
     -- the plans with the block are the plans without it that ascend along it

@@ -1,19 +1,16 @@
 -- Small blocks: the sets at a prefix, computed from the definitions, are those of the cut. Assumes nothing.
-use mathlib.Core.Path.{_≡_, refl}
-use mathlib.Core.List.{[], _∷_}
-use Prim.Native.Nat.{ℕ}
-use Rattle.model.specs.Lists.{all, any, keep, flat, upFrom, below, at, same, tabulate}
-use Rattle.model.specs.ValueSets.{has, maskBelow, least, members, anyEmpty}
-use Rattle.model.specs.Problem.{Problem, assignments, pair, isPair}
-use Rattle.model.specs.Sheet.{distinct}
-use Rattle.model.specs.Nogood.{obeysFrom, obeying, used, filtered}
-use Rattle.model.specs.Search.{entriesAt, nogoodsOf, rowWith, supported, pruned, narrowed, rounds, setsAt}
+use Rattle.model.specs.Kit.{_≡_, refl, [], _∷_, ℕ}
+use Rattle.model.specs.{Lists.all, Lists.any, Lists.keep, Lists.flat, Lists.upFrom, Lists.below, Lists.at, Lists.same, Lists.tabulate, ValueSets.has, ValueSets.maskBelow}
+use Rattle.model.specs.{ValueSets.least, ValueSets.members, ValueSets.anyEmpty, Problem.Problem, Problem.assignments, Problem.pair, Problem.isPair, Sheet.distinct}
+use Rattle.model.specs.{Nogood.obeysFrom, Nogood.obeying, Nogood.used, Nogood.filtered, Search.entriesAt, Search.nogoodsOf, Search.rowWith, Search.supported, Search.pruned}
+use Rattle.model.specs.Search.{narrowed, rounds, setsAt}
 use Rattle.block.specs.Block.{orderings, ordering, factorial, variableTable, inBlock, imageOf, orderingTable, blockTables, withBlock}
 use Rattle.block.specs.BlockSets.{cutAfter}
 use Rattle.order.specs.Reordered.{position, read, valueOf, scopeIn, rowIn, renamed, symmetryIn, reordered}
 
 opened : ℕ
-unfolding all any keep flat upFrom below at same tabulate has maskBelow least members anyEmpty assignments pair isPair distinct obeysFrom obeying used filtered entriesAt nogoodsOf rowWith supported pruned narrowed rounds setsAt orderings ordering factorial variableTable inBlock imageOf orderingTable blockTables cutAfter position read valueOf scopeIn rowIn renamed symmetryIn
+unfolding all any keep flat upFrom below at same tabulate has maskBelow least members anyEmpty assignments pair isPair distinct obeysFrom obeying used filtered entriesAt nogoodsOf rowWith
+    supported pruned narrowed rounds setsAt orderings ordering factorial variableTable inBlock imageOf orderingTable blockTables cutAfter position read valueOf scopeIn rowIn renamed symmetryIn
 opened = 0
 
 -- four variables of three values, a constraint on the first and the last

@@ -1,27 +1,16 @@
 -- The orderings of five: what the rows are, that none is absent, and what one test over the whole list shows of the first m! rows. Assumes nothing.
-use mathlib.Core.Path.{_≡_, refl, sym, ap, _∙_, subst}
-use mathlib.Core.Bool.{Bool, true, false}
-use mathlib.Core.List.{List, [], _∷_, List·Memᴰ}
-use mathlib.Core.Logic.{⊎-elim, _↔_}
-use Prim.Native.Nat.{ℕ, zero, suc, _+_, _-_, _*_, _≤_, _<_}
-use native.Mathlib.Nat.{not-suc-le-zero, le-of-suc-le-suc, mul-le-mul-right}
-use native.Mathlib.Omega.{arith}
-use native.Mathlib.Decide.{ℕ-discrete, decLt}
-use lib.Dec.{T, leb, ltb, eqb, eqb→eq, leb→le, ltb→lt, lt→ltb, lit<}
-use lib.ListN.{length, getD, set, take, replicate, length-map, length-set, getD-replicate}
-use lib.Seq.{getD-take, length-take-le}
+use Rattle.model.specs.Kit.{_≡_, refl, sym, ap, _∙_, subst, Bool, true, false, List, [], _∷_, List·Memᴰ, ⊎-elim, _↔_, ℕ, zero, suc, _+_, _-_, _*_, _≤_, _<_, not-suc-le-zero}
+use Rattle.model.specs.Kit.{le-of-suc-le-suc, mul-le-mul-right, arith, ℕ-discrete, decLt, T, leb, ltb, eqb, eqb→eq, leb→le, ltb→lt, lt→ltb, lit<, length, getD, set, take}
+use Rattle.model.specs.Kit.{replicate, length-map, length-set, getD-take, length-take-le}
+use lib.ListN.{getD-replicate}
 use Rattle.model.specs.Lists.{both, either, all, any, keep, flat, upFrom, below, at, same, earlier, rowsAscend}
-use Rattle.model.specs.ValueSets.{has, maskBelow, fullMask, members}
-use Rattle.model.specs.Problem.{assignments}
-use Rattle.model.specs.Sheet.{distinct}
+use Rattle.model.specs.{ValueSets.has, ValueSets.maskBelow, ValueSets.fullMask, ValueSets.members, Problem.assignments, Sheet.distinct}
 use Rattle.order.specs.Order.{Ordering}
 use Rattle.block.specs.Block.{orderings, ordering, factorial, andThen}
-use Rattle.model.proofs.Lists.{both-l, both-r, either-e, all-e, any-e, keep-i, keep-e, T-of, of-T, upFrom-i, upFrom-e, same-eq, same-refl, at-ext, at-take, at-map, at-set, at-set-other, mem-at, at-mem, mem-getD, place-of, Sorted, sorted-keep, rowsAscend-of}
-use Rattle.model.proofs.Counting.{distinct-at, onto}
-use Rattle.model.proofs.Sets.{has-lt, mask-i, members-i}
-use Rattle.order.proofs.Reordered.{apart-distinct}
-use Rattle.order.proofs.LeadersBy.{below-at, ordering-below}
-use Rattle.model.proofs.Assignments.{assign-i, drawn-e, assignments-sorted}
+use Rattle.model.proofs.Lists.{both-l, both-r, either-e, all-e, any-e, keep-i, keep-e, T-of, of-T, upFrom-i, upFrom-e, same-eq, same-refl, at-ext, at-take, at-map, at-set}
+use Rattle.model.proofs.{Lists.at-set-other, Lists.mem-at, Lists.at-mem, Lists.mem-getD, Lists.place-of, Lists.Sorted, Lists.sorted-keep, Lists.rowsAscend-of, Counting.distinct-at}
+use Rattle.model.proofs.{Counting.onto, Sets.has-lt, Sets.mask-i, Sets.members-i, Assignments.assign-i, Assignments.drawn-e, Assignments.assignments-sorted}
+use Rattle.order.proofs.{Reordered.apart-distinct, LeadersBy.below-at, LeadersBy.ordering-below}
 
 -- ---- a test at each element of a list and its place
 module _ {A : Type 0} where
@@ -210,7 +199,8 @@ stays-i : (k : ℕ) (e : List ℕ) → k ≤ length e → ((i : ℕ) → i < k �
 unfolding stays
 stays-i k e l h =
     let n : length (take k e) ≡ k = length-take-le k e l in
-    let q : take k e ≡ below k = at-ext (take k e) (below k) (n ∙ sym (ordering-below k .sized)) (λ i j. let z : i < k = subst (λ (a : ℕ). i < a) n j in at-take k e i z ∙ h i z ∙ sym (below-at k i z)) in
+    let q : take k e ≡ below k = at-ext (take k e) (below k) (n ∙ sym (ordering-below k .sized))
+    (λ i j. let z : i < k = subst (λ (a : ℕ). i < a) n j in at-take k e i z ∙ h i z ∙ sym (below-at k i z)) in
     subst (λ (b : List ℕ). T (same (take k e) b)) q (same-refl (take k e))
 
 first-stays : (m row : ℕ) → Few m → row < 120 → stays (5 - m) (ordering row) ≡ ltb row (factorial m)
@@ -273,7 +263,8 @@ ordering-andThen n e f o u =
     (λ x k. let q = at-mem (andThen e f) x k in
     let h : q .0 < n = omega (arith, q .1, sized) in
     subst (λ (y : ℕ). y < n) (sym (step (q .0) h) ∙ q .2) (small-at n f u (at e (q .0)) (small (q .0) h)))
-    (apart-distinct (andThen e f) (λ i j h k q. let a : i < n = omega (arith, sized) in let b : j < n = omega (arith, sized) in o .once i j a b (u .once (at e i) (at e j) (small i a) (small j b) (sym (step i a) ∙ q ∙ step j b))))
+    (apart-distinct (andThen e f) (λ i j h k q. let a : i < n = omega (arith, sized) in let b : j < n = omega (arith, sized) in o .once i j a b
+    (u .once (at e i) (at e j) (small i a) (small j b) (sym (step i a) ∙ q ∙ step j b))))
 
 pub moves-andThen : (m : ℕ) (e f : List ℕ) → Moves m e → Moves m f → Moves m (andThen e f)
 moves-andThen m e f o u = record {
@@ -301,7 +292,8 @@ trade-at k l h =
     )
 
 -- each of the first m! rows but row 0 is such a trade of the last m numbers, and then an earlier row
-pub generated : (m row : ℕ) → Few m → 1 ≤ row → row < factorial m → (k : ℕ) × (s : ℕ) × (1 ≤ k) × (k < m) × (factorial k ≤ row) × (s < row) × (ordering row ≡ andThen (ordering (factorial k)) (ordering s))
+pub generated : (m row : ℕ) → Few m → 1 ≤ row → row < factorial m → (k : ℕ) × (s : ℕ) × (1 ≤ k) × (k < m) × (factorial k ≤ row) × (s < row) ×
+    (ordering row ≡ andThen (ordering (factorial k)) (ordering s))
 unfolding tradeTest ordering
 generated m row f l h =
     let big : row < 120 = omega (arith, factorial-le m f) in

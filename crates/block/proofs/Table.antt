@@ -1,22 +1,15 @@
 -- The table of orderings: 600 numbers whose rows of five are orderings and ascend are all orderings in order. Assumes nothing.
-use mathlib.Core.Path.{_≡_, refl, sym, ap, ap₂, _∙_, subst}
-use mathlib.Core.List.{List, [], _∷_, _++_, List·Memᴰ, List·Memᴰ·head, List·Memᴰ·tail}
-use Prim.Native.Nat.{ℕ, zero, suc, _+_, _*_, _<_}
-use native.Mathlib.Nat.{not-suc-le-zero, le-of-suc-le-suc}
-use native.Mathlib.Omega.{arith}
-use lib.Dec.{T, eqb, ltb, eqb→eq, ltb→lt, lt→ltb}
-use lib.ListN.{length, getD, take, drop, length-drop, take-append-drop}
-use lib.Seq.{getD-drop, take-at, drop-at}
-use borrow.Author.Tests.{eq-eqb}
-use Rattle.model.specs.Lists.{both, all, flat, at, earlier, rowsAscend}
-use Rattle.model.specs.Sheet.{distinct}
+use Rattle.model.specs.Kit.{_≡_, refl, sym, ap, ap₂, _∙_, subst, List, [], _∷_, _++_, List·Memᴰ, List·Memᴰ·head, List·Memᴰ·tail, ℕ, zero, suc, _+_, _*_, _<_, not-suc-le-zero}
+use Rattle.model.specs.Kit.{le-of-suc-le-suc, arith, T, eqb, ltb, eqb→eq, ltb→lt, lt→ltb, length, getD, take, drop, length-drop, take-append-drop, getD-drop, eq-eqb}
+use lib.Seq.{take-at, drop-at}
+use Rattle.model.specs.{Lists.both, Lists.all, Lists.flat, Lists.at, Lists.earlier, Lists.rowsAscend, Sheet.distinct}
 use Rattle.order.specs.Order.{Ordering}
-use Rattle.block.specs.Block.{orderings, ordering}
-use Rattle.block.specs.BlockClaims.{fives, isOrdering, isTable, TableRows, Table-rows, Table-passes}
+use Rattle.block.specs.{Block.orderings, Block.ordering, BlockClaims.fives, BlockClaims.isOrdering, BlockClaims.isTable, BlockClaims.TableRows, BlockClaims.Table-rows}
+use Rattle.block.specs.BlockClaims.{Table-passes}
 use Rattle.model.proofs.Lists.{T-of, both-i, both-l, both-r, all-i, all-e, earlier-asym, at-take}
 use Rattle.order.proofs.Reordered.{apart-distinct}
-use Rattle.block.proofs.Ascending.{rowsAscend-sorted, sorted-all}
-use Rattle.block.proofs.Orderings.{ordering-of, ordering-row, row-ordering, orderings-sorted, orderings-ascend, count}
+use Rattle.block.proofs.{Ascending.rowsAscend-sorted, Ascending.sorted-all, Orderings.ordering-of, Orderings.ordering-row, Orderings.row-ordering}
+use Rattle.block.proofs.Orderings.{orderings-sorted, orderings-ascend, count}
 
 -- ---- rows of five
 length-fives : (k : ℕ) (l : List ℕ) → length (fives k l) ≡ k
@@ -87,7 +80,8 @@ ordering-is : (e : List ℕ) → Ordering 5 e → T (isOrdering e)
 unfolding isOrdering
 ordering-is e o =
     both-i (eqb (length e) 5) (both (all (λ v. ltb v 5) e) (distinct e)) (T-of (eqb (length e) 5) (eq-eqb (length e) 5 (o .sized)))
-    (both-i (all (λ v. ltb v 5) e) (distinct e) (all-i (λ v. ltb v 5) e (λ x m. lt→ltb x 5 (o .inside x m))) (apart-distinct e (λ i j h k. o .once i j (omega (arith, o .sized)) (omega (arith, o .sized)))))
+    (both-i (all (λ v. ltb v 5) e) (distinct e) (all-i (λ v. ltb v 5) e (λ x m. lt→ltb x 5 (o .inside x m)))
+    (apart-distinct e (λ i j h k. o .once i j (omega (arith, o .sized)) (omega (arith, o .sized)))))
 
 pub table-passes : Table-passes
 unfolding isTable

@@ -1,26 +1,17 @@
 -- Symmetry tables: two that pass questions 15 and 16 do so one after the other, and a table that moves nothing passes; tables that move variables. Assumes nothing.
-use mathlib.Core.Path.{_≡_, refl, sym, ap, ap₂, _∙_, subst}
-use mathlib.Core.Bool.{Bool, true, false}
-use mathlib.Core.List.{List, [], _∷_, map, List·Memᴰ, List·Memᴰ·head, List·Memᴰ·tail, List·Memᴰ·not-nil, List·Memᴰ·cases-cons, List·Memᴰ·eq-of-singleton, Memᴰ·cast, Memᴰ·map, Memᴰ·of-map}
-use mathlib.Core.Logic.{_⊎_, inl, inr, ⊎-elim}
-use Prim.Native.Nat.{ℕ, suc, _*_, _/_, _%_, _<_}
-use native.Mathlib.Omega.{arith}
-use lib.Dec.{T, eqb, eqb-refl}
-use lib.ListN.{length}
-use Rattle.model.specs.Lists.{all, any, below, at}
-use Rattle.model.specs.ValueSets.{has}
-use Rattle.model.specs.Problem.{Problem, Constraint, pair, isPair, pairsAt, within, doubled, excluded, forbidden, respects, withSymmetries}
-use Rattle.model.specs.Sheet.{distinct, permutesPairs}
-use Rattle.model.specs.Claims.{Drawn}
+use Rattle.model.specs.Kit.{_≡_, refl, sym, ap, ap₂, _∙_, subst, Bool, true, false, List, [], _∷_, map, List·Memᴰ, List·Memᴰ·head, List·Memᴰ·tail, List·Memᴰ·not-nil}
+use Rattle.model.specs.Kit.{List·Memᴰ·cases-cons, Memᴰ·cast, Memᴰ·map, Memᴰ·of-map, _⊎_, inl, inr, ⊎-elim, ℕ, suc, _*_, _/_, _%_, _<_, arith, T, eqb, eqb-refl, length}
+use mathlib.Core.List.{List·Memᴰ·eq-of-singleton}
+use Rattle.model.specs.{Lists.all, Lists.any, Lists.below, Lists.at, ValueSets.has, Problem.Problem, Problem.Constraint, Problem.pair, Problem.isPair, Problem.pairsAt}
+use Rattle.model.specs.{Problem.within, Problem.doubled, Problem.excluded, Problem.forbidden, Problem.respects, Problem.withSymmetries, Sheet.distinct, Sheet.permutesPairs}
+use Rattle.model.specs.{Claims.Drawn, WellFormed.WellFormed, WellFormed.GoodSymmetry, WellFormed.Respected}
 use Rattle.block.specs.Block.{andThen, variableTable}
-use Rattle.model.specs.WellFormed.{WellFormed, GoodSymmetry, Respected}
 use Rattle.model.proofs.Lists.{both-i, T-dec, of-T, not-of, all-i, any-i, below-e, length-below, at-below, at-ext}
-use Rattle.model.proofs.Assignments.{drawn-e}
-use Rattle.model.proofs.Pairs as P
-use Rattle.model.proofs.Symmetry as S
-use Rattle.model.proofs.Asked.{good-other, respects-other}
+use Rattle.model.proofs.{Assignments.drawn-e, Asked.good-other, Asked.respects-other}
 use Rattle.order.proofs.Reordered.{apart-distinct}
 use Rattle.block.proofs.Orderings.{at-andThen, length-andThen}
+use Rattle.model.proofs.Pairs as P
+use Rattle.model.proofs.Symmetry as S
 
 pub choose-yes : {A : Type 0} (b : Bool) (x y : A) → b ≡ true → elim b [ true ↦ x | false ↦ y ] ≡ x
 choose-yes true x y e = refl
@@ -105,7 +96,8 @@ module _ (p : Problem) where
             scope-pair (c .scope) (r .0) (w .constrained c l .inside) (drawn-e (map (at (p .initial)) (c .scope)) (r .0) (r .1)) q (subst (List·Memᴰ q) (r .3) k)
 
     -- question 16
-    pub respects-i : (g : List ℕ) → ((f : List ℕ) → List·Memᴰ f (forbidden p) → (h : List ℕ) × List·Memᴰ h (forbidden p) × ((q : ℕ) → List·Memᴰ q h → (r : ℕ) × List·Memᴰ r f × (at g r ≡ q))) → T (respects p g)
+    pub respects-i : (g : List ℕ) → ((f : List ℕ) → List·Memᴰ f (forbidden p) → (h : List ℕ) × List·Memᴰ h (forbidden p) × ((q : ℕ) → List·Memᴰ q h → (r : ℕ) × List·Memᴰ r f × (at g r ≡ q))) → T
+        (respects p g)
     unfolding respects
     respects-i g each =
         all-i (λ f. any (λ h. within h (map (at g) f)) (forbidden p)) (forbidden p)

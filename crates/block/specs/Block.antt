@@ -1,14 +1,7 @@
 -- A block of neighbouring variables that may be put in any order (paper 02, #111): the orderings of five, the symmetries that a block adds, and its questions.
-use mathlib.Core.Bool.{Bool, true, false}
-use mathlib.Core.List.{List, [], _∷_, _++_, map}
-use Prim.Native.Nat.{ℕ, zero, suc, _+_, _-_, _*_, _/_, _%_}
-use lib.ListN.{length, getD, replicate}
-use lib.Dec.{T, leb, ltb}
-use Rattle.model.specs.Lists.{keep, below, at, both}
-use Rattle.model.specs.ValueSets.{fullMask}
-use Rattle.model.specs.Problem.{Problem, pair, isPair, assignments, respects, withSymmetries}
-use Rattle.model.specs.Verdict.{Verdict, accepted, refused, ask}
-use Rattle.model.specs.Sheet.{distinct, permutesPairs, symmetriesVerdict}
+use Rattle.model.specs.Kit.{Bool, true, false, List, [], _∷_, _++_, map, ℕ, zero, suc, _+_, _-_, _*_, _/_, _%_, length, getD, replicate, T, leb, ltb}
+use Rattle.model.specs.{Lists.keep, Lists.below, Lists.at, Lists.both, ValueSets.fullMask, Problem.Problem, Problem.pair, Problem.isPair, Problem.assignments, Problem.respects}
+use Rattle.model.specs.{Problem.withSymmetries, Verdict.Verdict, Verdict.accepted, Verdict.refused, Verdict.ask, Sheet.distinct, Sheet.permutesPairs, Sheet.symmetriesVerdict}
 
 -- ---- orderings
 -- the orderings of 0 to 4, in reading order: five numbers below five, no two of them equal

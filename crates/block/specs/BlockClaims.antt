@@ -1,21 +1,8 @@
 -- What paper 02 asks of a block's orderings (#111), and what #112 needs of them. The proofs are in proofs/Claimed.antt.
-use mathlib.Core.Path.{_≡_}
-use mathlib.Core.Bool.{Bool, false}
-use mathlib.Core.Logic.{_↔_}
-use mathlib.Core.List.{List, [], _∷_, List·Memᴰ}
-use Prim.Native.Nat.{ℕ, zero, suc, _-_, _*_, _≤_, _<_}
-use lib.ListN.{length, take, drop}
-use lib.Dec.{T, eqb, ltb}
-use Rattle.model.specs.Lists.{all, both, at, flat, rowsAscend}
-use Rattle.model.specs.Sheet.{distinct}
-use Rattle.model.specs.ValueSets.{anyEmpty}
-use Rattle.model.specs.Problem.{Problem}
-use Rattle.model.specs.Verdict.{accepted}
-use Rattle.model.specs.Search.{isPlan}
-use Rattle.model.specs.Claims.{Consistent}
-use Rattle.model.specs.WellFormed.{WellFormed}
-use Rattle.order.specs.Order.{Ordering}
-use Rattle.order.specs.Reordered.{reordered}
+use Rattle.model.specs.Kit.{_≡_, Bool, false, _↔_, List, [], _∷_, List·Memᴰ, ℕ, zero, suc, _-_, _*_, _≤_, _<_, length, take, drop, T, eqb, ltb}
+use Rattle.model.specs.{Lists.all, Lists.both, Lists.at, Lists.flat, Lists.rowsAscend, Sheet.distinct, ValueSets.anyEmpty, Problem.Problem, Verdict.accepted, Search.isPlan}
+use Rattle.model.specs.{Claims.Consistent, WellFormed.WellFormed}
+use Rattle.order.specs.{Order.Ordering, Reordered.reordered}
 use Rattle.block.specs.Block.{orderings, ordering, factorial, inBlock, withBlock, isBlock, blockVerdict, TradePasses}
 use Rattle.block.specs.BlockSets.{Ascends}
 

@@ -1,15 +1,7 @@
 -- What the orderings of a block of variables say at a prefix (paper 02, #111): a block variable settled later has no smaller value than one settled earlier.
 -- A block is a test of variables; its symmetries are any that reorder its variables, the trade of any two among them.
-use mathlib.Core.Path.{_≡_}
-use mathlib.Core.Bool.{Bool, not}
-use mathlib.Core.List.{List, List·Memᴰ}
-use mathlib.Core.Logic.{_⊎_}
-use Prim.Native.Nat.{ℕ, _≤_, _<_}
-use lib.Dec.{T, ltb}
-use lib.ListN.{length}
-use Rattle.model.specs.Lists.{both, at, tabulate}
-use Rattle.model.specs.ValueSets.{has, maskOf}
-use Rattle.model.specs.Problem.{Problem, pair}
+use Rattle.model.specs.Kit.{_≡_, Bool, not, List, List·Memᴰ, _⊎_, ℕ, _≤_, _<_, T, ltb, length}
+use Rattle.model.specs.{Lists.both, Lists.at, Lists.tabulate, ValueSets.has, ValueSets.maskOf, Problem.Problem, Problem.pair}
 
 -- ---- the symmetries of a block
 -- g only renames variables, and none but those of the block

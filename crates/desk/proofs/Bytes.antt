@@ -1,20 +1,8 @@
 -- Parts of a buffer, numbers read back, and lists of bytes. Assumes nothing.
-use mathlib.Core.Path.{_≡_, refl, sym, ap, ap₂, _∙_, subst}
-use mathlib.Core.Bool.{Bool, true, false}
-use mathlib.Core.Logic.{_⊎_, inl, inr}
-use mathlib.Core.List.{List, [], _∷_, _++_}
-use Prim.Native.Nat.{ℕ, zero, suc, _+_, _-_, _*_, _/_, _%_, _^_, _≤_, _<_}
-use native.Mathlib.Omega.{arith}
-use lib.ListN.{length, take, drop, set, replicate, length-take, length-drop}
-use lib.Dec.{ltb}
-use lib.Seq.{getD-drop, length-take-le}
-use borrow.Author.Tests.{ltb-true, ltb-false}
-use Rattle.model.specs.Lists.{at}
-use Rattle.model.specs.Sheet.{«word»}
-use Rattle.model.specs.Bytes.{twoBytes, fourBytes}
-use Rattle.model.specs.Written.{placed}
-use Rattle.model.proofs.Lists.{at-take, at-ext}
-use Rattle.model.proofs.Written.{length-placed, placed-before, placed-in, placed-after}
+use Rattle.model.specs.Kit.{_≡_, refl, sym, ap, ap₂, _∙_, subst, Bool, true, false, _⊎_, inl, inr, List, [], _∷_, _++_, ℕ, zero, suc, _+_, _-_, _*_, _/_, _%_, _^_, _≤_, _<_, arith}
+use Rattle.model.specs.Kit.{length, take, drop, set, replicate, length-take, length-drop, ltb, getD-drop, length-take-le, ltb-true, ltb-false}
+use Rattle.model.specs.{Lists.at, Sheet.«word», Bytes.twoBytes, Bytes.fourBytes, Written.placed}
+use Rattle.model.proofs.{Lists.at-take, Lists.at-ext, Written.length-placed, Written.placed-before, Written.placed-in, Written.placed-after}
 use Rattle.desk.specs.Layout.{long}
 
 -- a part with the same bytes
@@ -93,14 +81,16 @@ pub small-four : (k : ℕ) → k < 2 ^ 32 → Small (fourBytes k)
 unfolding fourBytes
 small-four k h =
     small-cons (k % 256) (k / 256 % 256 ∷ k / 65536 % 256 ∷ k / 16777216 ∷ []) (omega arith)
-    (small-cons (k / 256 % 256) (k / 65536 % 256 ∷ k / 16777216 ∷ []) (omega arith) (small-cons (k / 65536 % 256) (k / 16777216 ∷ []) (omega arith) (small-cons (k / 16777216) [] (omega arith) small-nil)))
+    (small-cons (k / 256 % 256) (k / 65536 % 256 ∷ k / 16777216 ∷ []) (omega arith) (small-cons (k / 65536 % 256) (k / 16777216 ∷ []) (omega arith)
+    (small-cons (k / 16777216) [] (omega arith) small-nil)))
 
 pub small-two : (k : ℕ) → k < 65536 → Small (twoBytes k)
 small-two k h = small-cons (k % 256) (k / 256 ∷ []) (omega arith) (small-cons (k / 256) [] (omega arith) small-nil)
 
 -- ---- two texts put apart, in either order
 pub placed-apart : (b : List ℕ) (i j : ℕ) (t u : List ℕ) → i + length t ≤ j → j + length u ≤ length b → placed (placed b j u) i t ≡ placed (placed b i t) j u
-placed-apart b i j t u h l = at-ext (placed (placed b j u) i t) (placed (placed b i t) j u) (len₁ ∙ sym len₂) (λ x m. each x (ltb x i) refl (ltb x (i + length t)) refl (ltb x j) refl (ltb x (j + length u)) refl)
+placed-apart b i j t u h l = at-ext (placed (placed b j u) i t) (placed (placed b i t) j u) (len₁ ∙ sym len₂)
+    (λ x m. each x (ltb x i) refl (ltb x (i + length t)) refl (ltb x j) refl (ltb x (j + length u)) refl)
   where
     fit₁ : i + length t ≤ length b
     fit₁ = omega arith
@@ -145,7 +135,8 @@ placed-apart b i j t u h l = at-ext (placed (placed b j u) i t) (placed (placed 
         placed-after (placed b j u) i t fit-t x n ∙ ap (at (placed b j u)) (sym e) ∙ placed-in b j u l y m
         ∙ sym (ap (at (placed (placed b i t) j u)) (sym e) ∙ placed-in (placed b i t) j u fit-u y m)
 
-    each : (x : ℕ) (p : Bool) → ltb x i ≡ p → (q : Bool) → ltb x (i + length t) ≡ q → (r : Bool) → ltb x j ≡ r → (s : Bool) → ltb x (j + length u) ≡ s → at (placed (placed b j u) i t) x ≡ at (placed (placed b i t) j u) x
+    each : (x : ℕ) (p : Bool) → ltb x i ≡ p → (q : Bool) → ltb x (i + length t) ≡ q → (r : Bool) → ltb x j ≡ r → (s : Bool) → ltb x (j + length u) ≡ s → at (placed (placed b j u) i t) x ≡ at
+        (placed (placed b i t) j u) x
     each x true e q f r g s k = let m = ltb-true x i e in neither x (inl m) (inl (omega arith))
     each x false e true f r g s k = let m = ltb-false x i e in let n = ltb-true x (i + length t) f in in-first x (x - i) (omega arith) (omega arith) (omega arith)
     each x false e false f true g s k = neither x (inr (ltb-false x (i + length t) f)) (inl (ltb-true x j g))

@@ -1,23 +1,14 @@
 -- Each call on bytes, and calls one after another, as the queue has them (specs/Claims). Assumes nothing.
-use mathlib.Core.Path.{_≡_, refl, sym, ap, ap₂, _∙_, subst}
-use mathlib.Core.List.{List, [], _∷_, List·Memᴰ, List·Memᴰ·head, List·Memᴰ·tail, Memᴰ·of-map}
-use Prim.Native.Nat.{ℕ, _+_, _%_, _<_}
-use native.Mathlib.Omega.{arith}
-use lib.Dec.{T}
-use lib.ListN.{set, length-set}
+use Rattle.model.specs.Kit.{_≡_, refl, sym, ap, ap₂, _∙_, subst, List, [], _∷_, List·Memᴰ, List·Memᴰ·head, List·Memᴰ·tail, Memᴰ·of-map, ℕ, _+_, _%_, _<_, arith, T, set, length-set}
 use Rattle.model.specs.Lists.{at, below}
 use Rattle.model.proofs.Lists.{at-set, at-set-other}
-use Rattle.desk.specs.Queue.{Job, jobTurned, Slot, waits, slotTurned, Queue, slotAt, Found, none-found, slot, roundFrom, toServe, QueueCall, submit, turn, release, QueueReply, turnQueue, queueAfter, queueEnd, queueReplies}
-use Rattle.desk.specs.Places.{NEXT}
-use Rattle.desk.specs.Layout.{slotPlace, jobAt, slotOf, queueOf, withRun, turnBytes, callBytes, bytesAfter}
-use Rattle.desk.specs.Claims.{QueueBytes, ByteCall, Each-call, bytesEnd, repliesOn, All-calls}
-use Rattle.desk.proofs.Queue.{first-in}
-use Rattle.desk.proofs.Bytes.{small-set}
-use Rattle.desk.proofs.Slots.{slot-in, free-at, taken-at, reply-whole, bytes-whole}
-use Rattle.desk.proofs.Meaning.{slot-same, slots-set}
-use Rattle.desk.proofs.Refines.{queue-is, submit-call, release-call}
-use Rattle.desk.proofs.Turning.{Fits, at-fits, turned-fits}
-use Rattle.desk.proofs.Turned.{run-whole, run-slot, run-others, run-bytes}
+use Rattle.desk.specs.Queue.{Job, jobTurned, Slot, waits, slotTurned, Queue, slotAt, Found, none-found, slot, roundFrom, toServe, QueueCall, submit, turn, release}
+use Rattle.desk.specs.{Queue.QueueReply, Queue.turnQueue, Queue.queueAfter, Queue.queueEnd, Queue.queueReplies, Places.NEXT, Layout.slotPlace, Layout.jobAt, Layout.slotOf}
+use Rattle.desk.specs.{Layout.queueOf, Layout.withRun, Layout.turnBytes, Layout.callBytes, Layout.bytesAfter, Claims.QueueBytes, Claims.ByteCall, Claims.Each-call}
+use Rattle.desk.specs.Claims.{bytesEnd, repliesOn, All-calls}
+use Rattle.desk.proofs.{Queue.first-in, Bytes.small-set, Slots.slot-in, Slots.free-at, Slots.taken-at, Slots.reply-whole, Slots.bytes-whole, Meaning.slot-same}
+use Rattle.desk.proofs.{Meaning.slots-set, Refines.queue-is, Refines.submit-call, Refines.release-call, Turning.Fits, Turning.at-fits, Turning.turned-fits, Turned.run-whole}
+use Rattle.desk.proofs.Turned.{run-slot, run-others, run-bytes}
 
 -- ---- where to look
 module _ (b : List ℕ) (v : ℕ) (d : QueueBytes b) where

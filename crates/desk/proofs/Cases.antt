@@ -1,27 +1,28 @@
 -- Worked cases of the queue, by computation. Assumes nothing.
-use mathlib.Core.Path.{_≡_, refl}
-use mathlib.Core.List.{[], _∷_}
-use Prim.Native.Nat.{ℕ}
-use lib.ListN.{replicate}
+use Rattle.model.specs.Kit.{_≡_, refl, [], _∷_, ℕ, replicate}
 use Rattle.model.specs.Lists.{all, any, keep, flat, tabulate, upFrom, below, at, total, same, earlier, ascending, rowsAscend}
-use Rattle.model.specs.ValueSets.{has, maskBelow, least, members, anyEmpty}
-use Rattle.model.specs.Problem.{valuesAt, satisfies, isSolution, assignments, pair, isPair, pairsOf, within, takes, doubled, pairsAt, excluded, forbidden, respects}
-use Rattle.model.specs.Sheet.{word, words, headerOf, scopeAt, rowsAt, afterAt, constraintsFrom, tableAt, problemOf, setsVerdict, constraintVerdict, constraintsVerdict, distinct, permutesPairs, symmetriesVerdict, headerVerdict, formVerdict, verdictOf}
-use Rattle.model.specs.Nogood.{obeysFrom, obeying, used, filtered}
-use Rattle.model.specs.Search.{entriesAt, nogoodsOf, rowWith, supported, pruned, narrowed, rounds, setsAt, isLive, nodesBelow, nodes, isPlan}
-use Rattle.model.specs.Run.{finished, spent, search, resultOf, written, countsBy}
+use Rattle.model.specs.{ValueSets.has, ValueSets.maskBelow, ValueSets.least, ValueSets.members, ValueSets.anyEmpty, Problem.valuesAt, Problem.satisfies, Problem.isSolution}
+use Rattle.model.specs.Problem.{assignments, pair, isPair, pairsOf, within, takes, doubled, pairsAt, excluded, forbidden, respects}
+use Rattle.model.specs.Sheet.{word, words, headerOf, scopeAt, rowsAt, afterAt, constraintsFrom, tableAt, problemOf, setsVerdict, constraintVerdict, constraintsVerdict, distinct}
+use Rattle.model.specs.{Sheet.permutesPairs, Sheet.symmetriesVerdict, Sheet.headerVerdict, Sheet.formVerdict, Sheet.verdictOf, Nogood.obeysFrom, Nogood.obeying, Nogood.used}
+use Rattle.model.specs.{Nogood.filtered, Search.entriesAt, Search.nogoodsOf, Search.rowWith, Search.supported, Search.pruned, Search.narrowed, Search.rounds, Search.setsAt}
+use Rattle.model.specs.{Search.isLive, Search.nodesBelow, Search.nodes, Search.isPlan, Run.finished, Run.spent, Run.search, Run.resultOf, Run.written, Run.countsBy}
 use Rattle.model.specs.Examples.{sheetA}
 use Rattle.run_cut.specs.Parts.{after, nodesAfter, nodesBetween, nodesOf, lastOf, goOn, added}
-use Rattle.desk.specs.Queue.{over, jobTurned, firstOf, emptyQueue, Queue, submit, turn, release, denied, queued, idle, served, released, queueEnd, queueReplies, due, behindLast, roundsQueue, turnsGiven, endedIn, goingOn, statusReply}
-use Rattle.desk.specs.Examples.{Stay}
+use Rattle.desk.specs.Queue.{over, jobTurned, firstOf, emptyQueue, Queue, submit, turn, release, denied, queued, idle, served, released, queueEnd, queueReplies, due}
+use Rattle.desk.specs.{Queue.behindLast, Queue.roundsQueue, Queue.turnsGiven, Queue.endedIn, Queue.goingOn, Queue.statusReply, inner.Examples.Stay}
 
 -- every definition that computes
 opened : ℕ
-unfolding all any keep flat tabulate upFrom below at total same earlier ascending rowsAscend has maskBelow least members anyEmpty valuesAt satisfies isSolution assignments pair isPair pairsOf within takes doubled pairsAt excluded forbidden respects word words headerOf scopeAt rowsAt afterAt constraintsFrom tableAt problemOf setsVerdict constraintVerdict constraintsVerdict distinct permutesPairs symmetriesVerdict headerVerdict formVerdict verdictOf obeysFrom obeying used filtered entriesAt nogoodsOf rowWith supported pruned narrowed rounds setsAt isLive nodesBelow nodes isPlan search resultOf written after nodesAfter nodesBetween nodesOf lastOf goOn added countsBy jobTurned firstOf queueEnd queueReplies due behindLast
+unfolding all any keep flat tabulate upFrom below at total same earlier ascending rowsAscend has maskBelow least members anyEmpty valuesAt satisfies isSolution assignments pair isPair pairsOf
+    within takes doubled pairsAt excluded forbidden respects word words headerOf scopeAt rowsAt afterAt constraintsFrom tableAt problemOf setsVerdict constraintVerdict constraintsVerdict distinct
+    permutesPairs symmetriesVerdict headerVerdict formVerdict verdictOf obeysFrom obeying used filtered entriesAt nogoodsOf rowWith supported pruned narrowed rounds setsAt isLive nodesBelow nodes
+    isPlan search resultOf written after nodesAfter nodesBetween nodesOf lastOf goOn added countsBy jobTurned firstOf queueEnd queueReplies due behindLast
 opened = 0
 
 -- two jobs, the second with limit 2, a third that may make no node; idle, releasing with short room, releasing, releasing again
-pub queue-case : queueReplies emptyQueue (turn ∷ submit sheetA 1000000 ∷ submit sheetA 2 ∷ submit sheetA 0 ∷ submit [] 5 ∷ release 1 [] ∷ turn ∷ turn ∷ turn ∷ turn ∷ release 0 (replicate 5 9) ∷ release 0 (replicate 8 9) ∷ release 0 [] ∷ release 8 [] ∷ submit sheetA 7 ∷ [])
+pub queue-case : queueReplies emptyQueue (turn ∷ submit sheetA 1000000 ∷ submit sheetA 2 ∷ submit sheetA 0 ∷ submit [] 5 ∷ release 1 [] ∷ turn ∷ turn ∷ turn ∷ turn ∷ release 0
+    (replicate 5 9) ∷ release 0 (replicate 8 9) ∷ release 0 [] ∷ release 8 [] ∷ submit sheetA 7 ∷ [])
     ≡ idle ∷ queued 0 ∷ queued 1 ∷ queued 2 ∷ denied 1 0 ∷ released 0 [] ∷ served 0 (over (finished 3 6)) 3 6 ∷ served 2 (over (spent 0 0)) 0 0 ∷ idle ∷ idle
     ∷ denied 22 0 ∷ released 6 (0 ∷ 1 ∷ 0 ∷ 2 ∷ 1 ∷ 2 ∷ 9 ∷ 9 ∷ []) ∷ denied 38 0 ∷ denied 38 0 ∷ queued 0 ∷ []
 unfolding opened

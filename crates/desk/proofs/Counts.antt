@@ -1,40 +1,14 @@
 -- Twelve counts in a slot's bytes, and that none of them is more than all that is counted. Assumes nothing.
-use mathlib.Core.Path.{_≡_, refl, sym, ap, _∙_}
-use mathlib.Core.Bool.{Bool, true, false}
-use mathlib.Core.List.{List, [], _∷_}
-use Prim.Native.Nat.{ℕ, zero, suc, _+_, _-_, _*_, _^_, _≤_, _<_, min}
-use native.Mathlib.Omega.{arith}
-use lib.Dec.{eqb, ltb}
-use lib.ListN.{length, replicate}
-use borrow.Author.Tests.{ltb-true, ltb-false}
-use Rattle.model.specs.Lists.{at, flat, keep}
-use Rattle.model.specs.Bytes.{fourBytes}
-use Rattle.model.specs.Run.{countsBy}
+use Rattle.model.specs.Kit.{_≡_, refl, sym, ap, _∙_, Bool, true, false, List, [], _∷_, ℕ, zero, suc, _+_, _-_, _*_, _^_, _≤_, _<_, min, arith, ltb, length, replicate, ltb-true}
+use Rattle.model.specs.Kit.{ltb-false}
+use Rattle.model.specs.{Lists.at, Lists.flat, Bytes.fourBytes}
 use Rattle.model.proofs.Lists.{at-ext, at-out, at-append, at-skip, at-replicate, length-tabulate, at-tabulate}
-use Rattle.model.proofs.Tally.{length-counts, at-counts}
 use Rattle.run_cut.specs.Parts.{added}
 use Rattle.run_cut.proofs.Counts.{length-added, at-added}
-use Rattle.desk.specs.Places.{COUNTS}
-use Rattle.desk.specs.Layout.{long, nodesAt, countsAt, countBytes}
+use Rattle.desk.specs.{Places.COUNTS, Layout.long, Layout.nodesAt, Layout.countsAt, Layout.countBytes}
 use Rattle.desk.proofs.Bytes.{Small, small-nil, small-append, small-four}
 
 -- ---- none is more than all
-fewer-kept : {A : Type 0} (q : A → Bool) (l : List A) → length (keep q l) ≤ length l
-unfolding keep
-fewer-kept q [] = omega arith
-fewer-kept {A} q (x ∷ l) = go (q x) (fewer-kept q l)
-  where
-    go : (b : Bool) → length (keep q l) ≤ length l → length {A = A} (elim b [ true ↦ x ∷ keep q l | false ↦ keep q l ]) ≤ suc (length l)
-    go true h = omega arith
-    go false h = omega arith
-
-pub count-most : {A : Type 0} (f : A → ℕ) (l : List A) (x : ℕ) → at (countsBy f l) x ≤ length l
-count-most f l x = go (ltb x 12) refl
-  where
-    go : (b : Bool) → ltb x 12 ≡ b → at (countsBy f l) x ≤ length l
-    go true e = let z = at-counts f l x (ltb-true x 12 e) in let y = fewer-kept (λ a. eqb (f a) x) l in omega arith
-    go false e = let z = at-out (countsBy f l) x (let s = length-counts f l in let o = ltb-false x 12 e in omega arith) in omega arith
-
 pub added-most : (xs ys : List ℕ) (m n : ℕ) → ((x : ℕ) → at xs x ≤ m) → ((x : ℕ) → at ys x ≤ n) → (x : ℕ) → at (added xs ys) x ≤ m + n
 added-most xs ys m n f g x = go (ltb x 12) refl
   where

@@ -1,11 +1,6 @@
 -- The contracts of `submit`, `status` and `release` (specs/Calls) from what is shown of the replies and the bytes. Assumes nothing.
-use mathlib.Core.Path.{_≡_, _∙_}
-use mathlib.Core.List.{List, []}
-use Prim.Native.Nat.{ℕ}
-use Rattle.desk.specs.Queue.{denied, noCounts}
-use Rattle.desk.specs.Meaning.{means}
-use Rattle.desk.specs.Calls.{SubmitDone, StatusDone, ReleaseDone}
-use Rattle.desk.specs.declared.Answer.{Answer}
+use Rattle.model.specs.Kit.{_≡_, _∙_, List, [], ℕ}
+use Rattle.desk.specs.{Queue.denied, Queue.noCounts, Meaning.means, Calls.SubmitDone, Calls.StatusDone, Calls.ReleaseDone, declared.Answer.Answer}
 use Rattle.desk.specs.declared.SlotStatus.{SlotStatus}
 use Rattle.desk.proofs.Slots.{Submits, Seen, Releasing}
 

@@ -1,29 +1,17 @@
 -- What the queue's bytes mean after a job was submitted or released: its slot, and that the others mean what they did. Assumes nothing.
-use mathlib.Core.Path.{_≡_, refl, sym, ap, ap₂, _∙_, subst}
-use mathlib.Core.Bool.{Bool, true, false}
-use mathlib.Core.List.{List, []}
-use Prim.Native.Nat.{ℕ, _+_, _-_, _*_, _^_, _≤_, _<_, min}
-use native.Mathlib.Omega.{arith}
-use lib.Dec.{T, eqb, ltb}
-use lib.ListN.{length, take, drop, set, getD, length-set}
+use Rattle.model.specs.Kit.{_≡_, refl, sym, ap, ap₂, _∙_, subst, Bool, true, false, List, [], ℕ, _+_, _-_, _*_, _^_, _≤_, _<_, min, arith, T, eqb, ltb, length, take, drop, set}
+use Rattle.model.specs.Kit.{getD, length-set, ltb-true, ltb-false, eqb-true, eqb-false}
 use lib.Seq.{take-length, getD-set-same, getD-set-other, ext-getD}
-use borrow.Author.Tests.{ltb-true, ltb-false, eqb-true, eqb-false}
-use Rattle.model.specs.Lists.{at, choose, below}
-use Rattle.model.specs.Verdict.{Verdict, accepted, isAccepted}
-use Rattle.model.specs.Sheet.{«word», verdictOf}
-use Rattle.model.specs.Bytes.{fourBytes}
-use Rattle.model.specs.Written.{placed}
+use Rattle.model.specs.{Lists.at, Lists.choose, Lists.below, Verdict.Verdict, Verdict.accepted, Verdict.isAccepted, Sheet.«word», Sheet.verdictOf, Bytes.fourBytes, Written.placed}
 use Rattle.model.specs.Run.{listedPlans}
-use Rattle.model.proofs.Lists.{of-T, at-append, at-skip}
-use Rattle.model.proofs.Written.{length-placed, placed-before, placed-in, placed-after}
-use Rattle.desk.specs.Queue.{Standing, Job, newJob, Slot, free, taken, slotAt}
+use Rattle.model.proofs.{Lists.of-T, Lists.at-append, Lists.at-skip, Written.length-placed, Written.placed-before, Written.placed-in, Written.placed-after}
+use Rattle.desk.specs.{Queue.Standing, Queue.Job, Queue.newJob, Queue.Slot, Queue.free, Queue.taken, Queue.slotAt, Places.LENGTH, Places.LIMIT, Places.STANDING, Places.NODES}
+use Rattle.desk.specs.Places.{PLANS, DEPTH, LAST, COUNTS, SHEET, SHEET-BYTES, LIST, LIST-BYTES, SLOT, NEXT, size}
+use Rattle.desk.specs.Layout.{slotPlace, long, standingBy, standingAt, sheetLength, nodesAt, countsAt, plansAt, widthAt, rowsAt, lastAt, sheetAt, jobAt, slotOf, queueOf}
+use Rattle.desk.specs.Layout.{headBytes, slotBytes}
 use Rattle.sheet.specs.Form.{compilable}
 use Rattle.sheet.proofs.Compilable.{accepted-compilable}
-use Rattle.desk.specs.Places.{LENGTH, LIMIT, STANDING, NODES, PLANS, DEPTH, LAST, COUNTS, SHEET, SHEET-BYTES, LIST, LIST-BYTES, SLOT, NEXT, size}
-use Rattle.desk.specs.Layout.{slotPlace, long, standingBy, standingAt, sheetLength, nodesAt, countsAt, plansAt, widthAt, rowsAt, lastAt, sheetAt, jobAt, slotOf, queueOf, headBytes, slotBytes}
-use Rattle.desk.proofs.Sheets.{answered-length}
-use Rattle.desk.proofs.Bytes.{part-is, word-of, long-of}
-use Rattle.desk.proofs.Counts.{counts-length, counts-is, counts-zero, counts-as}
+use Rattle.desk.proofs.{Sheets.answered-length, Bytes.part-is, Bytes.word-of, Bytes.long-of, Counts.counts-length, Counts.counts-is, Counts.counts-zero, Counts.counts-as}
 use Rattle.desk.proofs.Slots.{slot-in, row-length, taken-at}
 
 -- ---- a job by its parts
@@ -82,7 +70,8 @@ module _ (b c : List ℕ) (p : ℕ) (e : length c ≡ length b) (room : p + SLOT
       let l : n ≤ 12 = omega arith in
       job-is (sheet-same (λ i g h. at-o i (omega arith) (omega arith)) (λ i g h. at-o i (omega arith) (omega arith))) a m counts
       (ap₂ (λ (x y : ℕ). listedPlans x y (take LIST-BYTES (drop (p + LIST) c))) w k ∙ ap (listedPlans (widthAt b p) (plansAt b p)) list)
-      (ap (λ (x : ℕ). take (min 12 x) (drop (p + LAST) c)) (at-o (p + DEPTH) (omega arith) (omega arith)) ∙ part-is c b (p + LAST) (p + LAST) n (omega arith) (omega arith) (λ i h. at-o (p + LAST + i) (omega arith) (omega arith)))
+      (ap (λ (x : ℕ). take (min 12 x) (drop (p + LAST) c)) (at-o (p + DEPTH) (omega arith) (omega arith)) ∙ part-is c b (p + LAST) (p + LAST) n (omega arith) (omega arith)
+      (λ i h. at-o (p + LAST + i) (omega arith) (omega arith)))
       (ap (λ (x : ℕ). standingBy (min 3 x) (plansAt c p) (nodesAt c p)) (at-o (p + STANDING) (omega arith) (omega arith)) ∙ ap₂ (standingBy (standingAt b p)) k m)
 
 pub slot-same : (b c : List ℕ) (k : ℕ) → length c ≡ length b → k < 8 → length b ≡ size → Same b c (slotPlace k) SLOT → slotOf c k ≡ slotOf b k
@@ -177,7 +166,8 @@ module _ (b sheet : List ℕ) (limit k : ℕ) (whole : length b ≡ size) (h : k
       each : (i : ℕ) → i < length sheet → at c (p + SHEET + i) ≡ at sheet (0 + i)
       each i g =
           let e = long-t in
-          ap (at c) (let z : p + SHEET + i ≡ p + (SHEET + i) = omega arith in z) ∙ placed-in b p t fits-t (SHEET + i) (omega arith) ∙ at-skip (headBytes (length sheet) limit) sheet SHEET (SHEET + i) refl (omega arith)
+          ap (at c) (let z : p + SHEET + i ≡ p + (SHEET + i) = omega arith in z) ∙ placed-in b p t fits-t (SHEET + i) (omega arith) ∙ at-skip (headBytes (length sheet) limit) sheet SHEET
+          (SHEET + i) refl (omega arith)
           ∙ ap (at sheet) (let z : SHEET + i - SHEET ≡ 0 + i = omega arith in z)
 
   sheet-read : sheetAt c p ≡ sheet
@@ -190,7 +180,8 @@ module _ (b sheet : List ℕ) (limit k : ℕ) (whole : length b ≡ size) (h : k
   unfolding jobAt rowsAt lastAt listedPlans headBytes fourBytes at
   submitted-job =
       let zero : (o i : ℕ) → p + i ≡ o → at c (p + i) ≡ 0 → at c o ≡ 0 = λ o i z e. ap (at c) (sym z) ∙ e in
-      let made = long-of c (p + NODES) 0 (head-byte 8 (omega arith)) (zero (p + NODES + 1) 9 (omega arith) (head-byte 9 (omega arith))) (zero (p + NODES + 2) 10 (omega arith) (head-byte 10 (omega arith))) (zero (p + NODES + 2 + 1) 11 (omega arith) (head-byte 11 (omega arith))) in
+      let made = long-of c (p + NODES) 0 (head-byte 8 (omega arith)) (zero (p + NODES + 1) 9 (omega arith) (head-byte 9 (omega arith)))
+      (zero (p + NODES + 2) 10 (omega arith) (head-byte 10 (omega arith))) (zero (p + NODES + 2 + 1) 11 (omega arith) (head-byte 11 (omega arith))) in
       let plans = word-of c (p + PLANS) 0 (head-byte 12 (omega arith)) (zero (p + PLANS + 1) 13 (omega arith) (head-byte 13 (omega arith))) in
       let k : plansAt c p ≡ 0 = ap (min 4096) plans in
       let m : nodesAt c p ≡ 0 = ap (min (long c (p + LIMIT))) made ∙ (let z : min (long c (p + LIMIT)) 0 ≡ 0 = omega arith in z) in

@@ -1,28 +1,25 @@
 -- The queue of eight slots (specs/Queue): each job's run is the run alone, every job is served in time, and no slot touches another. Assumes nothing.
-use mathlib.Core.Path.{_≡_, refl, sym, ap, ap₂, _∙_, subst}
-use mathlib.Core.Bool.{Bool, true, false, not}
-use mathlib.Core.Logic.{_⊎_, inl, inr, ⊎-elim}
-use mathlib.Core.List.{List, [], _∷_, map, List·Memᴰ, List·Memᴰ·head, List·Memᴰ·tail, List·Memᴰ·not-nil, Memᴰ·map, Memᴰ·of-map}
-use Prim.Native.Nat.{ℕ, zero, suc, _+_, _-_, _*_, _%_, _≤_, _<_, _^_}
-use native.Mathlib.Omega.{arith}
-use lib.Dec.{T, leb, ltb, eqb, eqb→eq}
-use lib.ListN.{length, take, set, getD, replicate, length-set, List·getD-eq-default}
+use Rattle.model.specs.Kit.{_≡_, refl, sym, ap, ap₂, _∙_, subst, Bool, true, false, not, _⊎_, inl, inr, ⊎-elim, List, [], _∷_, map, List·Memᴰ, List·Memᴰ·head, List·Memᴰ·tail}
+use Rattle.model.specs.Kit.{List·Memᴰ·not-nil, Memᴰ·map, Memᴰ·of-map, ℕ, zero, suc, _+_, _-_, _*_, _%_, _≤_, _<_, _^_, arith, T, leb, ltb, eqb, eqb→eq, length, take, set, getD}
+use Rattle.model.specs.Kit.{replicate, length-set, ltb-true, ltb-false, leb-false, eqb-true, eqb-false}
+use lib.ListN.{List·getD-eq-default}
 use lib.Seq.{getD-set-same, getD-set-other, set-getD}
-use borrow.Author.Tests.{ltb-true, ltb-false, leb-false, eqb-true, eqb-false}
 use Rattle.model.specs.Lists.{both, all, ascending, rowsAscend, either, any, keep, flat, below, upFrom, tabulate}
-use Rattle.model.specs.Problem.{Problem, respects}
-use Rattle.model.specs.Search.{nodes, isPlan}
-use Rattle.model.specs.Verdict.{Verdict, accepted, refused, ask, reply, kept}
-use Rattle.model.specs.Sheet.{word, Header, headerOf, scopeAt, rowsAt, afterAt, permutesPairs, problemOf, setsVerdict, constraintVerdict, constraintsVerdict, symmetriesVerdict, headerVerdict, formVerdict, verdictOf}
-use Rattle.model.specs.Run.{Ending, finished, spent, full, plansIn, nodesIn, Result, search, resultOf, Answer, ended, answerOf, written, listOf, Tally, settledBy, countsBy, tallyAt, tallyFor, tallyOf}
+use Rattle.model.specs.{Problem.Problem, Problem.respects, Search.nodes, Search.isPlan, Verdict.Verdict, Verdict.accepted, Verdict.refused, Verdict.ask, Verdict.reply}
+use Rattle.model.specs.{Verdict.kept, Sheet.word, Sheet.Header, Sheet.headerOf, Sheet.scopeAt, Sheet.rowsAt, Sheet.afterAt, Sheet.permutesPairs, Sheet.problemOf, Sheet.setsVerdict}
+use Rattle.model.specs.{Sheet.constraintVerdict, Sheet.constraintsVerdict, Sheet.symmetriesVerdict, Sheet.headerVerdict, Sheet.formVerdict, Sheet.verdictOf, Run.Ending}
+use Rattle.model.specs.Run.{finished, spent, full, plansIn, nodesIn, Result, search, resultOf, Answer, ended, answerOf, written, listOf, Tally, settledBy, countsBy, tallyAt}
+use Rattle.model.specs.Run.{tallyFor, tallyOf}
 use Rattle.run_cut.specs.Parts.{nodesAfter, lastOf, Progress, start, progressAt, goOn, added, countsAfter, resumed}
-use Rattle.desk.specs.Queue.{Standing, running, over, goesOn, Job, newJob, listRoom, turnLimit, standingAfter, jobAfter, jobTurned, turned, Slot, free, taken, isFree, waits, slotTurned, Queue, emptyQueue, slotAt, Found, none-found, slot, firstOf, lowestFree, toServe, QueueCall, submit, turn, release, QueueReply, denied, queued, idle, served, released, standingOf, plansOf, madeOf, servedAs, submitReply, submitQueue, turnReply, turnQueue, fits, releaseFor, releaseReply, releaseSlot, queueReply, queueAfter, queueEnd, queueReplies, countsOf}
-use Rattle.desk.specs.Claims.{serves, turnsIn, timesServed, Throughout, Remains, Waits, Fair, alone, HoldsAs, Holds, As-alone, Same-as-run, Turn-of-64, Sixty-four-each, Turn-answers, Refused-same, Idle-exactly, Past-eighth, By-own-turns, Others-nothing, Releases, Lowest-slot, Slots-taken, Keeps-slot}
-use Rattle.model.proofs.Lists.{T-of, of-T, of-not, any-cons, either-l, either-r, below-i, below-e}
-use Rattle.model.proofs.Room.{length-flat}
-use Rattle.model.proofs.Runs.{Ended, walk, rows-counted, rows-fit, rows-sized}
-use Rattle.run_cut.proofs.Resume.{stands, from-start, from-cut, in-parts, last-moves}
-use Rattle.run_cut.proofs.Anywhere.{no-fewer, counts-move}
+use Rattle.desk.specs.Queue.{Standing, running, over, goesOn, Job, newJob, listRoom, turnLimit, standingAfter, jobAfter, jobTurned, turned, Slot, free, taken, isFree, waits}
+use Rattle.desk.specs.Queue.{slotTurned, Queue, emptyQueue, slotAt, Found, none-found, slot, firstOf, lowestFree, toServe, QueueCall, submit, turn, release, denied, queued}
+use Rattle.desk.specs.Queue.{idle, served, released, servedAs, submitReply, submitQueue, turnReply, turnQueue, fits, releaseFor, releaseReply, releaseSlot, queueReply}
+use Rattle.desk.specs.{Queue.queueAfter, Queue.queueEnd, Queue.queueReplies, Queue.countsOf, Claims.serves, Claims.turnsIn, Claims.timesServed, Claims.Throughout}
+use Rattle.desk.specs.Claims.{Remains, Waits, Fair, alone, HoldsAs, Holds, As-alone, Same-as-run, Turn-of-64, Sixty-four-each, Turn-answers, Refused-same, Idle-exactly}
+use Rattle.desk.specs.Claims.{Past-eighth, By-own-turns, Others-nothing, Releases, Lowest-slot, Slots-taken, Keeps-slot}
+use Rattle.model.proofs.{Lists.T-of, Lists.of-T, Lists.of-not, Lists.any-cons, Lists.either-l, Lists.either-r, Lists.below-i, Lists.below-e, Room.length-flat, Runs.Ended}
+use Rattle.model.proofs.Runs.{walk, rows-counted, rows-fit, rows-sized}
+use Rattle.run_cut.proofs.{Resume.stands, Resume.from-start, Resume.from-cut, Resume.in-parts, Resume.last-moves, Anywhere.no-fewer, Anywhere.counts-move}
 
 -- constructors that differ
 never : _≡_ {A = ℕ} 0 1 → ⊥
@@ -155,7 +152,8 @@ fair-from (turn ∷ xs) d m i k l o e w t =
     rest = any (serves k) (queueReplies d′ xs)
 
     go : (j : ℕ) → j ≤ i → toServe d ≡ slot ((d .next + j) % 8) → (b : Bool) → eqb ((d .next + j) % 8) k ≡ b →
-        ((m i k : ℕ) → i ≤ m → i < 8 → (d′ .next + i) % 8 ≡ k → Throughout (Waits k) d′ xs → suc m ≤ turnsIn xs → T (any (serves k) (queueReplies d′ xs))) → T (either (serves k (queueReply d turn)) rest)
+        ((m i k : ℕ) → i ≤ m → i < 8 → (d′ .next + i) % 8 ≡ k → Throughout (Waits k) d′ xs → suc m ≤ turnsIn xs → T (any (serves k) (queueReplies d′ xs))) → T
+        (either (serves k (queueReply d turn)) rest)
     go j h s true g ih = either-l (serves k (queueReply d turn)) rest (T-of (serves k (queueReply d turn)) (ap (λ (x : Found). serves k (turnReply x d)) s ∙ g))
     go j h s false g ih =
         let a : j ≡ i → ⊥ = λ z. eqb-false ((d .next + j) % 8) k g (ap (λ (n : ℕ). (d .next + n) % 8) z ∙ e) in
@@ -337,7 +335,8 @@ unfolding answerOf listOf tallyOf tallyAt
 same-as-run xs k h e out tally q s n = (
   same-answer,
   ap (λ (x : Slot). releaseReply x out) q ∙ go (fits h out) refl
-      ∙ ap₂ released (sized ∙ ap (λ (m : ℕ). m * p .variables) (a .2)) (sym (ap (λ (v : Verdict). kept v out (written (resultOf p (h .limit) (length out) .rows) out)) c ∙ ap (λ (m : ℕ). written (resultOf p (h .limit) m .rows) out) n ∙ ap (λ (r : Result). written (r .rows) out) (a .0))),
+      ∙ ap₂ released (sized ∙ ap (λ (m : ℕ). m * p .variables) (a .2)) (sym (ap (λ (v : Verdict). kept v out (written (resultOf p (h .limit) (length out) .rows) out)) c ∙ ap
+      (λ (m : ℕ). written (resultOf p (h .limit) m .rows) out) n ∙ ap (λ (r : Result). written (r .rows) out) (a .0))),
   ap (λ (x : Answer). tallyFor x (tallyAt p) tally) same-answer ∙ ap₂ (λ (m : ℕ) (l : List ℕ). let t : Tally = record { nodes = m; counts = l } in t) (sym (a .1)) (sym (a .3) ∙ sym (ap countsOf q)),
 )
   where
@@ -351,7 +350,8 @@ same-as-run xs k h e out tally q s n = (
     a = subst (HoldsAs h) s (as-alone xs k h q)
 
     same-answer : reply (verdictOf (h .sheet)) (resultOf p (h .limit) (length out) .ending) ≡ ended e
-    same-answer = ap (λ (v : Verdict). reply v (resultOf p (h .limit) (length out) .ending)) c ∙ ap (λ (m : ℕ). ended (resultOf p (h .limit) m .ending)) n ∙ ap (λ (r : Result). ended (r .ending)) (a .0)
+    same-answer = ap (λ (v : Verdict). reply v (resultOf p (h .limit) (length out) .ending)) c ∙ ap (λ (m : ℕ). ended (resultOf p (h .limit) m .ending)) n ∙ ap
+        (λ (r : Result). ended (r .ending)) (a .0)
 
     rows : alone h (h .limit) .rows ≡ h .progress .rows
     rows = ap (λ (r : Result). r .rows) (a .0)
@@ -378,7 +378,8 @@ at-least p upto room ts made k (full plans total) q = omega (arith, q .0)
 over-not : (e : Ending) → over e ≡ running → ⊥
 over-not e q = never (cc)
 
-goes-on : (p : Problem) (limit upto room : ℕ) (ts : List (List ℕ)) (made k : ℕ) (e : Ending) → Ended p upto room ts made k e → standingAfter limit e ≡ running → (nodesIn e ≡ upto) × (nodesIn e < limit)
+goes-on : (p : Problem) (limit upto room : ℕ) (ts : List (List ℕ)) (made k : ℕ) (e : Ending) → Ended p upto room ts made k e → standingAfter limit e ≡ running → (nodesIn e ≡ upto) ×
+    (nodesIn e < limit)
 goes-on p limit upto room ts made k (finished plans total) q s = absurd (over-not (finished plans total) s)
 goes-on p limit upto room ts made k (full plans total) q s = absurd (over-not (full plans total) s)
 goes-on p limit upto room ts made k (spent plans total) q s = (q .2, go (ltb total limit) refl s)
@@ -411,11 +412,13 @@ abbrev oneTurn : Bool → Job → Job
 oneTurn true h = jobTurned h
 oneTurn false h = h
 
-submit-stays : (f : Found) (v : Verdict) (d : Queue) (g : Job) (k : ℕ) (h : Job) → lowestFree d ≡ f → slotAt d k ≡ taken h → slotAt (submitQueue f v d g) k ≡ taken (oneTurn (serves k (submitReply f v)) h)
+submit-stays : (f : Found) (v : Verdict) (d : Queue) (g : Job) (k : ℕ) (h : Job) → lowestFree d ≡ f → slotAt d k ≡ taken h → slotAt (submitQueue f v d g) k ≡ taken
+    (oneTurn (serves k (submitReply f v)) h)
 submit-stays none-found v d g k h e q = q
 submit-stays (slot j) (refused number item) d g k h e q = q
 submit-stays (slot j) accepted d g k h e q =
-    other-slot d j k (taken g) (λ z. of-not (isFree (slotAt d k)) (not-free (slotAt d k) h q) (subst (λ (n : ℕ). T (isFree (slotAt d n))) (sym z) (first-in (λ n. isFree (slotAt d n)) (below 8) j e .0))) ∙ q
+    other-slot d j k (taken g) (λ z. of-not (isFree (slotAt d k)) (not-free (slotAt d k) h q)
+    (subst (λ (n : ℕ). T (isFree (slotAt d n))) (sym z) (first-in (λ n. isFree (slotAt d n)) (below 8) j e .0))) ∙ q
 
 turn-stays : (f : Found) (d : Queue) (k : ℕ) (h : Job) → slotAt d k ≡ taken h → slotAt (turnQueue f d) k ≡ taken (oneTurn (serves k (turnReply f d)) h)
 turn-stays none-found d k h q = q
@@ -552,7 +555,8 @@ verdict-range b =
     (ask-range (eqb (h .size) (h .third + 2 * (h .symmetries * (n * d)))) 14 0 _ (omega arith) (omega arith)
     (symmetries-range (problemOf b) 0 (problemOf b .symmetries)))))))))))
 
-submit-refused : (f : Found) (v : Verdict) (number item : ℕ) → Range v → submitReply f v ≡ denied number item → ((number ≡ 37) × (f ≡ none-found)) ⊎ ((1 ≤ number) × (number ≤ 16) × (v ≡ refused number item))
+submit-refused : (f : Found) (v : Verdict) (number item : ℕ) → Range v → submitReply f v ≡ denied number item → ((number ≡ 37) × (f ≡ none-found)) ⊎
+    ((1 ≤ number) × (number ≤ 16) × (v ≡ refused number item))
 submit-refused none-found v number item r e = let n : number ≡ 37 = cc in inl (n, refl)
 submit-refused (slot k) accepted number item r e = absurd (never (cc))
 submit-refused (slot k) (refused a b) number item r e =
@@ -619,7 +623,8 @@ count-from d (x ∷ xs) k h c u m q r g e s =
         let H = goes-holds h (h .standing) w u in
         let t = turn-of-64 h u o in
         let n = m o in
-        ih (jobTurned h) (suc c) (turned-holds h H) (λ v. let i = t .2 v in omega arith) (y ∙ ap (λ (b : Bool). taken (oneTurn b h)) f) ∙ (let i : 64 * (suc c + rest) ≡ 64 * (c + suc rest) = omega arith in i)
+        ih (jobTurned h) (suc c) (turned-holds h H) (λ v. let i = t .2 v in omega arith) (y ∙ ap (λ (b : Bool). taken (oneTurn b h)) f) ∙
+        (let i : 64 * (suc c + rest) ≡ 64 * (c + suc rest) = omega arith in i)
     go false f y ih = ih h c u m (y ∙ ap (λ (b : Bool). taken (oneTurn b h)) f)
 
 pub sixty-four-each : Sixty-four-each
@@ -689,7 +694,8 @@ idle-exactly d = (all-done, λ f. let z = none-waits f in (ap (λ (x : Found). t
     all-done e k h =
         let i = (k + 8 - d .next % 8) % 8 in
         let l : i < 8 = omega arith in
-        ap (λ (n : ℕ). waits (slotAt d n)) (sym (round-to (d .next) k h)) ∙ first-none (λ n. waits (slotAt d n)) (map round (below 8)) (idle-none (toServe d) d e) (round i) (Memᴰ·map round (below-i 8 i l))
+        ap (λ (n : ℕ). waits (slotAt d n)) (sym (round-to (d .next) k h)) ∙ first-none (λ n. waits (slotAt d n)) (map round (below 8)) (idle-none (toServe d) d e) (round i)
+        (Memᴰ·map round (below-i 8 i l))
 
     none-waits : ((k : ℕ) → k < 8 → waits (slotAt d k) ≡ false) → toServe d ≡ none-found
     none-waits f =

@@ -1,28 +1,15 @@
 -- Each call on bytes is the call on the queue that they mean (specs/Claims). Assumes nothing.
-use mathlib.Core.Path.{_≡_, refl, sym, ap, ap₂, _∙_, subst}
-use mathlib.Core.Bool.{Bool, true, false}
-use mathlib.Core.List.{List, _∷_, _++_}
-use Prim.Native.Nat.{ℕ, _+_, _^_, _<_}
-use native.Mathlib.Omega.{arith}
-use lib.Dec.{T, ltb}
-use lib.ListN.{length, set, getD, replicate, length-set}
+use Rattle.model.specs.Kit.{_≡_, refl, sym, ap, ap₂, _∙_, subst, Bool, true, false, List, _∷_, _++_, ℕ, _+_, _^_, _<_, arith, T, ltb, length, set, getD, replicate, length-set}
+use Rattle.model.specs.Kit.{ltb-true, ltb-false}
 use lib.Seq.{set-getD, ext-getD}
-use borrow.Author.Tests.{ltb-true, ltb-false}
-use Rattle.model.specs.Lists.{choose, below}
-use Rattle.model.specs.Verdict.{Verdict, accepted, refused}
-use Rattle.model.specs.Sheet.{verdictOf}
-use Rattle.model.specs.Bytes.{twoBytes, fourBytes}
-use Rattle.model.specs.Written.{placed}
+use Rattle.model.specs.{Lists.choose, Lists.below, Verdict.Verdict, Verdict.accepted, Verdict.refused, Sheet.verdictOf, Bytes.twoBytes, Bytes.fourBytes, Written.placed}
 use Rattle.model.proofs.Lists.{below-e, at-set, at-set-other}
-use Rattle.desk.specs.Queue.{newJob, Job, Slot, free, taken, isFree, Queue, slotAt, Found, none-found, slot, lowestFree, submit, release, submitQueue, fits, releaseSlot, queueAfter}
-use Rattle.desk.specs.Places.{NEXT}
-use Rattle.desk.specs.Layout.{slotPlace, slotOf, queueOf, headBytes, slotBytes, submitBytes, releaseBytes, callBytes}
-use Rattle.desk.specs.Claims.{QueueBytes, Zeros-empty}
-use Rattle.desk.proofs.Queue.{first-in, no-slots}
-use Rattle.desk.proofs.Sheets.{answered-length}
-use Rattle.desk.proofs.Bytes.{Small, small-cons, small-append, small-replicate, small-placed, small-set, small-four, small-two}
-use Rattle.desk.proofs.Slots.{row-length, slot-in, slot-out, free-at}
-use Rattle.desk.proofs.Meaning.{slot-same, slots-set, submitted-length, submitted-slot, submitted-others, submitted-next}
+use Rattle.desk.specs.Queue.{newJob, Job, Slot, free, taken, isFree, Queue, slotAt, Found, none-found, slot, lowestFree, submit, release, submitQueue, fits, releaseSlot}
+use Rattle.desk.specs.{Queue.queueAfter, Places.NEXT, Layout.slotPlace, Layout.slotOf, Layout.queueOf, Layout.headBytes, Layout.slotBytes, Layout.submitBytes}
+use Rattle.desk.specs.{Layout.releaseBytes, Layout.callBytes, Claims.QueueBytes, Claims.Zeros-empty}
+use Rattle.desk.proofs.{Queue.first-in, Queue.no-slots, Sheets.answered-length, Bytes.Small, Bytes.small-cons, Bytes.small-append, Bytes.small-replicate, Bytes.small-placed}
+use Rattle.desk.proofs.{Bytes.small-set, Bytes.small-four, Bytes.small-two, Slots.row-length, Slots.slot-in, Slots.slot-out, Slots.free-at, Meaning.slot-same}
+use Rattle.desk.proofs.Meaning.{slots-set, submitted-length, submitted-slot, submitted-others, submitted-next}
 
 -- a queue by its slots and where to look
 pub queue-is : {l m : List Slot} {i j : ℕ} → l ≡ m → i ≡ j → _≡_ {A = Queue} (record { slots = l; next = i }) (record { slots = m; next = j })
@@ -57,7 +44,8 @@ module _ (b sheet : List ℕ) (limit : ℕ) (d : QueueBytes b) (small : Small sh
       let h = below-e 8 k (first-in (λ n. isFree (slotAt (queueOf b) n)) (below 8) k e .1) in
       let ok = sym g in
       let w = d .0 in (
-        queue-is (slots-set b (placed b (slotPlace k) (slotBytes sheet limit)) k (taken (newJob sheet limit)) (submitted-slot b sheet limit k w h ok narrow) (submitted-others b sheet limit k w h ok narrow))
+        queue-is (slots-set b (placed b (slotPlace k) (slotBytes sheet limit)) k (taken (newJob sheet limit)) (submitted-slot b sheet limit k w h ok narrow)
+            (submitted-others b sheet limit k w h ok narrow))
             (submitted-next b sheet limit k w h ok narrow),
         (submitted-length b sheet limit k w h ok narrow ∙ w, small-placed b (slotPlace k) (slotBytes sheet limit) (d .1) (small-slot ok)),
       )
@@ -104,7 +92,8 @@ module _ (b : List ℕ) (k : ℕ) (room : List ℕ) (d : QueueBytes b) where
   release-done free e = (same-queue free e, d)
   release-done (taken h) e = go (fits h room)
     where
-      go : (t : Bool) → (queueOf (choose t (set b (slotPlace k) 0) b) ≡ record { slots = set (queueOf b .slots) k (elim t [ true ↦ free | false ↦ taken h ]); next = queueOf b .next }) × QueueBytes (choose t (set b (slotPlace k) 0) b)
+      go : (t : Bool) → (queueOf (choose t (set b (slotPlace k) 0) b) ≡ record { slots = set (queueOf b .slots) k (elim t [ true ↦ free | false ↦ taken h ]); next = queueOf b .next }) × QueueBytes
+          (choose t (set b (slotPlace k) 0) b)
       go true = let l = within h e in (released-queue b k d l, released-bytes b k d l)
       go false = (same-queue (taken h) e, d)
 

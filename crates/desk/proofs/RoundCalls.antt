@@ -1,25 +1,15 @@
 -- Rounds on bytes are rounds on the queue that they mean (specs/Claims). Assumes nothing.
-use mathlib.Core.Path.{_≡_, refl, sym, ap, _∙_, subst}
-use mathlib.Core.Bool.{Bool, true, false}
-use mathlib.Core.List.{List, [], _∷_, map, List·Memᴰ, List·Memᴰ·head, List·Memᴰ·tail, List·Memᴰ·not-nil}
-use Prim.Native.Nat.{ℕ, zero, suc, _+_, _%_, _<_}
-use native.Mathlib.Omega.{arith}
-use lib.Dec.{eqb, ltb, leb}
-use lib.ListN.{length, set, getD, length-set, length-map, List·getD-map}
+use Rattle.model.specs.Kit.{_≡_, refl, sym, ap, _∙_, subst, Bool, true, false, List, [], _∷_, map, List·Memᴰ, List·Memᴰ·head, List·Memᴰ·tail, List·Memᴰ·not-nil, ℕ, zero, suc, _+_}
+use Rattle.model.specs.Kit.{_%_, _<_, arith, eqb, ltb, leb, length, set, getD, length-set, length-map, eqb-true, eqb-false}
+use lib.ListN.{List·getD-map}
 use lib.Seq.{ext-getD}
-use borrow.Author.Tests.{eqb-true, eqb-false}
 use Rattle.model.specs.Lists.{at, both, choose, below}
 use Rattle.desk.specs.Queue.{Job, jobTurned, turned, Slot, free, taken, slotAt, roundFrom, due, dueAt, given, slotGiven, behindLast, roundsQueue}
-use Rattle.desk.specs.Places.{NEXT}
-use Rattle.desk.specs.Layout.{slotPlace, jobAt, slotOf, queueOf, withRun, roundBytes, roundsBytes}
-use Rattle.desk.specs.Claims.{QueueBytes, Rounds-call}
-use Rattle.desk.proofs.Rounds.{Once, pos-e, pos-once, round-is, round-all}
-use Rattle.desk.proofs.Bytes.{small-set}
-use Rattle.desk.proofs.Slots.{row-length, slot-in, free-at, taken-at}
-use Rattle.desk.proofs.Refines.{queue-is}
-use Rattle.desk.proofs.Turning.{Fits, at-fits, turned-fits}
-use Rattle.desk.proofs.Turned.{run-whole, run-slot, run-others, run-next, run-bytes}
-use Rattle.desk.proofs.Calls.{next-slot, next-read}
+use Rattle.desk.specs.{Places.NEXT, Layout.slotPlace, Layout.jobAt, Layout.slotOf, Layout.queueOf, Layout.withRun, Layout.roundBytes, Layout.roundsBytes, Claims.QueueBytes}
+use Rattle.desk.specs.Claims.{Rounds-call}
+use Rattle.desk.proofs.{Rounds.Once, Rounds.pos-e, Rounds.pos-once, Rounds.round-is, Rounds.round-all, Bytes.small-set, Slots.row-length, Slots.slot-in, Slots.free-at}
+use Rattle.desk.proofs.{Slots.taken-at, Refines.queue-is, Turning.Fits, Turning.at-fits, Turning.turned-fits, Turned.run-whole, Turned.run-slot, Turned.run-others}
+use Rattle.desk.proofs.{Turned.run-next, Turned.run-bytes, Calls.next-slot, Calls.next-read}
 
 pub turns-fit : (b : List ℕ) (p m : ℕ) (h : Job) → Fits b p h → Fits b p (turned m h)
 turns-fit b p zero h f = f
@@ -93,7 +83,8 @@ unfolding behindLast
 behind-small turns [] best next h = h
 behind-small turns (k ∷ ks) best next h = go (both (ltb 0 (turns k)) (leb best (turns k))) (behind-small turns ks (turns k) ((k + 1) % 8) (omega arith)) (behind-small turns ks best next h)
   where
-    go : (t : Bool) → behindLast turns ks (turns k) ((k + 1) % 8) < 256 → behindLast turns ks best next < 256 → choose t (behindLast turns ks (turns k) ((k + 1) % 8)) (behindLast turns ks best next) < 256
+    go : (t : Bool) → behindLast turns ks (turns k) ((k + 1) % 8) < 256 → behindLast turns ks best next < 256 → choose t (behindLast turns ks (turns k) ((k + 1) % 8))
+        (behindLast turns ks best next) < 256
     go true x y = x
     go false x y = y
 

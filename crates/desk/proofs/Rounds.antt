@@ -1,18 +1,15 @@
 -- Rounds (specs/Queue): each slot whose run hasn't ended gets up to r turns, and the queue is that of the same turns one by one. The turns go round
 -- and round: a round goes by the eight slots, and gives a turn to each that waits. Assumes nothing.
-use mathlib.Core.Path.{_≡_, refl, sym, ap, ap₂, _∙_, subst}
-use mathlib.Core.Bool.{Bool, true, false}
-use mathlib.Core.Logic.{_⊎_, inl, inr}
-use mathlib.Core.List.{List, [], _∷_, _++_, map, List·Memᴰ, List·Memᴰ·head, List·Memᴰ·tail, List·Memᴰ·not-nil}
-use Prim.Native.Nat.{ℕ, zero, suc, _+_, _-_, _%_, _≤_, _<_}
-use native.Mathlib.Omega.{arith}
-use lib.Dec.{T, leb, ltb, eqb, lt→ltb, le→leb, leb→le}
-use lib.ListN.{length, replicate, length-set, length-map, List·getD-map, replicate-append-replicate}
+use Rattle.model.specs.Kit.{_≡_, refl, sym, ap, ap₂, _∙_, subst, Bool, true, false, _⊎_, inl, inr, List, [], _∷_, _++_, map, List·Memᴰ, List·Memᴰ·head, List·Memᴰ·tail}
+use Rattle.model.specs.Kit.{List·Memᴰ·not-nil, ℕ, zero, suc, _+_, _-_, _%_, _≤_, _<_, arith, T, leb, ltb, eqb, lt→ltb, leb→le, length, replicate, length-set, length-map, ltb-true}
+use Rattle.model.specs.Kit.{ltb-false, leb-true, leb-false, eqb-true, eqb-false}
+use lib.Dec.{le→leb}
+use lib.ListN.{List·getD-map, replicate-append-replicate}
 use lib.Seq.{getD-set-same, getD-set-other, ext-getD}
-use borrow.Author.Tests.{ltb-true, ltb-false, leb-true, leb-false, eqb-true, eqb-false}
 use Rattle.model.specs.Lists.{both, choose, below, upFrom, total}
 use Rattle.model.proofs.Lists.{T-of, of-T, not-of, of-not, both-r, map-ext}
-use Rattle.desk.specs.Queue.{goesOn, Job, jobTurned, turned, Slot, free, taken, waits, slotTurned, Queue, emptyQueue, slotAt, Found, slot, roundFrom, toServe, QueueCall, turn, queueAfter, turnQueue, queueEnd, due, dueAt, slotGiven, behindLast, roundsQueue, turnsGiven}
+use Rattle.desk.specs.Queue.{goesOn, Job, jobTurned, turned, Slot, free, taken, waits, slotTurned, Queue, emptyQueue, slotAt, Found, slot, roundFrom, toServe, QueueCall}
+use Rattle.desk.specs.Queue.{turn, queueAfter, turnQueue, queueEnd, due, dueAt, slotGiven, behindLast, roundsQueue, turnsGiven}
 use Rattle.desk.specs.Claims.{As-turns, Had-or-ended, Step, call, rounds, stepsEnd, oneByOne, One-by-one}
 use Rattle.desk.proofs.Queue.{first-in, first-round, held-lt, job-of, round-to, QueueHolds, queue-holds, empty-holds}
 
@@ -113,7 +110,8 @@ unfolding turnsOf total
 turns-of [] d o = refl
 turns-of (k ∷ ks) d o =
     ap (λ (n : ℕ). one (waits (slotAt d k)) + n)
-    (turns-of ks (passed d k) (o .1) ∙ ap total (map-ext (λ j. one (waits (slotAt (passed d k) j))) (λ j. one (waits (slotAt d j))) ks (λ j m. ap (λ (s : Slot). one (waits s)) (passed-other d k j (o .0 j m)))))
+    (turns-of ks (passed d k) (o .1) ∙ ap total (map-ext (λ j. one (waits (slotAt (passed d k) j))) (λ j. one (waits (slotAt d j))) ks
+    (λ j m. ap (λ (s : Slot). one (waits s)) (passed-other d k j (o .0 j m)))))
 
 -- ---- one by one
 -- the slots from where the next turn begins to look, up to slot k, do not wait
@@ -326,7 +324,8 @@ module _ (w : ℕ → Bool) (f g : ℕ → ℕ) (due-in : (k : ℕ) → f k ≡ 
           let z : f k ≡ 1 + g k = due-in k ∙ ap (λ (b : Bool). one b + g k) e in
           ap (λ (x : ℕ). choose (test (1 + best) x) (behindLast f ks x m) (behindLast f ks (1 + best) next)) z ∙ inner (leb best (g k)) refl
         where
-          inner : (c : Bool) → leb best (g k) ≡ c → choose (test (1 + best) (1 + g k)) (behindLast f ks (1 + g k) m) (behindLast f ks (1 + best) next) ≡ choose (test best (g k)) (behindLast g ks (g k) m) (behindLast g ks best next)
+          inner : (c : Bool) → leb best (g k) ≡ c → choose (test (1 + best) (1 + g k)) (behindLast f ks (1 + g k) m) (behindLast f ks (1 + best) next) ≡ choose (test best (g k))
+              (behindLast g ks (g k) m) (behindLast g ks best next)
           inner true c =
               let y = leb-true best (g k) c in
               pick-yes (test (1 + best) (1 + g k)) _ _ (test-yes (1 + best) (1 + g k) (omega arith) (omega arith)) ∙ ih (g k) m (omega arith)
@@ -394,7 +393,8 @@ many-next ks o (suc r) d =
     many-next ks o r d′
     ∙ behindLast-ext (λ k. dueAt r (slotAt d′ k)) (λ k. dueAt r (slotPassed (slotAt d k))) ks 0 (d′ .next) (λ k m. ap (dueAt r) (passing-in ks d k o m))
     ∙ ap (behindLast (λ k. dueAt r (slotPassed (slotAt d k))) ks 0) (passing-next ks d o)
-    ∙ sym (first-turns (λ k. waits (slotAt d k)) (λ k. dueAt (suc r) (slotAt d k)) (λ k. dueAt r (slotPassed (slotAt d k))) (λ k. due-next r (slotAt d k)) (λ k e. quiet-none r (slotAt d k) e) ks 0 (d .next) (omega arith))
+    ∙ sym (first-turns (λ k. waits (slotAt d k)) (λ k. dueAt (suc r) (slotAt d k)) (λ k. dueAt r (slotPassed (slotAt d k))) (λ k. due-next r (slotAt d k)) (λ k e. quiet-none r (slotAt d k) e) ks 0
+    (d .next) (omega arith))
 
 total-none : (ks : List ℕ) → total (map (λ k. 0) ks) ≡ 0
 unfolding total

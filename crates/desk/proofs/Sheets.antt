@@ -1,17 +1,9 @@
 -- An accepted sheet has at most 55,656 bytes. Assumes nothing.
-use mathlib.Core.Path.{_≡_, subst}
-use mathlib.Core.List.{List}
-use Prim.Native.Nat.{ℕ, zero, suc, _+_, _*_, _≤_}
-use native.Mathlib.Nat.{mul-le-mul}
-use native.Mathlib.Omega.{arith}
-use lib.Dec.{T, leb, eqb, leb→le, eqb→eq}
-use lib.ListN.{length}
-use Rattle.model.specs.Lists.{both}
-use Rattle.model.specs.Verdict.{Verdict, accepted, isAccepted}
-use Rattle.model.specs.Sheet.{Header, «word», headerOf, afterAt, constraintsVerdict, verdictOf}
-use Rattle.model.proofs.Lists.{both-l, both-r}
+use Rattle.model.specs.Kit.{_≡_, subst, List, ℕ, zero, suc, _+_, _*_, _≤_, mul-le-mul, arith, T, leb, eqb, leb→le, eqb→eq, length}
+use Rattle.model.specs.{Lists.both, Verdict.Verdict, Verdict.accepted, Verdict.isAccepted, Sheet.Header, Sheet.«word», Sheet.headerOf, Sheet.afterAt, Sheet.constraintsVerdict}
+use Rattle.model.specs.Sheet.{verdictOf}
+use Rattle.model.proofs.{Lists.both-l, Lists.both-r, Accepted.asked, Accepted.constraint-asked, Accepted.passed}
 use Rattle.desk.specs.Places.{SHEET-BYTES}
-use Rattle.model.proofs.Accepted.{asked, constraint-asked, passed}
 
 -- a constraint has at most 1,546 bytes
 constraint-bytes : (b : List ℕ) (o : ℕ) → T (both (both (leb 1 («word» b o)) (leb («word» b o) 3)) (leb («word» b (o + 2)) 256)) → afterAt b o ≤ o + 1546

@@ -1,24 +1,16 @@
 -- What the queue's bytes mean (specs/Layout), slot by slot, and what the answers come to. Assumes nothing.
-use mathlib.Core.Path.{_≡_, refl, sym, ap, ap₂, _∙_, subst}
-use mathlib.Core.Bool.{Bool, true, false}
-use mathlib.Core.List.{List, _++_, map}
-use Prim.Native.Nat.{ℕ, zero, suc, _+_, _*_, _^_, _≤_, _<_}
-use native.Mathlib.Nat.{zero-add, zero-mul, suc-mul}
-use native.Mathlib.Omega.{arith}
-use lib.Dec.{eqb}
-use lib.ListN.{length, take, drop, set, getD, length-drop, List·getD-eq-default}
-use lib.Seq.{length-take-le, take-add, take-take}
-use borrow.Author.Tests.{lt-ltb, le-ltb, le-leb, lt-leb, eq-eqb, ne-eqb, eqb-true, eqb-false}
-use Rattle.model.specs.Lists.{at, choose, flat, below, upFrom}
-use Rattle.model.specs.Verdict.{Verdict, accepted, refused}
-use Rattle.model.specs.Sheet.{«word», verdictOf}
-use Rattle.model.specs.Written.{placed}
-use Rattle.model.specs.Run.{listedPlans, written}
-use Rattle.model.proofs.Lists.{below-e}
-use Rattle.model.proofs.Room.{length-listed}
-use Rattle.desk.specs.Queue.{Job, Slot, free, taken, isFree, slotAt, Found, none-found, slot, firstOf, lowestFree, QueueCall, submit, release, QueueReply, denied, queued, served, released, submitReply, fits, releaseFor, releaseReply, queueReply, statusFor, statusReply, noCounts, countsOf, statusCounts}
-use Rattle.desk.specs.Places.{LIST, LIST-BYTES, size}
-use Rattle.desk.specs.Layout.{slotPlace, long, plansAt, widthAt, nodesAt, standingAt, standingBy, rowsAt, jobAt, slotOf, queueOf, slotBytes, submitBytes, releaseBytes, callBytes, replyOn, statusOn, bytesAfter, countsAt, countsOn}
+use Rattle.model.specs.Kit.{_≡_, refl, sym, ap, ap₂, _∙_, subst, Bool, true, false, List, _++_, map, ℕ, zero, suc, _+_, _*_, _^_, _≤_, _<_, suc-mul, arith, eqb, length, take, drop}
+use Rattle.model.specs.Kit.{set, getD, length-drop, length-take-le, lt-ltb, le-ltb, le-leb, lt-leb, eq-eqb, ne-eqb, eqb-true, eqb-false}
+use native.Mathlib.Nat.{zero-add, zero-mul}
+use lib.ListN.{List·getD-eq-default}
+use lib.Seq.{take-add, take-take}
+use Rattle.model.specs.{Lists.at, Lists.choose, Lists.flat, Lists.below, Lists.upFrom, Verdict.Verdict, Verdict.accepted, Verdict.refused, Sheet.«word», Sheet.verdictOf}
+use Rattle.model.specs.{Written.placed, Run.listedPlans, Run.written}
+use Rattle.model.proofs.{Lists.below-e, Room.length-listed}
+use Rattle.desk.specs.Queue.{Job, Slot, free, taken, isFree, slotAt, Found, none-found, slot, firstOf, lowestFree, QueueCall, submit, release, QueueReply, denied, queued}
+use Rattle.desk.specs.Queue.{served, released, submitReply, fits, releaseFor, releaseReply, queueReply, statusFor, statusReply, noCounts, countsOf, statusCounts}
+use Rattle.desk.specs.{Places.LIST, Places.LIST-BYTES, Places.size, Layout.slotPlace, Layout.long, Layout.plansAt, Layout.widthAt, Layout.nodesAt, Layout.standingAt}
+use Rattle.desk.specs.Layout.{standingBy, rowsAt, jobAt, slotOf, queueOf, slotBytes, submitBytes, releaseBytes, callBytes, replyOn, statusOn, bytesAfter, countsAt, countsOn}
 use Rattle.desk.specs.Meaning.{found, roomAfter}
 use Rattle.desk.proofs.Queue.{none-first}
 
@@ -52,7 +44,8 @@ first-at q f (suc n) a i l h none e = go (eqb a i) refl (first-at q f n (suc a) 
     rest : Found
     rest = firstOf q (map f (upFrom (suc a) n))
 
-    go : (t : Bool) → eqb a i ≡ t → (suc a ≤ i → i < suc a + n → ((j : ℕ) → suc a ≤ j → j < i → q (f j) ≡ false) → q (f i) ≡ true → rest ≡ slot (f i)) → elim (q (f a)) [ true ↦ slot (f a) | false ↦ rest ] ≡ slot (f i)
+    go : (t : Bool) → eqb a i ≡ t → (suc a ≤ i → i < suc a + n → ((j : ℕ) → suc a ≤ j → j < i → q (f j) ≡ false) → q (f i) ≡ true → rest ≡ slot (f i)) → elim
+        (q (f a)) [ true ↦ slot (f a) | false ↦ rest ] ≡ slot (f i)
     go true g ih =
         let z = eqb-true a i g in
         ap (λ (t : Bool). elim t [ true ↦ slot (f a) | false ↦ rest ]) (ap (λ (j : ℕ). q (f j)) z ∙ e) ∙ ap (λ (j : ℕ). slot (f j)) z
@@ -191,7 +184,8 @@ module _ (b : List ℕ) (k : ℕ) where
           let p = slotPlace k in
           let r = seen-by (taken (jobAt b p)) (slot-in b k h ∙ taken-at b k n) in (
             ap (λ (i : ℕ). served k (standingBy i plans nodes) plans nodes) x ∙ ap₂ (λ (i j : ℕ). served k (standingBy (standingAt b p) i j) i j) y z
-                ∙ ap (λ (i : ℕ). served k (standingBy (standingAt b p) (plansAt b p) (nodesAt b p)) i (nodesAt b p)) (sym (length-listed (widthAt b p) (plansAt b p) (take LIST-BYTES (drop (p + LIST) b))))
+                ∙ ap (λ (i : ℕ). served k (standingBy (standingAt b p) (plansAt b p) (nodesAt b p)) i (nodesAt b p))
+                (sym (length-listed (widthAt b p) (plansAt b p) (take LIST-BYTES (drop (p + LIST) b))))
                 ∙ r .0,
             c ∙ r .1,
           )
@@ -230,7 +224,8 @@ module _ (b : List ℕ) (k : ℕ) (room : List ℕ) where
       job = jobAt b (slotPlace k)
 
       by-room : (t : Bool) → (at b (slotPlace k) ≡ 0 → ⊥) → fits job room ≡ t → Releasing (releaseFor t job room) (roomAfter (releaseFor t job room) room) (choose t (set b (slotPlace k) 0) b)
-      by-room t n e = subst (λ (x : Bool). Releasing (releaseFor x job room) (roomAfter (releaseFor x job room) room) (choose x (set b (slotPlace k) 0) b)) e (by-slot (taken job) (slot-in b k h ∙ taken-at b k n))
+      by-room t n e = subst (λ (x : Bool). Releasing (releaseFor x job room) (roomAfter (releaseFor x job room) room) (choose x (set b (slotPlace k) 0) b)) e
+          (by-slot (taken job) (slot-in b k h ∙ taken-at b k n))
 
       module _ (n : ℕ) (is : n ≡ plansAt b (slotPlace k) * widthAt b (slotPlace k)) (small : n ≤ LIST-BYTES) where
         listed : flat (job .progress .rows) ≡ take n (drop (slotPlace k + LIST) b)
@@ -245,7 +240,8 @@ module _ (b : List ℕ) (k : ℕ) (room : List ℕ) where
         pub release-22 : (at b (slotPlace k) ≡ 0 → ⊥) → length room < n → Releasing (denied 22 0) room b
         release-22 z l = by-room false z (lt-leb (length (flat (job .progress .rows))) (length room) (let e = sized in omega arith))
 
-        pub release-yes : (m : ℕ) (out c : List ℕ) → m ≡ n → (at b (slotPlace k) ≡ 0 → ⊥) → n ≤ length room → out ≡ placed room 0 (take m (drop (slotPlace k + LIST) b)) → c ≡ set b (slotPlace k) 0 → Releasing (released n out) out c
+        pub release-yes : (m : ℕ) (out c : List ℕ) → m ≡ n → (at b (slotPlace k) ≡ 0 → ⊥) → n ≤ length room → out ≡ placed room 0 (take m (drop (slotPlace k + LIST) b)) → c ≡ set b (slotPlace k) 0
+            → Releasing (released n out) out c
         unfolding written placed
         release-yes m out c s z l e q =
             let r = by-room true z (le-leb (length (flat (job .progress .rows))) (length room) (let e = sized in omega arith)) in

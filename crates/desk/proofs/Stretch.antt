@@ -1,16 +1,8 @@
 -- Turns at a stretch: up to r turns of a job are one walk with the limit of the last of them, and how many of them it takes is told by its nodes.
 -- Assumes nothing.
-use mathlib.Core.Path.{_≡_, refl, sym, ap, ap₂, _∙_, subst}
-use mathlib.Core.Bool.{Bool, true, false}
-use Prim.Native.Nat.{ℕ, zero, suc, _+_, _-_, _*_, _/_, _≤_, _<_, min}
-use native.Mathlib.Omega.{arith}
-use lib.Dec.{ltb}
-use lib.ListN.{length, length-drop}
-use borrow.Author.Tests.{ltb-true, ltb-false}
-use Rattle.model.specs.Lists.{choose}
-use Rattle.model.specs.Problem.{Problem}
-use Rattle.model.specs.Sheet.{problemOf}
-use Rattle.model.specs.Run.{Ending, finished, spent, full, nodesIn, Result}
+use Rattle.model.specs.Kit.{_≡_, refl, sym, ap, ap₂, _∙_, subst, Bool, true, false, ℕ, zero, suc, _+_, _-_, _*_, _/_, _≤_, _<_, min, arith, ltb, length, length-drop, ltb-true}
+use Rattle.model.specs.Kit.{ltb-false}
+use Rattle.model.specs.{Lists.choose, Problem.Problem, Sheet.problemOf, Run.Ending, Run.finished, Run.spent, Run.full, Run.nodesIn, Run.Result}
 use Rattle.model.proofs.Runs.{Ended, Walk, walk}
 use Rattle.run_cut.specs.Parts.{nodesAfter, Progress, goOn, progressAfter, andNext}
 use Rattle.run_cut.proofs.Anywhere.{after-from, from-anywhere, stands-anywhere}
@@ -80,7 +72,8 @@ module _ (r : ℕ) (h : Job) (l : h .progress .made ≤ h .limit) (g : goesOn (h
       let f = few in
       record {
         whole = given-is ∙ ap (λ (m : ℕ). turned m (jobTurned h)) z ∙ turned-is ∙ ap (jobAfter h) (sym e);
-        turns = first ∙ ap suc z ∙ (let y : 1 ≡ turnsFor (nodesIn (R .ending) - h .progress .made) = omega arith in y) ∙ ap (λ (x : Result). turnsFor (nodesIn (x .ending) - h .progress .made)) (sym e);
+        turns = first ∙ ap suc z ∙ (let y : 1 ≡ turnsFor (nodesIn (R .ending) - h .progress .made) = omega arith in y) ∙ ap
+            (λ (x : Result). turnsFor (nodesIn (x .ending) - h .progress .made)) (sym e);
       }
 
   further : stretch (suc r) h ≡ andNext (R .ending) R (goOn p (stretchLimit (suc r) h) room (progressAfter p (h .progress) R))
@@ -100,7 +93,8 @@ module _ (r : ℕ) (h : Job) (l : h .progress .made ≤ h .limit) (g : goesOn (h
   h′ = jobAfter h (stretch 1 h)
 
   ended : Ended q (stretchLimit 1 h) (listRoom q) (nodesAfter q (h .progress .last)) (h .progress .made) (walked q (stretchLimit 1 h) (listRoom q) (h .progress) .passed) (spent plans made)
-  ended = subst (Ended q (stretchLimit 1 h) (listRoom q) (nodesAfter q (h .progress .last)) (h .progress .made) (walked q (stretchLimit 1 h) (listRoom q) (h .progress) .passed)) e (walked q (stretchLimit 1 h) (listRoom q) (h .progress) .ended)
+  ended = subst (Ended q (stretchLimit 1 h) (listRoom q) (nodesAfter q (h .progress .last)) (h .progress .made) (walked q (stretchLimit 1 h) (listRoom q) (h .progress) .passed)) e
+      (walked q (stretchLimit 1 h) (listRoom q) (h .progress) .ended)
 
   made-64 : h′ .progress .made ≡ h .progress .made + 64
   made-64 = let x = ended .2 in let y = ap nodesIn e in omega arith
@@ -128,7 +122,8 @@ module _ (r : ℕ) (h : Job) (l : h .progress .made ≤ h .limit) (g : goesOn (h
   limits = let z = made-64 in omega arith
 
   same : stretch (suc r) h ≡ stretch r h′
-  same = further r h l g ∙ ap (λ (x : Ending). andNext x (stretch 1 h) (goOn q (stretchLimit (suc r) h) (listRoom q) (h′ .progress))) e ∙ ap (λ (x : ℕ). goOn q x (listRoom q) (h′ .progress)) (sym limits)
+  same = further r h l g ∙ ap (λ (x : Ending). andNext x (stretch 1 h) (goOn q (stretchLimit (suc r) h) (listRoom q) (h′ .progress))) e ∙ ap (λ (x : ℕ). goOn q x (listRoom q) (h′ .progress))
+      (sym limits)
 
   -- what is carried on is the same in two parts and in one
   carried : jobAfter h′ (stretch r h′) .progress ≡ jobAfter h (stretch (suc r) h) .progress
@@ -169,7 +164,8 @@ stretched (suc r) h l g = go (stretch 1 h .ending) refl (stretched r (jobAfter h
     next : Ending → Result
     next x = andNext x (stretch 1 h) (goOn (problemOf (h .sheet)) (stretchLimit (suc (suc r)) h) (listRoom (problemOf (h .sheet))) (progressAfter (problemOf (h .sheet)) (h .progress) (stretch 1 h)))
 
-    go : (x : Ending) → stretch 1 h .ending ≡ x → (jobAfter h (stretch 1 h) .progress .made ≤ h .limit → goesOn (jobAfter h (stretch 1 h) .standing) ≡ true → Stretched (suc r) (jobAfter h (stretch 1 h))) → Stretched (suc (suc r)) h
+    go : (x : Ending) → stretch 1 h .ending ≡ x → (jobAfter h (stretch 1 h) .progress .made ≤ h .limit → goesOn (jobAfter h (stretch 1 h) .standing) ≡ true → Stretched (suc r)
+        (jobAfter h (stretch 1 h))) → Stretched (suc (suc r)) h
     go (finished a b) e ih = ended-by (suc r) h l g (ap goesOn (stands (finished a b) e)) (further (suc r) h l g ∙ ap next e)
     go (full a b) e ih = ended-by (suc r) h l g (ap goesOn (stands (full a b) e)) (further (suc r) h l g ∙ ap next e)
     go (spent a b) e ih = cases (ltb b (h .limit)) refl

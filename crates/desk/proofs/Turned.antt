@@ -1,27 +1,17 @@
 -- A job's run put into its slot is read back (specs/Layout, `withRun`), and the other slots stay. Assumes nothing.
-use mathlib.Core.Path.{_≡_, refl, sym, ap, ap₂, _∙_}
-use mathlib.Core.List.{List, [], _∷_, _++_, List·Memᴰ·head, append-assoc}
-use Prim.Native.Nat.{ℕ, _+_, _-_, _*_, _^_, _≤_, _<_, min}
-use native.Mathlib.Nat.{mul-le-mul}
-use native.Mathlib.Omega.{arith}
-use lib.ListN.{length, take, drop, replicate, length-append, length-replicate, take-append-drop}
+use Rattle.model.specs.Kit.{_≡_, refl, sym, ap, ap₂, _∙_, List, [], _∷_, _++_, List·Memᴰ·head, append-assoc, ℕ, _+_, _-_, _*_, _^_, _≤_, _<_, min, mul-le-mul, arith, length, take}
+use Rattle.model.specs.Kit.{drop, replicate, length-append, length-replicate, take-append-drop}
 use lib.Seq.{take-at, drop-at, take-take, take-length}
-use Rattle.model.specs.Lists.{at, flat}
-use Rattle.model.specs.Bytes.{twoBytes, fourBytes}
-use Rattle.model.specs.Written.{placed}
-use Rattle.model.specs.Run.{finished, spent, full, listedPlans}
-use Rattle.model.proofs.Lists.{at-append, at-skip}
-use Rattle.model.proofs.Room.{Wide, wide-tail, length-flat}
-use Rattle.model.proofs.Written.{length-placed, placed-before, placed-in, placed-after}
-use Rattle.desk.specs.Queue.{Standing, running, over, Job, taken}
-use Rattle.desk.specs.Places.{LIMIT, STANDING, NODES, PLANS, DEPTH, LAST, COUNTS, SHEET, LIST, LIST-BYTES, NEXT}
-use Rattle.desk.specs.Layout.{slotPlace, long, standingBy, nodesAt, plansAt, widthAt, rowsAt, lastAt, jobAt, slotOf, standingByte, figureBytes, runBytes, withRun, stateBytes, countBytes, countsAt}
+use Rattle.model.specs.{Lists.at, Lists.flat, Bytes.twoBytes, Bytes.fourBytes, Written.placed, Run.finished, Run.spent, Run.full, Run.listedPlans}
+use Rattle.model.proofs.{Lists.at-append, Lists.at-skip, Room.Wide, Room.wide-tail, Room.length-flat, Written.length-placed, Written.placed-before, Written.placed-in}
+use Rattle.model.proofs.Written.{placed-after}
+use Rattle.desk.specs.{Queue.Standing, Queue.running, Queue.over, Queue.Job, Queue.taken, Places.LIMIT, Places.STANDING, Places.NODES, Places.PLANS, Places.DEPTH}
+use Rattle.desk.specs.{Places.LAST, Places.COUNTS, Places.SHEET, Places.LIST, Places.LIST-BYTES, Places.NEXT, Layout.slotPlace, Layout.long, Layout.standingBy}
+use Rattle.desk.specs.Layout.{nodesAt, plansAt, widthAt, rowsAt, lastAt, jobAt, slotOf, standingByte, figureBytes, runBytes, withRun, stateBytes, countBytes, countsAt}
 use Rattle.desk.specs.Claims.{QueueBytes}
 use Rattle.desk.proofs.Bytes.{Small, part-is, word-of, long-of, small-cons, small-nil, small-append, small-replicate, small-placed, small-four, small-two}
-use Rattle.desk.proofs.Counts.{counts-as, count-length, count-byte, count-small}
-use Rattle.desk.proofs.Slots.{taken-at, long-small}
-use Rattle.desk.proofs.Meaning.{job-is, sheet-same, width-same, long-same, slot-same, others-placed}
-use Rattle.desk.proofs.Turning.{Fits}
+use Rattle.desk.proofs.{Counts.counts-as, Counts.count-length, Counts.count-byte, Counts.count-small, Slots.taken-at, Slots.long-small, Meaning.job-is, Meaning.sheet-same}
+use Rattle.desk.proofs.{Meaning.width-same, Meaning.long-same, Meaning.slot-same, Meaning.others-placed, Turning.Fits}
 
 -- rows at the front of a list are listed again
 listed-rest : (n : ℕ) (rows : List (List ℕ)) (rest : List ℕ) → Wide n rows → listedPlans n (length rows) (flat rows ++ rest) ≡ rows
@@ -109,7 +99,8 @@ module _ (b : List ℕ) (k : ℕ) (d : QueueBytes b) (h : k < 8) (g : Job) (f : 
   state-tail : (i : ℕ) → i < L → at (stateBytes g) (8 + i) ≡ at (g .progress .last) (0 + i)
   unfolding stateBytes figureBytes fourBytes
   state-tail i l =
-      at-skip (figureBytes g) (g .progress .last ++ replicate (12 - L) 0) 8 (8 + i) refl (omega arith) ∙ ap (at (g .progress .last ++ replicate (12 - L) 0)) (let z : 8 + i - 8 ≡ 0 + i = omega arith in z)
+      at-skip (figureBytes g) (g .progress .last ++ replicate (12 - L) 0) 8 (8 + i) refl (omega arith) ∙ ap (at (g .progress .last ++ replicate (12 - L) 0))
+      (let z : 8 + i - 8 ≡ 0 + i = omega arith in z)
       ∙ at-append (g .progress .last) (replicate (12 - L) 0) (0 + i) (omega arith)
 
   four-byte : (x j o : ℕ) → p + COUNTS + 4 * x + j ≡ o → x < 12 → j < 4 → at c o ≡ at (fourBytes (at (g .progress .counts) x)) j
@@ -123,7 +114,8 @@ module _ (b : List ℕ) (k : ℕ) (d : QueueBytes b) (h : k < 8) (g : Job) (f : 
   made-read : long c (p + NODES) ≡ g .progress .made
   unfolding figureBytes fourBytes at
   made-read =
-      long-of c (p + NODES) (g .progress .made) (figure-byte (p + NODES) 1 (omega arith) (omega arith)) (figure-byte (p + NODES + 1) 2 (omega arith) (omega arith)) (figure-byte (p + NODES + 2) 3 (omega arith) (omega arith))
+      long-of c (p + NODES) (g .progress .made) (figure-byte (p + NODES) 1 (omega arith) (omega arith)) (figure-byte (p + NODES + 1) 2 (omega arith) (omega arith))
+      (figure-byte (p + NODES + 2) 3 (omega arith) (omega arith))
       (figure-byte (p + NODES + 2 + 1) 4 (omega arith) (omega arith))
 
   plans-read : plansAt c p ≡ length (g .progress .rows)
@@ -143,7 +135,8 @@ module _ (b : List ℕ) (k : ℕ) (d : QueueBytes b) (h : k < 8) (g : Job) (f : 
   unfolding fourBytes at
   counts-read = counts-as c p (g .progress .counts) (f .twelve) (λ x l.
       let o = p + COUNTS + 4 * x in
-      let e = long-of c o (at (g .progress .counts) x) (four-byte x 0 o (omega arith) l (omega arith)) (four-byte x 1 (o + 1) (omega arith) l (omega arith)) (four-byte x 2 (o + 2) (omega arith) l (omega arith)) (four-byte x 3 (o + 2 + 1) (omega arith) l (omega arith)) in
+      let e = long-of c o (at (g .progress .counts) x) (four-byte x 0 o (omega arith) l (omega arith)) (four-byte x 1 (o + 1) (omega arith) l (omega arith))
+      (four-byte x 2 (o + 2) (omega arith) l (omega arith)) (four-byte x 3 (o + 2 + 1) (omega arith) l (omega arith)) in
       let m = f .counted x in
       ap₂ min nodes-read e ∙ (let z : min (g .progress .made) (at (g .progress .counts) x) ≡ at (g .progress .counts) x = omega arith in z))
 
@@ -159,8 +152,10 @@ module _ (b : List ℕ) (k : ℕ) (d : QueueBytes b) (h : k < 8) (g : Job) (f : 
       let l = length₁ in
       let o = run-whole in
       let w = d .0 in
-      let part : take m area ≡ text = part-is c text (p + LIST) 0 m (omega arith) (omega arith) (λ i n. placed-in c₁ (p + LIST) text fits₂ i n ∙ ap (at text) (let z : i ≡ 0 + i = omega arith in z)) ∙ take-length text in
-      let front : take LIST-BYTES area ≡ text ++ drop m (take LIST-BYTES area) = sym (take-append-drop m (take LIST-BYTES area)) ∙ ap (λ (x : List ℕ). x ++ drop m (take LIST-BYTES area)) (take-take m LIST-BYTES area e ∙ part) in
+      let part : take m area ≡ text = part-is c text (p + LIST) 0 m (omega arith) (omega arith)
+      (λ i n. placed-in c₁ (p + LIST) text fits₂ i n ∙ ap (at text) (let z : i ≡ 0 + i = omega arith in z)) ∙ take-length text in
+      let front : take LIST-BYTES area ≡ text ++ drop m (take LIST-BYTES area) = sym (take-append-drop m (take LIST-BYTES area)) ∙ ap (λ (x : List ℕ). x ++ drop m (take LIST-BYTES area))
+      (take-take m LIST-BYTES area e ∙ part) in
       ap₂ (λ (x y : ℕ). listedPlans x y (take LIST-BYTES area)) width-read plans-read ∙ ap (listedPlans (widthAt b p) (length (g .progress .rows))) front
       ∙ listed-rest (widthAt b p) (g .progress .rows) (drop m (take LIST-BYTES area)) (f .wide)
 
@@ -179,7 +174,8 @@ module _ (b : List ℕ) (k : ℕ) (d : QueueBytes b) (h : k < 8) (g : Job) (f : 
   standing-read : standingBy (min 3 (at c (p + STANDING))) (plansAt c p) (nodesAt c p) ≡ g .standing
   unfolding figureBytes fourBytes at
   standing-read =
-      ap (λ (x : ℕ). standingBy (min 3 x) (plansAt c p) (nodesAt c p)) (figure-byte (p + STANDING) 0 (omega arith) (omega arith)) ∙ ap₂ (standingBy (min 3 (standingByte (g .standing)))) plans-read nodes-read ∙ f .figured
+      ap (λ (x : ℕ). standingBy (min 3 x) (plansAt c p) (nodesAt c p)) (figure-byte (p + STANDING) 0 (omega arith) (omega arith)) ∙ ap₂
+      (standingBy (min 3 (standingByte (g .standing)))) plans-read nodes-read ∙ f .figured
 
   pub run-job : jobAt c p ≡ g
   unfolding jobAt

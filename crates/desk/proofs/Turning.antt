@@ -1,34 +1,20 @@
 -- A job that a slot's bytes can hold, and that a turn makes such a job of it (specs/Layout). Assumes nothing.
-use mathlib.Core.Path.{_≡_, refl, sym, ap, ap₂, _∙_, subst}
-use mathlib.Core.Bool.{Bool, true, false}
-use mathlib.Core.Logic.{_⊎_, inl, inr, ⊎-elim}
-use mathlib.Core.List.{List, [], _∷_, _++_, List·Memᴰ, List·Memᴰ·head, List·Memᴰ·tail, append-nil}
-use Prim.Native.Nat.{ℕ, zero, suc, _+_, _-_, _*_, _≤_, _<_, min}
-use native.Mathlib.Nat.{mul-le-mul, suc-mul}
-use native.Mathlib.Omega.{arith}
-use lib.Dec.{T, ltb, leb, eqb, eqb→eq}
-use lib.ListN.{length, take, drop, length-take, length-drop}
-use lib.Seq.{getD-drop, length-take-le, take-nil}
-use borrow.Author.Tests.{leb-true, leb-false, ltb-true, ltb-false}
-use Rattle.model.specs.Lists.{at, choose, flat, keep}
-use Rattle.model.specs.Problem.{Problem}
-use Rattle.model.specs.Search.{nodesBelow, nodes, isPlan}
-use Rattle.model.specs.Sheet.{«word», headerOf, problemOf}
-use Rattle.model.specs.Run.{Ending, finished, spent, full, plansIn, nodesIn, search, settledBy, countsBy, listedPlans}
-use Rattle.model.proofs.Lists.{T-of, at-take, both-l, keep-e, flat-append, at-out}
-use Rattle.model.proofs.Room.{Wide, length-listed, listed-wide}
-use Rattle.model.proofs.Runs.{walk}
+use Rattle.model.specs.Kit.{_≡_, refl, sym, ap, ap₂, _∙_, subst, Bool, true, false, _⊎_, inl, inr, ⊎-elim, List, [], _∷_, _++_, List·Memᴰ, List·Memᴰ·head, List·Memᴰ·tail}
+use Rattle.model.specs.Kit.{append-nil, ℕ, zero, suc, _+_, _-_, _*_, _≤_, _<_, min, mul-le-mul, suc-mul, arith, T, ltb, leb, eqb, eqb→eq, length, take, drop, length-take}
+use Rattle.model.specs.Kit.{length-drop, getD-drop, length-take-le, leb-true, leb-false, ltb-true, ltb-false}
+use lib.Seq.{take-nil}
+use Rattle.model.specs.{Lists.at, Lists.choose, Lists.flat, Lists.keep, Problem.Problem, Search.nodes, Search.isPlan, Sheet.«word», Sheet.headerOf, Sheet.problemOf, Run.Ending}
+use Rattle.model.specs.Run.{finished, spent, full, plansIn, nodesIn, search, settledBy, countsBy, listedPlans}
+use Rattle.model.proofs.{Lists.T-of, Lists.at-take, Lists.both-l, Lists.keep-e, Lists.flat-append, Lists.at-out, Room.Wide, Room.length-listed, Room.listed-wide, Runs.walk}
+use Rattle.model.proofs.{Tally.count-most, Accepted.no-nodes as empty-nodes}
 use Rattle.run_cut.specs.Parts.{after, nodesAfter, lastOf, goOn, madeIn}
-use Rattle.run_cut.proofs.Resume.{node-values, last-in, taken}
-use Rattle.run_cut.proofs.Counts.{length-added}
-use Rattle.run_cut.proofs.Anywhere.{no-fewer}
+use Rattle.run_cut.proofs.{Resume.node-values, Resume.last-in, Resume.taken, Counts.length-added, Anywhere.no-fewer}
 use Rattle.sheet.specs.Form.{compilable}
 use Rattle.sheet.proofs.Compilable.{compilable-fits}
-use Rattle.desk.specs.Queue.{Standing, running, over, Job, listRoom, turnLimit, standingAfter, jobTurned}
-use Rattle.desk.specs.Places.{LIMIT, DEPTH, LAST, SHEET, LIST, LIST-BYTES, SLOT}
-use Rattle.desk.specs.Layout.{long, standingBy, standingAt, sheetLength, nodesAt, plansAt, widthAt, rowsAt, lastAt, sheetAt, jobAt, standingByte}
-use Rattle.desk.proofs.Bytes.{Small, small-nil, small-append, small-take, small-drop}
-use Rattle.desk.proofs.Counts.{count-most, added-most, counts-length, counts-most}
+use Rattle.desk.specs.{Queue.Standing, Queue.running, Queue.over, Queue.Job, Queue.listRoom, Queue.turnLimit, Queue.standingAfter, Queue.jobTurned, Places.LIMIT}
+use Rattle.desk.specs.{Places.DEPTH, Places.LAST, Places.SHEET, Places.LIST, Places.LIST-BYTES, Places.SLOT, Layout.long, Layout.standingBy, Layout.standingAt}
+use Rattle.desk.specs.Layout.{sheetLength, nodesAt, plansAt, widthAt, rowsAt, lastAt, sheetAt, jobAt, standingByte}
+use Rattle.desk.proofs.{Bytes.Small, Bytes.small-nil, Bytes.small-append, Bytes.small-take, Bytes.small-drop, Counts.added-most, Counts.counts-length, Counts.counts-most}
 use Rattle.desk.proofs.Slots.{flat-listed}
 
 -- how a run stands, told by its number and its figures
@@ -67,7 +53,8 @@ at-fits b p room small = record {
   wide = listed-wide (widthAt b p) (plansAt b p) list (let e = area in let z = most in omega arith);
   short = let e = length-take (min 12 (at b (p + DEPTH))) (drop (p + LAST) b) in omega arith;
   figured = subst (λ (k : ℕ). Figured (standingBy (standingAt b p) (plansAt b p) (nodesAt b p)) k (nodesAt b p)) (sym number) (standing-figured (standingAt b p) (plansAt b p) (nodesAt b p));
-  row-bytes = subst Small (sym (flat-listed (widthAt b p) (plansAt b p) list)) (small-take (plansAt b p * widthAt b p) list (small-take LIST-BYTES (drop (p + LIST) b) (small-drop (p + LIST) b small)));
+  row-bytes = subst Small (sym (flat-listed (widthAt b p) (plansAt b p) list)) (small-take (plansAt b p * widthAt b p) list
+      (small-take LIST-BYTES (drop (p + LIST) b) (small-drop (p + LIST) b small)));
   last-bytes = small-take (min 12 (at b (p + DEPTH))) (drop (p + LAST) b) (small-drop (p + LAST) b small);
 }
   where
@@ -95,10 +82,6 @@ node-small q t m = (λ i. byte i (ltb i (length t)) refl, node-values q t m .1)
 abbrev pub Known : List ℕ → ℕ → Problem → Type 0
 Known b p q = ((q .variables ≡ widthAt b p) × (1 ≤ q .variables) × (q .variables ≤ 12)) ⊎ (nodes q ≡ [])
 
-empty-nodes : nodes (problemOf []) ≡ []
-unfolding nodes nodesBelow problemOf headerOf «word» at
-empty-nodes = refl
-
 -- the bytes that stand where the slot's sheet does
 abbrev pub rawAt : List ℕ → ℕ → List ℕ
 rawAt b p = take (sheetLength b p) (drop (p + SHEET) b)
@@ -111,7 +94,8 @@ raw-known b p t =
     let l = length-take (sheetLength b p) (drop (p + SHEET) b) in
     let o = h .long in
     let n : 16 ≤ sheetLength b p = omega arith in
-    let x : at raw 0 ≡ at b (p + SHEET) = at-take (sheetLength b p) (drop (p + SHEET) b) 0 (omega arith) ∙ getD-drop (p + SHEET) b 0 0 ∙ ap (at b) (let z : p + SHEET + 0 ≡ p + SHEET = omega arith in z) in
+    let x : at raw 0 ≡ at b (p + SHEET) = at-take (sheetLength b p) (drop (p + SHEET) b) 0 (omega arith) ∙ getD-drop (p + SHEET) b 0 0 ∙ ap (at b)
+    (let z : p + SHEET + 0 ≡ p + SHEET = omega arith in z) in
     let y : at raw 1 ≡ at b (p + SHEET + 1) = at-take (sheetLength b p) (drop (p + SHEET) b) 1 (omega arith) ∙ getD-drop (p + SHEET) b 1 0 in
     let w : «word» raw 0 ≡ «word» b (p + SHEET) = ap₂ (λ (i j : ℕ). i + 256 * j) x y in
     let few : «word» raw 0 ≤ 12 = h .few in
@@ -198,7 +182,8 @@ module _ (b : List ℕ) (p : ℕ) (h : Job) (f : Fits b p h) where
         limited = f .limited;
         allowed = omega arith;
         twelve = length-added (h .progress .counts) (countsBy settledBy (madeIn q (h .progress) r));
-        counted = λ x. let z = added-most (h .progress .counts) (countsBy settledBy (madeIn q (h .progress) r)) (h .progress .made) (length (madeIn q (h .progress) r)) (f .counted) (count-most settledBy (madeIn q (h .progress) r)) x in let y = length-take (nodesIn (r .ending) - h .progress .made) ts in let u = no-fewer q upto room (h .progress) in omega arith;
+        counted = λ x. let z = added-most (h .progress .counts) (countsBy settledBy (madeIn q (h .progress) r)) (h .progress .made) (length (madeIn q (h .progress) r)) (f .counted)
+            (count-most settledBy (madeIn q (h .progress) r)) x in let y = length-take (nodesIn (r .ending) - h .progress .made) ts in let u = no-fewer q upto room (h .progress) in omega arith;
         few = k .0;
         wide = k .1;
         short = last-short (nodesIn (r .ending) - h .progress .made) known;
@@ -207,7 +192,8 @@ module _ (b : List ℕ) (p : ℕ) (h : Job) (f : Fits b p h) where
         last-bytes = last-small (nodesIn (r .ending) - h .progress .made);
       }
     where
-      few-wide : (k : ℕ) (rows : List (List ℕ)) → rows ≡ h .progress .rows ++ keep (isPlan q) (take k ts) → (length (h .progress .rows) * q .variables ≤ listRoom q → length rows * q .variables ≤ listRoom q) →
+      few-wide : (k : ℕ) (rows : List (List ℕ)) → rows ≡ h .progress .rows ++ keep (isPlan q) (take k ts) →
+          (length (h .progress .rows) * q .variables ≤ listRoom q → length rows * q .variables ≤ listRoom q) →
           Known b p q → (length rows ≤ 4096) × Wide (widthAt b p) rows
       few-wide k rows e roomy (inl s) =
           let o = f .few in
@@ -217,7 +203,8 @@ module _ (b : List ℕ) (p : ℕ) (h : Job) (f : Fits b p h) where
             subst (Wide (widthAt b p)) (sym e) (wide-append (h .progress .rows) (keep (isPlan q) (take k ts)) (f .wide) (λ t m. new-in k t m .1 ∙ s .0)),
           )
       few-wide k rows e roomy (inr s) =
-          let same : rows ≡ h .progress .rows = e ∙ ap (λ (l : List (List ℕ)). h .progress .rows ++ keep (isPlan q) (take k l)) (no-nodes s) ∙ ap (λ (l : List (List ℕ)). h .progress .rows ++ keep (isPlan q) l) (take-nil k) ∙ append-nil (h .progress .rows) in
+          let same : rows ≡ h .progress .rows = e ∙ ap (λ (l : List (List ℕ)). h .progress .rows ++ keep (isPlan q) (take k l)) (no-nodes s) ∙ ap
+          (λ (l : List (List ℕ)). h .progress .rows ++ keep (isPlan q) l) (take-nil k) ∙ append-nil (h .progress .rows) in
           (subst (λ (l : List (List ℕ)). length l ≤ 4096) (sym same) (f .few), subst (Wide (widthAt b p)) (sym same) (f .wide))
 
       rows-small : (k : ℕ) → Small (flat (h .progress .rows ++ keep (isPlan q) (take k ts)))
@@ -227,7 +214,8 @@ module _ (b : List ℕ) (p : ℕ) (h : Job) (f : Fits b p h) where
 
       last-small : (k : ℕ) → Small (lastOf (h .progress .last) (take k ts))
       last-small k =
-          ⊎-elim {C = Small (lastOf (h .progress .last) (take k ts))} (λ e. subst Small (sym e) (f .last-bytes)) (λ m. node-small q _ (of-nodes _ (taken q k ts _ m)) .0) (last-in q (h .progress .last) (take k ts))
+          ⊎-elim {C = Small (lastOf (h .progress .last) (take k ts))} (λ e. subst Small (sym e) (f .last-bytes)) (λ m. node-small q _ (of-nodes _ (taken q k ts _ m)) .0)
+          (last-in q (h .progress .last) (take k ts))
 
       last-short : (k : ℕ) → Known b p q → length (lastOf (h .progress .last) (take k ts)) ≤ 12
       last-short k (inl s) =

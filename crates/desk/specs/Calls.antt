@@ -1,12 +1,7 @@
 -- What callers of `submit`, `status` and `release` hold: the contracts, one record a function.
-use mathlib.Core.Path.{_≡_}
-use mathlib.Core.List.{List, []}
-use Prim.Native.Nat.{ℕ}
-use Rattle.desk.specs.Queue.{submit, release}
-use Rattle.desk.specs.Layout.{replyOn, bytesAfter, statusOn, countsOn}
-use Rattle.desk.specs.Meaning.{means, roomAfter}
-use Rattle.desk.specs.declared.Answer.{Answer}
-use Rattle.desk.specs.declared.SlotStatus.{SlotStatus}
+use Rattle.model.specs.Kit.{_≡_, List, [], ℕ}
+use Rattle.desk.specs.{Queue.submit, Queue.release, Layout.replyOn, Layout.bytesAfter, Layout.statusOn, Layout.countsOn, Meaning.means, Meaning.roomAfter}
+use Rattle.desk.specs.{declared.Answer.Answer, declared.SlotStatus.SlotStatus}
 
 -- b are the queue's bytes before and c after the call, r came back
 pub record SubmitDone (b sheet : List ℕ) (limit : ℕ) (c : List ℕ) (r : Answer) : Type 0 where

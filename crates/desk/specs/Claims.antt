@@ -1,21 +1,12 @@
 -- What paper 02, #113, asks of the queue, as statements; they can be read without the proofs. Jobs come and go, and turns are given, one call after
 -- another on one queue.
-use mathlib.Core.Path.{_≡_}
-use mathlib.Core.Logic.{_⊎_}
-use mathlib.Core.Bool.{Bool, true, false}
-use mathlib.Core.List.{List, [], _∷_, _++_, List·Memᴰ}
-use Prim.Native.Nat.{ℕ, suc, _+_, _*_, _^_, _≤_, _<_}
-use lib.ListN.{length, replicate}
-use lib.Dec.{T, eqb}
-use Rattle.model.specs.Lists.{any, at, flat}
-use Rattle.model.specs.Verdict.{refused}
-use Rattle.model.specs.Search.{nodes}
-use Rattle.model.specs.Sheet.{verdictOf, problemOf}
-use Rattle.model.specs.Run.{Ending, spent, plansIn, nodesIn, Result, resultOf, ended, answerOf, written, listOf, Tally, tallyAt, tallyOf}
+use Rattle.model.specs.Kit.{_≡_, _⊎_, Bool, true, false, List, [], _∷_, _++_, List·Memᴰ, ℕ, suc, _+_, _*_, _^_, _≤_, _<_, length, replicate, T, eqb}
+use Rattle.model.specs.{Lists.any, Lists.at, Lists.flat, Verdict.refused, Search.nodes, Sheet.verdictOf, Sheet.problemOf, Run.Ending, Run.spent, Run.plansIn, Run.nodesIn}
+use Rattle.model.specs.Run.{Result, resultOf, ended, answerOf, written, listOf, Tally, tallyAt, tallyOf}
 use Rattle.run_cut.specs.Parts.{progressAt}
-use Rattle.desk.specs.Queue.{Standing, running, over, goesOn, Job, newJob, listRoom, jobTurned, turned, free, taken, isFree, waits, Queue, emptyQueue, slotAt, QueueCall, submit, turn, release, QueueReply, denied, queued, idle, served, released, fits, releaseSlot, queueReply, queueAfter, queueEnd, queueReplies, roundsQueue, turnsGiven, due, statusCounts}
-use Rattle.desk.specs.Places.{size}
-use Rattle.desk.specs.Layout.{queueOf, roundsBytes, replyOn, bytesAfter}
+use Rattle.desk.specs.Queue.{Standing, running, over, goesOn, Job, newJob, listRoom, jobTurned, turned, free, taken, isFree, waits, Queue, emptyQueue, slotAt, QueueCall}
+use Rattle.desk.specs.Queue.{submit, turn, release, QueueReply, denied, queued, idle, served, released, fits, releaseSlot, queueReply, queueAfter, queueEnd, queueReplies}
+use Rattle.desk.specs.{Queue.roundsQueue, Queue.turnsGiven, Queue.due, Queue.statusCounts, Places.size, Layout.queueOf, Layout.roundsBytes, Layout.replyOn, Layout.bytesAfter}
 
 -- ---- words
 -- the run alone: the job's sheet, a limit, and room for 4,096 plans
@@ -67,7 +58,8 @@ abbrev pub HoldsAs : Job → Standing → Type 0
 HoldsAs h running =
     (h .progress ≡ progressAt (problemOf (h .sheet)) (h .progress .made))
     × ((h .progress .made ≡ 0)
-    ⊎ ((h .progress .made < h .limit) × (h .progress .made < length (nodes (problemOf (h .sheet)))) × (alone h (h .progress .made) ≡ record { ending = spent (length (h .progress .rows)) (h .progress .made); rows = h .progress .rows })))
+    ⊎ ((h .progress .made < h .limit) × (h .progress .made < length (nodes (problemOf (h .sheet)))) ×
+    (alone h (h .progress .made) ≡ record { ending = spent (length (h .progress .rows)) (h .progress .made); rows = h .progress .rows })))
 HoldsAs h (over e) =
     (alone h (h .limit) ≡ record { ending = e; rows = h .progress .rows }) × (h .progress .made ≡ nodesIn e) × (length (h .progress .rows) ≡ plansIn e)
     × (h .progress .counts ≡ tallyAt (problemOf (h .sheet)) (nodesIn e) .counts)

@@ -1,18 +1,13 @@
 -- The queue's bytes: eight slots, and one byte for the slot where the next turn begins to look; specs/Places says where a slot has what. Any bytes of the
 -- queue's size are a queue; zeros are the empty one.
-use mathlib.Core.List.{List, [], _∷_, _++_, map}
-use Prim.Native.Nat.{ℕ, zero, suc, _+_, _-_, _*_, _%_, min}
-use lib.ListN.{length, take, drop, set, replicate}
-use lib.Dec.{eqb}
-use Rattle.model.specs.Lists.{at, choose, flat, below, tabulate}
-use Rattle.model.specs.Verdict.{Verdict, accepted, refused}
-use Rattle.model.specs.Sheet.{«word», verdictOf}
-use Rattle.model.specs.Bytes.{twoBytes, fourBytes}
-use Rattle.model.specs.Written.{placed}
-use Rattle.model.specs.Run.{finished, spent, full, listedPlans}
+use Rattle.model.specs.Kit.{List, [], _∷_, _++_, map, ℕ, zero, suc, _+_, _-_, _*_, _%_, min, length, take, drop, set, replicate, eqb}
+use Rattle.model.specs.{Lists.at, Lists.choose, Lists.flat, Lists.below, Lists.tabulate, Verdict.Verdict, Verdict.accepted, Verdict.refused, Sheet.«word», Sheet.verdictOf}
+use Rattle.model.specs.{Bytes.twoBytes, Bytes.fourBytes, Written.placed, Run.finished, Run.spent, Run.full, Run.listedPlans}
 use Rattle.sheet.specs.Form.{compilable}
 use Rattle.desk.specs.Places.{LENGTH, LIMIT, STANDING, NODES, PLANS, DEPTH, LAST, COUNTS, SHEET, SHEET-BYTES, LIST, LIST-PLANS, LIST-BYTES, SLOT, NEXT, size}
-use Rattle.desk.specs.Queue.{Standing, running, over, Job, jobTurned, Slot, free, taken, Queue, slotAt, Found, none-found, slot, lowestFree, toServe, QueueCall, submit, turn, release, QueueReply, denied, fits, queueReply, dueAt, given, roundFrom, roundsQueue, statusReply, noCounts, statusCounts, RoundsReply, not-given, roundsReply}
+use Rattle.desk.specs.Queue.{Standing, running, over, Job, jobTurned, Slot, free, taken, Queue, slotAt, Found, none-found, slot, lowestFree, toServe, QueueCall, submit, turn}
+use Rattle.desk.specs.Queue.{release, QueueReply, denied, fits, queueReply, dueAt, given, roundFrom, roundsQueue, statusReply, noCounts, statusCounts, RoundsReply, not-given}
+use Rattle.desk.specs.Queue.{roundsReply}
 
 -- where slot k starts
 abbrev pub slotPlace : ℕ → ℕ

@@ -5,4 +5,4 @@ pub mod Layout
 pub mod Meaning
 pub mod Calls
 pub mod Claims
-pub mod Examples
+pub mod inner

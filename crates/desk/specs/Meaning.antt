@@ -1,11 +1,8 @@
 -- What the answers mean.
-use mathlib.Core.List.{List}
-use Prim.Native.Nat.{ℕ}
-use Rattle.desk.specs.Queue.{QueueReply, denied, queued, idle, served, released, Found, none-found, slot}
-use Rattle.desk.specs.Layout.{standingBy}
-use Rattle.desk.specs.declared.Answer.{Answer}
-use Rattle.desk.specs.declared.Answer.the-variants.{Queued, Idle, Stands, Released, Refused}
-use lib.Dec.{ltb}
+use Rattle.model.specs.Kit.{List, ℕ, ltb}
+use Rattle.desk.specs.{Queue.QueueReply, Queue.denied, Queue.queued, Queue.idle, Queue.served, Queue.released, Queue.Found, Queue.none-found, Queue.slot, Layout.standingBy}
+use Rattle.desk.specs.{declared.Answer.Answer, declared.Answer.the-variants.Queued, declared.Answer.the-variants.Idle, declared.Answer.the-variants.Stands}
+use Rattle.desk.specs.declared.Answer.the-variants.{Released, Refused}
 use Rattle.model.specs.Lists.{choose}
 
 -- the reply, given the room afterwards

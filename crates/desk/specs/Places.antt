@@ -1,5 +1,5 @@
 -- Where a queue's bytes have what: the constants of src/lib.rt.
-use Prim.Native.Nat.{ℕ}
+use Rattle.model.specs.Kit.{ℕ}
 
 -- ---- in a slot, low bytes first; its first byte says whether it is taken (0: free)
 -- the sheet's length, two bytes

@@ -1,16 +1,8 @@
 -- A queue of jobs in eight slots (paper 02, #113: a desk, its halls and seats): a sheet, a limit (the allowance) and the run so far each; a turn makes 64 nodes (trials)
 -- of one of the runs.
-use mathlib.Core.Bool.{Bool, true, false, not}
-use mathlib.Core.List.{List, [], _∷_, map}
-use Prim.Native.Nat.{ℕ, zero, suc, _+_, _*_, _%_, min}
-use lib.ListN.{length, set, getD, replicate}
-use lib.Dec.{leb, ltb}
-use Rattle.model.specs.Lists.{both, choose, flat, below, total}
-use Rattle.model.specs.ValueSets.{maskOf}
-use Rattle.model.specs.Problem.{Problem}
-use Rattle.model.specs.Verdict.{Verdict, accepted, refused}
-use Rattle.model.specs.Sheet.{verdictOf, problemOf}
-use Rattle.model.specs.Run.{Ending, finished, spent, full, Result, written}
+use Rattle.model.specs.Kit.{Bool, true, false, not, List, [], _∷_, map, ℕ, zero, suc, _+_, _*_, _%_, min, length, set, getD, replicate, leb, ltb}
+use Rattle.model.specs.{Lists.both, Lists.choose, Lists.flat, Lists.below, Lists.total, ValueSets.maskOf, Problem.Problem, Verdict.Verdict, Verdict.accepted, Verdict.refused}
+use Rattle.model.specs.{Sheet.verdictOf, Sheet.problemOf, Run.Ending, Run.finished, Run.spent, Run.full, Run.Result, Run.written}
 use Rattle.run_cut.specs.Parts.{Progress, start, goOn, progressAfter}
 use Rattle.desk.specs.Places.{LIST-PLANS, QUANTUM}
 

@@ -1,16 +1,8 @@
 -- The counts put into a slot's bytes, one after the other. Assumes nothing.
-use mathlib.Core.Path.{_≡_, sym, ap, ap₂, _∙_}
-use mathlib.Core.List.{List, [], _∷_, _++_, map, append-nil}
-use Prim.Native.Nat.{ℕ, _+_, _*_, _≤_, _<_}
-use native.Mathlib.Numerals.{add-one}
-use native.Mathlib.Omega.{arith}
-use lib.ListN.{length, take}
-use lib.Seq.{take-suc, take-all, length-take-le}
-use Rattle.model.specs.Lists.{at, flat}
-use Rattle.model.specs.Bytes.{fourBytes}
-use Rattle.model.specs.Written.{placed}
-use Rattle.model.proofs.Lists.{flat-append, map-append}
-use Rattle.model.proofs.Written.{placed-then, placed-none}
+use Rattle.model.specs.Kit.{_≡_, sym, ap, ap₂, _∙_, List, [], _∷_, _++_, map, append-nil, ℕ, _+_, _*_, _≤_, _<_, add-one, arith, length, take, take-all, length-take-le}
+use lib.Seq.{take-suc}
+use Rattle.model.specs.{Lists.at, Lists.flat, Bytes.fourBytes, Written.placed}
+use Rattle.model.proofs.{Lists.flat-append, Lists.map-append, Written.placed-then, Written.placed-none}
 use Rattle.desk.specs.Layout.{countBytes}
 use Rattle.desk.proofs.Counts.{count-length}
 
@@ -19,13 +11,15 @@ next-bytes : (ks : List ℕ) (x : ℕ) → x < length ks → countBytes (take (x
 unfolding countBytes flat at
 next-bytes ks x l =
     ap (λ (k : ℕ). flat (map fourBytes (take k ks))) (add-one x) ∙ ap (λ (m : List ℕ). flat (map fourBytes m)) (take-suc ks x 0 l)
-    ∙ ap flat (map-append fourBytes (take x ks) (at ks x ∷ [])) ∙ flat-append (map fourBytes (take x ks)) (fourBytes (at ks x) ∷ []) ∙ ap (λ (m : List ℕ). flat (map fourBytes (take x ks)) ++ m) (append-nil (fourBytes (at ks x)))
+    ∙ ap flat (map-append fourBytes (take x ks) (at ks x ∷ [])) ∙ flat-append (map fourBytes (take x ks)) (fourBytes (at ks x) ∷ []) ∙ ap (λ (m : List ℕ). flat (map fourBytes (take x ks)) ++ m)
+    (append-nil (fourBytes (at ks x)))
 
 pub counts-begin : (d ks : List ℕ) (o : ℕ) → d ≡ placed d o (countBytes (take 0 ks))
 unfolding countBytes flat
 counts-begin d ks o = sym (placed-none d o)
 
-pub counts-turn : (d ks : List ℕ) (o x : ℕ) (cur new t : List ℕ) → x < length ks → o + 4 * length ks ≤ length d → cur ≡ placed d o (countBytes (take x ks)) → t ≡ fourBytes (at ks x) → new ≡ placed cur (o + 4 * x) t →
+pub counts-turn : (d ks : List ℕ) (o x : ℕ) (cur new t : List ℕ) → x < length ks → o + 4 * length ks ≤ length d → cur ≡ placed d o (countBytes (take x ks)) → t ≡ fourBytes (at ks x)
+    → new ≡ placed cur (o + 4 * x) t →
     new ≡ placed d o (countBytes (take (x + 1) ks))
 counts-turn d ks o x cur new t l fits e f g =
     let n : length (countBytes (take x ks)) ≡ 4 * x = count-length (take x ks) ∙ ap (λ (k : ℕ). 4 * k) (length-take-le x ks (omega arith)) in

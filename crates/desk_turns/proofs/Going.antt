@@ -1,31 +1,18 @@
 -- Going on with a slot's run: what is lent to it stands as the slot's bytes say, and what it leaves is put back. Assumes nothing.
-use mathlib.Core.Path.{_≡_, refl, sym, ap, ap₂, _∙_, subst}
-use mathlib.Core.List.{List, [], _++_, List·Memᴰ, append-assoc}
-use Prim.Native.Nat.{ℕ, _+_, _-_, _*_, _≤_, min}
-use native.Mathlib.Nat.{mul-le-mul}
-use native.Mathlib.Omega.{arith}
-use lib.Dec.{T}
-use lib.ListN.{length, take, drop, length-append, length-drop, take-append-drop}
-use lib.Seq.{length-take-le, take-take, drop-drop, drop-append-le}
+use Rattle.model.specs.Kit.{_≡_, refl, sym, ap, ap₂, _∙_, subst, List, [], _++_, List·Memᴰ, append-assoc, ℕ, _+_, _-_, _*_, _≤_, min, mul-le-mul, arith, T, length, take, drop}
+use Rattle.model.specs.Kit.{length-append, length-drop, take-append-drop, length-take-le}
+use lib.Seq.{take-take, drop-drop, drop-append-le}
 use borrow.Rule.Slice.PartMut.{putMid}
-use Rattle.model.specs.Lists.{at, flat, choose}
-use Rattle.model.specs.Problem.{Problem}
-use Rattle.model.specs.Sheet.{problemOf}
-use Rattle.model.specs.Written.{placed}
-use Rattle.model.specs.Run.{written, Tally}
-use Rattle.model.proofs.Lists.{of-T}
-use Rattle.model.proofs.Room.{length-listed}
+use Rattle.model.specs.{Lists.at, Lists.flat, Lists.choose, Problem.Problem, Sheet.problemOf, Written.placed, Run.written, Run.Tally}
+use Rattle.model.proofs.{Lists.of-T, Room.length-listed}
 use Rattle.run_cut.specs.Parts.{Progress}
 use Rattle.sheet.specs.Form.{compilable}
-use Rattle.desk.specs.Queue.{listRoom}
-use Rattle.desk.specs.Places.{DEPTH, LAST, SHEET, LIST, LIST-BYTES, SLOT}
-use Rattle.desk.specs.Layout.{sheetLength, plansAt, widthAt, rowsAt, lastAt, sheetAt, jobAt}
-use Rattle.desk.proofs.Bytes.{Small}
-use Rattle.desk.proofs.Slots.{flat-listed}
-use Rattle.desk.proofs.Turning.{Fits, at-fits, rawAt, raw-known}
-use Rattle.run_resume.specs.Resume.{Put, Stands, PreparedAgain, GoesOn, GoneOn}
+use Rattle.desk.specs.{Queue.listRoom, Places.DEPTH, Places.LAST, Places.SHEET, Places.LIST, Places.LIST-BYTES, Places.SLOT, Layout.sheetLength, Layout.plansAt, Layout.widthAt}
+use Rattle.desk.specs.Layout.{rowsAt, lastAt, sheetAt, jobAt}
+use Rattle.desk.proofs.{Bytes.Small, Slots.flat-listed, Turning.Fits, Turning.at-fits, Turning.rawAt, Turning.raw-known}
+use Rattle.run_resume.specs.inner.Resume.{Put, Stands, PreparedAgain, GoesOn, GoneOn}
 use Rattle.run_resume.proofs.Going.{goes-on}
-use Rattle.desk_turns.specs.Served.{problemAt, goneOn, PartDone}
+use Rattle.desk_turns.specs.inner.Served.{problemAt, goneOn, PartDone}
 
 module _ (b : List ℕ) (p : ℕ) (room : p + SLOT ≤ length b) (small : Small b) where
   abbrev size : ℕ
@@ -78,7 +65,8 @@ module _ (b : List ℕ) (p : ℕ) (room : p + SLOT ≤ length b) (small : Small 
       }
 
   -- where its sheet can be compiled, plans are as wide as the list says
-  pub wide : T (compilable (rawAt b p)) → (length list ≡ size) × (listRoom (problemAt b p) ≡ size) × (length (s .rows) * problemOf (rawAt b p) .variables ≤ size) × ((r : List ℕ) → List·Memᴰ r (s .rows) → length r ≡ problemOf (rawAt b p) .variables)
+  pub wide : T (compilable (rawAt b p)) → (length list ≡ size) × (listRoom (problemAt b p) ≡ size) × (length (s .rows) * problemOf (rawAt b p) .variables ≤ size) ×
+      ((r : List ℕ) → List·Memᴰ r (s .rows) → length r ≡ problemOf (rawAt b p) .variables)
   unfolding sheetAt jobAt
   wide t =
       let k = raw-known b p t in
@@ -109,17 +97,28 @@ module _ (b : List ℕ) (p : ℕ) (room : p + SLOT ≤ length b) (small : Small 
     unfolding lastAt
     put-as work₀ work put =
         let e = cut (p + LAST) l (min 12 (at b (p + DEPTH))) el in
-        record { plans = put .plans ∙ ek; last = put .last ∙ e; short = put .short; bytes = put .bytes; others = λ i n. put .others i (subst (λ (t : List ℕ). length t ≤ i) (sym e) n); work-length = put .work-length }
+        record {
+          plans = put .plans ∙ ek;
+          last = put .last ∙ e;
+          short = put .short;
+          bytes = put .bytes;
+          others = λ i n. put .others i
+              (subst (λ (t : List ℕ). length t ≤ i) (sym e) n);
+          work-length = put .work-length;
+        }
 
-    pub going : (more : ℕ) (work₀ work stack′ work′ supports′ tables′ numbers′ : List ℕ) (step : ℕ) → Put k (last-part l) work₀ work → PreparedAgain (sheet-part n) more (4096 * w) work stack′ work′ supports′ tables′ numbers′ step →
+    pub going : (more : ℕ) (work₀ work stack′ work′ supports′ tables′ numbers′ : List ℕ) (step : ℕ) → Put k (last-part l) work₀ work → PreparedAgain (sheet-part n) more
+        (4096 * w) work stack′ work′ supports′ tables′ numbers′ step →
         GoesOn (problemAt b p) s (s .made + more) (listRoom (problemAt b p)) stack′ work′ supports′ tables′ numbers′ (list-part w) step
     unfolding sheetAt
     going more work₀ work stack′ work′ supports′ tables′ numbers′ step put q =
         let e = cut (p + SHEET) n (sheetLength b p) en in
         let f : 4096 * w ≡ size = ap (λ (i : ℕ). 4096 * i) ew in
-        let g = subst (λ (r : List ℕ). PreparedAgain r more size work stack′ work′ supports′ tables′ numbers′ step) e (subst (λ (i : ℕ). PreparedAgain (sheet-part n) more i work stack′ work′ supports′ tables′ numbers′ step) f q) in
+        let g = subst (λ (r : List ℕ). PreparedAgain r more size work stack′ work′ supports′ tables′ numbers′ step) e
+        (subst (λ (i : ℕ). PreparedAgain (sheet-part n) more i work stack′ work′ supports′ tables′ numbers′ step) f q) in
         subst (λ (r : List ℕ). GoesOn (problemAt b p) s (s .made + more) (listRoom (problemAt b p)) stack′ work′ supports′ tables′ numbers′ r step) (sym (cut (p + LIST) (4096 * w) size f))
-        (goes-on (rawAt b p) more size work stack′ work′ supports′ tables′ numbers′ step g s (s .made + more) (listRoom (problemAt b p)) list refl (stands work₀ work (put-as work₀ work put)) (λ d. wide (g .compiled d)))
+        (goes-on (rawAt b p) more size work stack′ work′ supports′ tables′ numbers′ step g s (s .made + more) (listRoom (problemAt b p)) list refl (stands work₀ work (put-as work₀ work put))
+        (λ d. wide (g .compiled d)))
 
   -- a text at the front of the list, put back with the rest
   put-back : (t : List ℕ) → length t ≤ size → take (p + LIST) b ++ ((t ++ drop (length t) list) ++ drop (p + LIST + size) b) ≡ placed b (p + LIST) t
@@ -128,12 +127,15 @@ module _ (b : List ℕ) (p : ℕ) (room : p + SLOT ≤ length b) (small : Small 
       let area = drop (p + LIST) b in
       let m = length t in
       let rest : drop m list ++ drop (p + LIST + size) b ≡ drop (p + LIST + m) b =
-      ap (λ (x : List ℕ). drop m list ++ x) (sym (drop-drop size (p + LIST) b)) ∙ sym (drop-append-le m list (drop size area) (let e = list-length in omega arith)) ∙ ap (drop m) (take-append-drop size area)
+      ap (λ (x : List ℕ). drop m list ++ x) (sym (drop-drop size (p + LIST) b)) ∙ sym (drop-append-le m list (drop size area) (let e = list-length in omega arith)) ∙ ap (drop m)
+      (take-append-drop size area)
       ∙ drop-drop m (p + LIST) b in
-      ap (λ (x : List ℕ). take (p + LIST) b ++ x) (append-assoc t (drop m list) (drop (p + LIST + size) b) ∙ ap (λ (x : List ℕ). t ++ x) rest) ∙ sym (append-assoc (take (p + LIST) b) t (drop (p + LIST + m) b))
+      ap (λ (x : List ℕ). take (p + LIST) b ++ x) (append-assoc t (drop m list) (drop (p + LIST + size) b) ∙ ap (λ (x : List ℕ). t ++ x) rest) ∙ sym
+      (append-assoc (take (p + LIST) b) t (drop (p + LIST + m) b))
 
   -- what the run leaves
-  pub gone : (w : ℕ) → w ≡ widthAt b p → (more : ℕ) (work list′ : List ℕ) (stop : ℕ) (tally : Tally) → GoneOn (problemAt b p) s (s .made + more) (listRoom (problemAt b p)) (list-part w) work list′ stop tally →
+  pub gone : (w : ℕ) → w ≡ widthAt b p → (more : ℕ) (work list′ : List ℕ) (stop : ℕ) (tally : Tally) → GoneOn (problemAt b p) s (s .made + more) (listRoom (problemAt b p))
+      (list-part w) work list′ stop tally →
       length list′ ≡ length (list-part w) → PartDone b p more (putMid (p + LIST) (p + LIST + 4096 * w - (p + LIST)) b list′) work stop tally
   unfolding written
   gone w ew more work list′ stop tally g n =
@@ -150,6 +152,7 @@ module _ (b : List ℕ) (p : ℕ) (room : p + SLOT ≤ length b) (small : Small 
         short = g .short;
         bytes = g .bytes;
         listed =
-            ap₂ (λ (x y : List ℕ). take (p + LIST) b ++ (x ++ y)) f (drop-drop (p + LIST + 4096 * w - (p + LIST)) (p + LIST) b ∙ ap (λ (i : ℕ). drop i b) (let z : p + LIST + (p + LIST + 4096 * w - (p + LIST)) ≡ p + LIST + size = omega arith in z))
+            ap₂ (λ (x y : List ℕ). take (p + LIST) b ++ (x ++ y)) f (drop-drop (p + LIST + 4096 * w - (p + LIST)) (p + LIST) b ∙ ap (λ (i : ℕ). drop i b)
+            (let z : p + LIST + (p + LIST + 4096 * w - (p + LIST)) ≡ p + LIST + size = omega arith in z))
             ∙ put-back t (omega arith);
       }

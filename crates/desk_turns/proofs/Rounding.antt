@@ -1,27 +1,15 @@
 -- Rounds: going by the slots, each is given the turns due to it, and where the turn after them begins to look is kept. Assumes nothing.
-use mathlib.Core.Path.{_≡_, refl, sym, ap, ap₂, _∙_, subst}
-use mathlib.Core.Bool.{Bool, true, false, not}
-use mathlib.Core.Logic.{_⊎_, inl, inr}
-use mathlib.Core.List.{List, [], _∷_, map}
-use Prim.Native.Nat.{ℕ, suc, _+_, _-_, _%_, _^_, _≤_, _<_}
-use native.Mathlib.Omega.{arith}
-use lib.Bits.{bitAnd, and-lt}
-use lib.Dec.{eqb, ltb, leb}
-use lib.ListN.{length, set, List·getD-map}
-use borrow.Author.Tests.{eq-eqb, ne-eqb, lt-ltb, le-leb, lt-leb, ltb-true}
-use Rattle.model.specs.Lists.{at, both, choose, below, upFrom}
-use Rattle.model.specs.ValueSets.{has, maskOf}
-use Rattle.model.proofs.Masks.{is-mask, has-and, has-not}
-use Rattle.model.proofs.Sets.{has-mask, mask-lt}
+use Rattle.model.specs.Kit.{_≡_, refl, sym, ap, ap₂, _∙_, subst, Bool, true, false, not, _⊎_, inl, inr, List, [], _∷_, map, ℕ, suc, _+_, _-_, _%_, _^_, _≤_, _<_, arith, bitAnd}
+use Rattle.model.specs.Kit.{eqb, ltb, leb, length, set, eq-eqb, ne-eqb, lt-ltb, le-leb, lt-leb, ltb-true}
+use lib.Bits.{and-lt}
+use lib.ListN.{List·getD-map}
+use Rattle.model.specs.{Lists.at, Lists.both, Lists.choose, Lists.below, Lists.upFrom, ValueSets.has, ValueSets.maskOf}
+use Rattle.model.proofs.{Masks.is-mask, Masks.has-and, Masks.has-not, Sets.has-mask, Sets.mask-lt}
 use Rattle.desk.specs.Queue.{Slot, free, taken, waits, Queue, slotAt, roundFrom, due, dueAt, given, slotGiven, behindLast, roundsQueue, RoundsReply, gave, not-given, roundsReply}
-use Rattle.desk.specs.Places.{NEXT, size}
-use Rattle.desk.specs.Layout.{slotPlace, jobAt, slotOf, queueOf, withRun, roundBytes, roundsBytes, roundsOn, roundsAfter}
-use Rattle.desk.specs.Claims.{QueueBytes}
-use Rattle.desk.proofs.Slots.{slot-in}
-use Rattle.desk.proofs.Rounds.{due-over, due-none}
-use Rattle.desk.proofs.RoundCalls.{Served, serve, rounds-call}
-use Rattle.desk_turns.specs.Served.{ServedAt, GivenAt}
-use Rattle.desk_turns.specs.declared.serve.Served.{Served as Result}
+use Rattle.desk.specs.{Places.NEXT, Places.size, Layout.slotPlace, Layout.jobAt, Layout.slotOf, Layout.queueOf, Layout.withRun, Layout.roundBytes, Layout.roundsBytes}
+use Rattle.desk.specs.{Layout.roundsOn, Layout.roundsAfter, Claims.QueueBytes}
+use Rattle.desk.proofs.{Slots.slot-in, Rounds.due-over, Rounds.due-none, RoundCalls.Served, RoundCalls.serve, RoundCalls.rounds-call}
+use Rattle.desk_turns.specs.{inner.Served.ServedAt, inner.Served.GivenAt, declared.serve.Served.Served as Result}
 use Rattle.desk_waits.proofs.Finding.{place}
 use Rattle.desk_turns.proofs.Serving.{slot-is, walk}
 
@@ -51,7 +39,8 @@ first-best : (f : ℕ → ℕ) (ks : List ℕ) (next : ℕ) → behindLast f ks 
 unfolding behindLast
 first-best f [] next = refl
 first-best f (k ∷ ks) next =
-    ap (λ (t : Bool). choose t (behindLast f ks (f k) ((k + 1) % 8)) (behindLast f ks 1 next)) (same (ltb 0 (f k)) refl) ∙ ap (choose (both (ltb 0 (f k)) (leb 0 (f k))) (behindLast f ks (f k) ((k + 1) % 8))) (first-best f ks next)
+    ap (λ (t : Bool). choose t (behindLast f ks (f k) ((k + 1) % 8)) (behindLast f ks 1 next)) (same (ltb 0 (f k)) refl) ∙ ap
+    (choose (both (ltb 0 (f k)) (leb 0 (f k))) (behindLast f ks (f k) ((k + 1) % 8))) (first-best f ks next)
   where
     same : (t : Bool) → ltb 0 (f k) ≡ t → both (ltb 0 (f k)) (leb 1 (f k)) ≡ both (ltb 0 (f k)) (leb 0 (f k))
     same true e = let z = ltb-true 0 (f k) e in ap (both (ltb 0 (f k))) (le-leb 1 (f k) z ∙ sym (le-leb 0 (f k) (omega arith)))
@@ -77,7 +66,8 @@ module _ (b : List ℕ) (r : ℕ) where
 
   next-rest : (i : ℕ) → i < 8 → rest i ≡ place b i ∷ rest (i + 1)
   unfolding upFrom
-  next-rest i l = ap (λ (n : ℕ). map (place b) (upFrom i n)) (let z : 8 - i ≡ suc (8 - (i + 1)) = omega arith in z) ∙ ap (λ (n : ℕ). place b i ∷ map (place b) (upFrom n (8 - (i + 1)))) (let z : suc i ≡ i + 1 = omega arith in z)
+  next-rest i l = ap (λ (n : ℕ). map (place b) (upFrom i n)) (let z : 8 - i ≡ suc (8 - (i + 1)) = omega arith in z) ∙ ap (λ (n : ℕ). place b i ∷ map (place b) (upFrom n (8 - (i + 1))))
+      (let z : suc i ≡ i + 1 = omega arith in z)
 
   module _ (i : ℕ) (l : i < 8) (cur : List ℕ) (best next : ℕ) (t : RoundTo i cur best next) (c : List ℕ) (took : ℕ) (g : GivenAt cur (place b i) r c took) where
     abbrev k : ℕ
@@ -124,7 +114,8 @@ module _ (b : List ℕ) (r : ℕ) where
             never true = refl
             never false = refl
 
-        kept : ((best ≤ took) × (next′ ≡ (k + 1) % 8) × (best′ ≡ took)) ⊎ ((took < best) × (next′ ≡ next) × (best′ ≡ best)) → behindLast turns (rest (i + 1)) best′ next′ ≡ behindLast turns (rest 0) 0 (at b NEXT)
+        kept : ((best ≤ took) × (next′ ≡ (k + 1) % 8) × (best′ ≡ took)) ⊎ ((took < best) × (next′ ≡ next) × (best′ ≡ best)) → behindLast turns (rest (i + 1)) best′ next′ ≡ behindLast turns
+            (rest 0) 0 (at b NEXT)
         kept (inl q) =
             ap₂ (behindLast turns (rest (i + 1))) (q .2) (q .1)
             ∙ sym (ap (λ (x : Bool). choose x (behindLast turns (rest (i + 1)) took ((k + 1) % 8)) (behindLast turns (rest (i + 1)) best next)) (yes (q .0))) ∙ sym step ∙ t .behind
@@ -151,7 +142,8 @@ module _ (b : List ℕ) (r : ℕ) where
   unfolding roundsOn roundsAfter
   rounds-255 n = let e = ne-eqb (length b) size n in (sym (ap (λ (t : Bool). choose t (roundsReply (queueOf b) r) (not-given 255 0)) e), sym (ap (λ (t : Bool). choose t (roundsBytes b r) b) e))
 
-  pub rounded : QueueBytes b → (before going next : ℕ) (c c′ : List ℕ) → before ≡ maskOf (λ k. waits (slotAt (queueOf b) k)) → c ≡ roundBytes r (roundFrom (at b NEXT)) b → next ≡ roundsQueue (queueOf b) r .next → c′ ≡ set c NEXT next →
+  pub rounded : QueueBytes b → (before going next : ℕ) (c c′ : List ℕ) → before ≡ maskOf (λ k. waits (slotAt (queueOf b) k)) → c ≡ roundBytes r (roundFrom (at b NEXT)) b → next ≡ roundsQueue
+      (queueOf b) r .next → c′ ≡ set c NEXT next →
       going ≡ maskOf (λ k. waits (slotAt (queueOf c′) k)) → Rounded (gave (bitAnd before (65535 - going)) going) c′
   unfolding roundsOn roundsAfter roundsBytes
   rounded d before going next c c′ eb ec en es eg = (

@@ -1,37 +1,21 @@
 -- A slot that was given turns, and a turn. Assumes nothing.
-use mathlib.Core.Path.{_≡_, refl, sym, ap, ap₂, _∙_, subst}
-use mathlib.Core.Bool.{Bool, true}
-use mathlib.Core.List.{List}
-use Prim.Native.Nat.{ℕ, zero, suc, _+_, _-_, _*_, _/_, _%_, _^_, _≤_, _<_, min}
-use native.Mathlib.Omega.{arith}
-use lib.Dec.{T}
-use lib.ListN.{length, set, length-take}
-use borrow.Author.Tests.{lt-ltb, le-ltb}
-use Rattle.model.specs.Lists.{at, flat, choose}
-use Rattle.model.specs.Written.{placed}
-use Rattle.model.specs.Run.{Ending, finished, spent, full, nodesIn, Result, Tally, settledBy, countsBy}
-use Rattle.model.proofs.Lists.{T-of, of-T}
-use Rattle.model.proofs.Written.{length-placed, placed-then}
-use Rattle.model.proofs.Tally.{length-counts}
-use Rattle.run_state.specs.Pair.{prefixOf}
-use Rattle.run_state.specs.Walk.{stopIn}
+use Rattle.model.specs.Kit.{_≡_, refl, sym, ap, ap₂, _∙_, subst, Bool, true, List, ℕ, zero, suc, _+_, _-_, _*_, _/_, _%_, _^_, _≤_, _<_, min, arith, T, length, set, length-take}
+use Rattle.model.specs.Kit.{lt-ltb, le-ltb}
+use Rattle.model.specs.{Lists.at, Lists.flat, Lists.choose, Written.placed, Run.Ending, Run.finished, Run.spent, Run.full, Run.nodesIn, Run.Result, Run.Tally, Run.settledBy}
+use Rattle.model.specs.Run.{countsBy}
+use Rattle.model.proofs.{Lists.T-of, Lists.of-T, Written.length-placed, Written.placed-then, Tally.length-counts, Tally.count-most}
+use Rattle.run_state.specs.{inner.Pair.prefixOf, Walk.stopIn}
 use Rattle.run_cut.specs.Parts.{nodesAfter, goOn, madeIn, added}
-use Rattle.desk.specs.Queue.{Standing, running, over, goesOn, Job, listRoom, standingAfter, jobAfter, jobTurned, turned, Slot, taken, waits, slotTurned, slotAt, Found, none-found, slot, roundFrom, toServe, turn, QueueReply, idle, served, servedAs, turnReply, denied, due, given}
-use Rattle.desk.specs.Places.{LIMIT, STANDING, COUNTS, LIST, NEXT, size}
-use Rattle.desk.specs.Layout.{slotPlace, long, standingBy, nodesAt, countsAt, jobAt, slotOf, queueOf, standingByte, stateBytes, countBytes, runBytes, withRun, turnBytes, replyOn, bytesAfter}
-use Rattle.desk.specs.Claims.{QueueBytes}
-use Rattle.desk.specs.Meaning.{found}
-use Rattle.desk.proofs.Queue.{first-in}
-use Rattle.desk.proofs.Bytes.{placed-apart}
-use Rattle.desk.proofs.Slots.{long-small, slot-in, free-at, taken-at, reply-whole, reply-wrong, bytes-whole, bytes-wrong}
-use Rattle.desk.proofs.Turning.{Fits, at-fits}
-use Rattle.desk.proofs.Turned.{state-length, run-length, text-length}
-use Rattle.desk.proofs.Counts.{count-most, counts-most}
-use Rattle.desk.proofs.RoundCalls.{turns-fit}
+use Rattle.desk.specs.Queue.{Standing, running, over, goesOn, Job, listRoom, standingAfter, jobAfter, jobTurned, turned, Slot, taken, waits, slotTurned, slotAt, Found, none-found}
+use Rattle.desk.specs.Queue.{slot, roundFrom, toServe, turn, QueueReply, idle, served, servedAs, turnReply, denied, due, given}
+use Rattle.desk.specs.{Places.LIMIT, Places.STANDING, Places.COUNTS, Places.LIST, Places.NEXT, Places.size, Layout.slotPlace, Layout.long, Layout.standingBy, Layout.nodesAt}
+use Rattle.desk.specs.Layout.{countsAt, jobAt, slotOf, queueOf, standingByte, stateBytes, countBytes, runBytes, withRun, turnBytes, replyOn, bytesAfter}
+use Rattle.desk.specs.{Claims.QueueBytes, Meaning.found}
+use Rattle.desk.proofs.{Queue.first-in, Bytes.placed-apart, Slots.long-small, Slots.slot-in, Slots.free-at, Slots.taken-at, Slots.reply-whole, Slots.reply-wrong, Slots.bytes-whole}
+use Rattle.desk.proofs.{Slots.bytes-wrong, Turning.Fits, Turning.at-fits, Turned.state-length, Turned.run-length, Turned.text-length, Counts.counts-most, RoundCalls.turns-fit}
 use Rattle.desk.proofs.Stretch.{stretchLimit, stretch, turnsFor, Stretched, stretched}
-use Rattle.arrays.specs.Places.{PLANS, LAST}
-use Rattle.desk_turns.specs.Served.{problemAt, goneOn, PartDone, Shows, ServedAt}
-use Rattle.desk_turns.specs.declared.serve.Served.{Served}
+use Rattle.arrays.specs.inner.Places.{PLANS, LAST}
+use Rattle.desk_turns.specs.{inner.Served.problemAt, inner.Served.goneOn, inner.Served.PartDone, inner.Served.Shows, inner.Served.ServedAt, declared.serve.Served.Served}
 
 some-turns : (r : ℕ) (h : Job) → 1 ≤ r → h .progress .made ≤ h .limit → goesOn (h .standing) ≡ true → Stretched r h
 some-turns zero h o l g = absurd (omega arith)
@@ -150,14 +134,17 @@ module _ (b : List ℕ) (k : ℕ) (d : QueueBytes b) (l : k < 8) (w : waits (slo
               let x = run-length b k d l g fits-after in
               let z = state-length b k d l g fits-after in
               let y = text-length b k d l g fits-after in
-              let list : c ≡ placed b (p + LIST) (flat (g .progress .rows)) = q .listed ∙ ap (λ (z : Result). placed b (p + LIST) (flat (z .rows))) same ∙ ap (λ (z : Job). placed b (p + LIST) (flat (z .progress .rows))) (sym (walk .whole)) in
+              let list : c ≡ placed b (p + LIST) (flat (g .progress .rows)) = q .listed ∙ ap (λ (z : Result). placed b (p + LIST) (flat (z .rows))) same ∙ ap
+              (λ (z : Job). placed b (p + LIST) (flat (z .progress .rows))) (sym (walk .whole)) in
               let counts : added before (tally .counts) ≡ g .progress .counts =
               ap₂ added m (q .counts ∙ ap (λ (z : Result). countsBy settledBy (madeIn (problemAt b p) (h .progress) z)) same) ∙ sym (ap (λ (z : Job). z .progress .counts) (walk .whole)) in
               record {
                 written =
                     i ∙ ap₂ (λ (u v : List ℕ). placed u (p + COUNTS) (countBytes v)) (f ∙ ap₂ (λ (u v : List ℕ). placed u (p + STANDING) v) list e) counts
-                    ∙ ap (λ (o : ℕ). placed (placed listed (p + STANDING) (stateBytes g)) o (countBytes (g .progress .counts))) (let w : p + COUNTS ≡ p + STANDING + length (stateBytes g) = omega arith in w)
-                    ∙ placed-then listed (p + STANDING) (stateBytes g) (let w = d .0 in let u = length-placed b (p + LIST) (flat (g .progress .rows)) (omega arith) in omega arith) (countBytes (g .progress .counts))
+                    ∙ ap (λ (o : ℕ). placed (placed listed (p + STANDING) (stateBytes g)) o (countBytes (g .progress .counts)))
+                    (let w : p + COUNTS ≡ p + STANDING + length (stateBytes g) = omega arith in w)
+                    ∙ placed-then listed (p + STANDING) (stateBytes g) (let w = d .0 in let u = length-placed b (p + LIST) (flat (g .progress .rows)) (omega arith) in omega arith)
+                    (countBytes (g .progress .counts))
                     ∙ placed-apart b (p + STANDING) (p + LIST) (runBytes g) (flat (g .progress .rows)) (omega arith) (let z = d .0 in omega arith);
                 standing = s .standing;
                 plans = n ∙ s .plans;
@@ -206,7 +193,8 @@ module _ (b : List ℕ) where
           let f = fits-after b k (whole, small) l waiting 1 (omega arith) in
           let g = given 1 now in
           let stands : standingBy (s .standing) (s .plans) (s .nodes) ≡ g .standing =
-          ap (λ (x : ℕ). standingBy x (s .plans) (s .nodes)) (q .standing ∙ sym (byte-number (g .standing))) ∙ ap₂ (standingBy (min 3 (standingByte (g .standing)))) (q .plans) (q .nodes) ∙ f .figured in (
+          ap (λ (x : ℕ). standingBy x (s .plans) (s .nodes)) (q .standing ∙ sym (byte-number (g .standing))) ∙ ap₂ (standingBy (min 3 (standingByte (g .standing)))) (q .plans) (q .nodes)
+          ∙ f .figured in (
             ap (λ (x : Standing). served k x (s .plans) (s .nodes)) stands ∙ ap₂ (served k (g .standing)) (q .plans) (q .nodes) ∙ ap (λ (x : Job). servedAs k (taken x)) one
                 ∙ sym (ap (λ (x : Slot). servedAs k (slotTurned x)) (slot-in b k l ∙ slot-is b k (whole, small) l waiting)) ∙ r .0,
             ap (λ (x : List ℕ). set x NEXT ((k + 1) % 8)) (q .written ∙ ap (withRun b (slotPlace k)) one) ∙ r .1,

@@ -1,24 +1,13 @@
 -- The bytes of a slot that say where its run stands. Assumes nothing.
-use mathlib.Core.Path.{_≡_, refl, sym, ap, ap₂, _∙_}
-use mathlib.Core.Bool.{Bool, true, false}
-use mathlib.Core.List.{List, _∷_, _++_, append-assoc}
-use Prim.Native.Nat.{ℕ, _+_, _-_, _/_, _%_, _≤_, _<_}
-use native.Mathlib.Omega.{arith}
-use lib.Dec.{ltb}
-use lib.ListN.{length, set, replicate, length-append, length-replicate}
-use borrow.Author.Tests.{ltb-true, ltb-false}
-use Rattle.model.specs.Lists.{at}
-use Rattle.model.specs.Bytes.{fourBytes}
-use Rattle.model.specs.Written.{placed}
-use Rattle.model.specs.Filling.{Filled}
+use Rattle.model.specs.Kit.{_≡_, refl, sym, ap, ap₂, _∙_, Bool, true, false, List, _∷_, _++_, append-assoc, ℕ, _+_, _-_, _/_, _%_, _≤_, _<_, arith, ltb, length, set, replicate}
+use Rattle.model.specs.Kit.{length-append, length-replicate, ltb-true, ltb-false}
+use Rattle.model.specs.{Lists.at, Bytes.fourBytes, Written.placed, inner.Filling.Filled}
 use Rattle.model.proofs.Lists.{at-ext, at-append, at-skip, at-replicate}
-use Rattle.arrays.specs.Places.{PLANS, LAST}
+use Rattle.arrays.specs.inner.Places.{PLANS, LAST}
 use Rattle.run_state.proofs.Prefix.{length-prefix, prefix-at}
-use Rattle.desk.specs.Queue.{Job}
-use Rattle.desk.specs.Places.{STANDING, NODES, DEPTH}
+use Rattle.desk.specs.{Queue.Job, Places.STANDING, Places.NODES, Places.DEPTH, Layout.standingByte, Layout.figureBytes, Layout.stateBytes}
+use Rattle.desk_turns.specs.inner.Served.{Shows}
 use Rattle.desk.specs.Places as places
-use Rattle.desk.specs.Layout.{standingByte, figureBytes, stateBytes}
-use Rattle.desk_turns.specs.Served.{Shows}
 
 -- the figures, and twelve zeros
 abbrev pub begun : ℕ → ℕ → ℕ → ℕ → List ℕ
@@ -34,7 +23,8 @@ begun-is head number total plans last e = rw e
 abbrev pub ToldTo : List ℕ → ℕ → List ℕ → List ℕ → Type 0
 ToldTo work i old new = Filled (λ j. 8 + j) (λ j w. w ≡ at work j) i old new
 
-module _ (h : Job) (number total : ℕ) (work old bytes : List ℕ) (s : Shows h number total work) (eo : old ≡ begun number total (at work PLANS) (at work LAST)) (f : ToldTo work (at work LAST) old bytes) where
+module _ (h : Job) (number total : ℕ) (work old bytes : List ℕ) (s : Shows h number total work) (eo : old ≡ begun number total (at work PLANS) (at work LAST))
+    (f : ToldTo work (at work LAST) old bytes) where
   abbrev last : List ℕ
   last = h .progress .last
 
@@ -79,7 +69,8 @@ module _ (h : Job) (number total : ℕ) (work old bytes : List ℕ) (s : Shows h
       each x true e q g m =
           let l = ltb-true x 8 e in
           let z = figures-length in
-          kept x (λ v o w. omega arith) ∙ at-append (figureBytes h) (replicate 12 0) x (omega arith) ∙ sym (ap (λ (r : List ℕ). at r x) state-is ∙ at-append (figureBytes h) (last ++ replicate (12 - n) 0) x (omega arith))
+          kept x (λ v o w. omega arith) ∙ at-append (figureBytes h) (replicate 12 0) x (omega arith) ∙ sym
+          (ap (λ (r : List ℕ). at r x) state-is ∙ at-append (figureBytes h) (last ++ replicate (12 - n) 0) x (omega arith))
       each x false e true g m =
           let l = ltb-false x 8 e in
           let o = ltb-true x (8 + n) g in

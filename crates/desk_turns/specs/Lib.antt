@@ -1,4 +1,4 @@
 -- What the functions that give turns say.
-pub mod Served
 pub mod Meaning
 pub mod Calls
+pub mod inner

@@ -1,7 +1,6 @@
 -- What the answer to rounds means.
 use Rattle.desk.specs.Queue.{RoundsReply, not-given, gave}
-use Rattle.desk_turns.specs.declared.Reply.{Reply}
-use Rattle.desk_turns.specs.declared.Reply.the-variants.{Given, Refused}
+use Rattle.desk_turns.specs.{declared.Reply.Reply, declared.Reply.the-variants.Given, declared.Reply.the-variants.Refused}
 
 abbrev pub meansRounds : Reply → RoundsReply
 meansRounds (Given ended going) = gave ended going

@@ -9,7 +9,7 @@ ghost use Rattle.model.specs.Lists.{at};
 ghost use Rattle.desk.specs.Queue.{roundFrom, roundsQueue};
 ghost use Rattle.desk.specs.Places.{NEXT, size};
 ghost use Rattle.desk.specs.Layout.{queueOf, roundBytes};
-ghost use Rattle.desk_turns.specs.Served.{GivenAt};
+ghost use Rattle.desk_turns.specs.inner.Served.{GivenAt};
 
 // Gives slot k up to so many turns, where its run hasn't ended; answers how many it took.
 fn give(queue: &mut [u8], k: usize, turns: u32) -> usize
@@ -29,7 +29,8 @@ fn give(queue: &mut [u8], k: usize, turns: u32) -> usize
 // Gives each slot up to so many turns, going round; answers where the turn after them begins to look.
 pub fn go_round(queue: &mut [u8], turns: u32) -> u8
     requires { ⌜ length (now queue) ≡ size ⌝ }
-    ensures { λ r. ⌜ (now (queue .exit) ≡ roundBytes turns (roundFrom (at (now (queue .entry)) NEXT)) (now (queue .entry))) × (r ≡ roundsQueue (queueOf (now (queue .entry))) turns .next) ⌝ }
+    ensures { λ r. ⌜ (now (queue .exit) ≡ roundBytes turns (roundFrom (at (now (queue .entry)) NEXT)) (now (queue .entry))) ×
+        (r ≡ roundsQueue (queueOf (now (queue .entry))) turns .next) ⌝ }
 {
     let first = queue[NEXT] as usize;
     let mut next = queue[NEXT];

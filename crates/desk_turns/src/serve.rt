@@ -36,14 +36,14 @@ ghost use lib.ListN.{length};
 ghost use Rattle.model.specs.Lists.{at};
 ghost use Rattle.model.specs.Run.{Ending, nodesIn};
 ghost use Rattle.model.specs.Written.{placed};
-ghost use Rattle.arrays.specs.Places.{WORK};
+ghost use Rattle.arrays.specs.inner.Places.{WORK};
 ghost use Rattle.run_cut.specs.Parts.{added};
 ghost use Rattle.run_state.specs.Meaning.{tallyIn};
 ghost use Rattle.run_state.specs.Walk.{stopIn};
 ghost use Rattle.desk.specs.Queue.{Job, waits, standingAfter};
 ghost use Rattle.desk.specs.Places.{COUNTS, SHEET, SLOT, size, QUANTUM};
 ghost use Rattle.desk.specs.Layout.{slotOf, standingByte, stateBytes, countBytes};
-ghost use Rattle.desk_turns.specs.Served.{PartDone, Shows, ServedAt};
+ghost use Rattle.desk_turns.specs.inner.Served.{PartDone, Shows, ServedAt};
 
 // The nodes of a turn.
 const QUANTUM: usize = 64;

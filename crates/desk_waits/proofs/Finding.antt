@@ -1,24 +1,11 @@
 -- The slot that a turn serves: the first in the round whose run hasn't ended; all such slots. Assumes nothing.
-use mathlib.Core.Path.{_≡_, refl, sym, ap, _∙_, subst}
-use mathlib.Core.Bool.{Bool, true, false}
-use mathlib.Core.List.{List, map, Memᴰ·of-map}
-use Prim.Native.Nat.{ℕ, zero, suc, _+_, _%_, _^_, _≤_, _<_, min}
-use native.Mathlib.Omega.{arith}
-use lib.Dec.{eqb, ltb}
-use lib.Pow.{pow-lt}
-use borrow.Author.Tests.{eqb-true, eqb-false, lt-ltb, le-ltb, ltb-true, ltb-false, eq-eqb, ne-eqb}
-use Rattle.model.specs.Lists.{at, both, choose, below}
-use Rattle.model.specs.ValueSets.{has, maskOf, oneIf}
-use Rattle.model.specs.Filling.{Gathered}
-use Rattle.model.proofs.Lists.{below-e}
-use Rattle.model.proofs.Filling.{gathered-is}
-use Rattle.model.proofs.Masks.{is-mask}
-use Rattle.desk.specs.Queue.{goesOn, waits, slotAt, none-found, slot, toServe}
-use Rattle.desk.specs.Places.{STANDING, NEXT}
-use Rattle.desk.specs.Layout.{slotPlace, standingBy, plansAt, nodesAt, jobAt, slotOf, queueOf}
-use Rattle.desk.specs.Meaning.{found}
-use Rattle.desk.proofs.Queue.{none-first}
-use Rattle.desk.proofs.Slots.{first-at, slot-in, slot-out, free-at, taken-at}
+use Rattle.model.specs.Kit.{_≡_, refl, sym, ap, _∙_, subst, Bool, true, false, List, map, Memᴰ·of-map, ℕ, zero, suc, _+_, _%_, _^_, _≤_, _<_, min, arith, eqb, ltb, pow-lt}
+use Rattle.model.specs.Kit.{eqb-true, eqb-false, lt-ltb, le-ltb, ltb-true, ltb-false, eq-eqb, ne-eqb}
+use Rattle.model.specs.{Lists.at, Lists.both, Lists.choose, Lists.below, ValueSets.has, ValueSets.maskOf, ValueSets.oneIf, inner.Filling.Gathered}
+use Rattle.model.proofs.{Lists.below-e, Filling.gathered-is, Masks.is-mask}
+use Rattle.desk.specs.{Queue.goesOn, Queue.waits, Queue.slotAt, Queue.none-found, Queue.slot, Queue.toServe, Places.STANDING, Places.NEXT, Layout.slotPlace, Layout.standingBy}
+use Rattle.desk.specs.{Layout.plansAt, Layout.nodesAt, Layout.jobAt, Layout.slotOf, Layout.queueOf, Meaning.found}
+use Rattle.desk.proofs.{Queue.none-first, Slots.first-at, Slots.slot-in, Slots.slot-out, Slots.free-at, Slots.taken-at}
 
 -- ---- one slot
 goes-by : (s plans made : ℕ) → goesOn (standingBy s plans made) ≡ eqb s 0

@@ -1,16 +1,9 @@
 -- What `planner_closed` answers, by what it called. Assumes nothing.
-use mathlib.Core.Path.{_≡_, sym, ap, _∙_}
-use mathlib.Core.Bool.{Bool}
-use mathlib.Core.List.{List}
-use Prim.Native.Nat.{ℕ}
-use lib.ListN.{length}
-use borrow.Author.Tests.{eq-eqb, ne-eqb}
-use Rattle.model.specs.Lists.{choose}
-use Rattle.model.specs.Verdict.{refused}
+use Rattle.model.specs.Kit.{_≡_, sym, ap, _∙_, Bool, List, ℕ, length, eq-eqb, ne-eqb}
+use Rattle.model.specs.{Lists.choose, Verdict.refused}
 use Rattle.run_input.specs.Lent.{verdictLent, problemWith}
 use Rattle.model.proofs.Demands.{reply-refused}
-use Rattle.families_closed.specs.Open.{firstOpen}
-use Rattle.families_closed.specs.Lent.{Told, refusal, closedLent}
+use Rattle.families_closed.specs.{Open.firstOpen, Lent.Told, Lent.refusal, Lent.closedLent}
 use Rattle.wire.specs.Wire.{wrongLength}
 use Rattle.export_closed.specs.Closed.{toldCode, toldBytes, closedCode, closedAnswer}
 

@@ -1,11 +1,7 @@
 -- planner_closed (paper 02, #112): what it answers, and the bytes of the answer afterwards. Where the answer has not 12 bytes nothing is changed.
-use mathlib.Core.List.{List}
-use Prim.Native.Nat.{ℕ, _+_, _*_}
-use lib.Dec.{eqb}
-use lib.ListN.{length}
+use Rattle.model.specs.Kit.{List, ℕ, _+_, _*_, eqb, length}
 use Rattle.model.specs.Lists.{choose}
-use Rattle.families_closed.specs.Open.{Open, none, two}
-use Rattle.families_closed.specs.Lent.{Told, refusal, answered, closedLent}
+use Rattle.families_closed.specs.{Open.Open, Open.none, Open.two, Lent.Told, Lent.refusal, Lent.answered, Lent.closedLent}
 use Rattle.wire.specs.Wire.{wrongLength, threeNumbers}
 
 -- 0, or the number and the item of the refusal

@@ -1,8 +1,5 @@
 -- Calls about columns: what each was lent, the code that comes back, and every lent buffer at the end. Each is the function's contract, that of `planner_..` too.
-use mathlib.Core.Path.{_≡_}
-use mathlib.Core.List.{List}
-use Prim.Native.Nat.{ℕ}
-use lib.ListN.{length}
+use Rattle.model.specs.Kit.{_≡_, List, ℕ, length}
 use Rattle.list_columns.specs.Columns.{columnsOf, rowsOf, columnsVerdict, rowsVerdict}
 use Rattle.wire.specs.Outcomes.{lentCode, lentRoom, lentAnswer}
 

@@ -1,14 +1,7 @@
 -- Twelve counts as bytes. Assumes nothing.
-use mathlib.Core.Path.{_≡_, refl, sym, ap, _∙_, subst}
-use mathlib.Core.List.{List, [], _∷_, _++_}
-use Prim.Native.Nat.{ℕ, _+_, _*_, _≤_, _<_}
-use native.Mathlib.Numerals.{add-one}
-use native.Mathlib.Omega.{arith}
-use lib.ListN.{length, take, getD, length-append}
-use lib.Seq.{take-suc, take-all}
-use Rattle.model.specs.Lists.{at}
-use Rattle.model.specs.Bytes.{fourBytes}
-use Rattle.model.specs.Written.{Written}
+use Rattle.model.specs.Kit.{_≡_, refl, sym, ap, _∙_, subst, List, [], _∷_, _++_, ℕ, _+_, _*_, _≤_, _<_, add-one, arith, length, take, getD, length-append, take-all}
+use lib.Seq.{take-suc}
+use Rattle.model.specs.{Lists.at, Bytes.fourBytes, Written.Written}
 use Rattle.model.proofs.Written.{written-then, written-none}
 use Rattle.wire.specs.Wire.{threeNumbers}
 use Rattle.export_counts.specs.Tallied.{numbersOf}
@@ -34,14 +27,17 @@ unfolding numbersOf fourBytes
 one-number k = refl
 
 -- one number more
-pub numbers-turn : {d e : List ℕ} {at : ℕ} {f : List ℕ} {m : ℕ} (start i : ℕ) (ks : List ℕ) → i < length ks → at ≤ length d → Written d start (numbersOf (take i ks)) e at → Written e at (fourBytes (getD ks i 0)) f m → Written d start (numbersOf (take (i + 1) ks)) f m
+pub numbers-turn : {d e : List ℕ} {at : ℕ} {f : List ℕ} {m : ℕ} (start i : ℕ) (ks : List ℕ) → i < length ks → at ≤ length d → Written d start (numbersOf (take i ks)) e at → Written e at
+    (fourBytes (getD ks i 0)) f m → Written d start (numbersOf (take (i + 1) ks)) f m
 numbers-turn {d} {e} {at} {f} {m} start i ks h fits v w =
     let same : numbersOf (take (i + 1) ks) ≡ numbersOf (take i ks) ++ fourBytes (getD ks i 0) =
-    ap (λ (k : ℕ). numbersOf (take k ks)) (add-one i) ∙ ap numbersOf (take-suc ks i 0 h) ∙ numbers-append (take i ks) (getD ks i 0 ∷ []) ∙ ap (λ (l : List ℕ). numbersOf (take i ks) ++ l) (one-number (getD ks i 0)) in
+    ap (λ (k : ℕ). numbersOf (take k ks)) (add-one i) ∙ ap numbersOf (take-suc ks i 0 h) ∙ numbers-append (take i ks) (getD ks i 0 ∷ []) ∙ ap (λ (l : List ℕ). numbersOf (take i ks) ++ l)
+    (one-number (getD ks i 0)) in
     subst (λ (l : List ℕ). Written d start l f m) (sym same) (written-then fits v w)
 
 -- after twelve turns all counts are written
-pub numbers-all : {d e : List ℕ} {at : ℕ} (start i : ℕ) (ks : List ℕ) → length ks ≡ 12 → 12 ≤ i → i ≤ 12 → at ≡ start + 4 * i → Written d start (numbersOf (take i ks)) e at → Written d start (numbersOf ks) e (start + 48)
+pub numbers-all : {d e : List ℕ} {at : ℕ} (start i : ℕ) (ks : List ℕ) → length ks ≡ 12 → 12 ≤ i → i ≤ 12 → at ≡ start + 4 * i → Written d start (numbersOf (take i ks)) e at → Written d start
+    (numbersOf ks) e (start + 48)
 numbers-all {d} {e} {at} start i ks n l m h w =
     let ends : at ≡ start + 48 = omega arith in
     subst (λ (k : ℕ). Written d start (numbersOf ks) e k) ends (subst (λ (q : List ℕ). Written d start (numbersOf q) e at) (take-all i ks (omega arith)) w)

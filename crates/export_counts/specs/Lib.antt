@@ -1,3 +1,3 @@
 -- Counts as bytes.
 pub mod Tallied
-pub mod Inner
+pub mod inner

@@ -1,6 +1,5 @@
 -- Counts as bytes (paper 02, #107).
-use mathlib.Core.List.{List, [], _∷_, _++_}
-use Prim.Native.Nat.{ℕ}
+use Rattle.model.specs.Kit.{List, [], _∷_, _++_, ℕ}
 use Rattle.model.specs.Bytes.{fourBytes}
 
 -- numbers of four bytes, one after another

@@ -9,8 +9,8 @@ ghost use Rattle.model.specs.Written.{Written};
 ghost use Rattle.run_state.specs.Meaning.{endingOf};
 ghost use Rattle.wire.specs.Wire.{threeNumbers};
 ghost use Rattle.export_run.specs.Run.{endingBytes};
-ghost use Rattle.export_run.specs.Inner.{Counted};
-ghost use Rattle.export_counts.specs.Inner.{Twelve};
+ghost use Rattle.export_run.specs.inner.Inner.{Counted};
+ghost use Rattle.export_counts.specs.inner.Inner.{Twelve};
 ghost use Rattle.export_counts.specs.Tallied.{numbersOf};
 
 // Writes the counts from a place on.

@@ -1,40 +1,25 @@
 -- What the queue's exported calls answer: a reply's numbers fit the code and the answer; answers of the length asked and of another. Assumes nothing.
-use mathlib.Core.Path.{_≡_, refl, sym, ap, ap₂, _∙_, subst}
-use mathlib.Core.Bool.{Bool, true, false}
-use mathlib.Core.List.{List, [], _++_, Memᴰ·of-map}
-use Prim.Native.Nat.{ℕ, zero, suc, _+_, _*_, _%_, _≤_, _<_, min}
-use native.Mathlib.Nat.{mul-le-mul}
-use native.Mathlib.Omega.{arith}
-use lib.Dec.{eqb, ltb}
-use lib.ListN.{length, length-append}
-use borrow.Author.Tests.{eq-eqb, ne-eqb, eqb-true, eqb-false, ltb-true, ltb-false}
-use Rattle.model.specs.Lists.{at, choose, below}
-use Rattle.model.specs.Verdict.{Verdict, accepted, refused}
-use Rattle.model.specs.Sheet.{verdictOf}
-use Rattle.model.specs.Bytes.{fourBytes}
-use Rattle.model.specs.Written.{Written}
-use Rattle.model.proofs.Lists.{below-e, at-replicate}
-use Rattle.model.proofs.Room.{length-flat}
-use Rattle.model.proofs.Written.{written-then}
+use Rattle.model.specs.Kit.{_≡_, refl, sym, ap, ap₂, _∙_, subst, Bool, true, false, List, [], _++_, Memᴰ·of-map, ℕ, zero, suc, _+_, _*_, _%_, _≤_, _<_, min, mul-le-mul, arith, eqb}
+use Rattle.model.specs.Kit.{ltb, length, length-append, eq-eqb, ne-eqb, eqb-true, eqb-false, ltb-true, ltb-false}
+use Rattle.model.specs.{Lists.at, Lists.choose, Lists.below, Verdict.Verdict, Verdict.accepted, Verdict.refused, Sheet.verdictOf, Bytes.fourBytes, Written.Written}
+use Rattle.model.proofs.{Lists.below-e, Lists.at-replicate, Room.length-flat, Written.written-then}
 use Rattle.wire.specs.Wire.{wrongLength, threeNumbers}
-use Rattle.wire.proofs.Codes.{Small, verdict-small}
-use Rattle.wire.proofs.Numbers.{whole}
-use Rattle.desk.specs.Queue.{Job, jobTurned, Slot, free, taken, isFree, waits, slotTurned, slotAt, Found, none-found, slot, lowestFree, roundFrom, toServe, QueueCall, submit, turn, release, QueueReply, denied, servedAs, submitReply, turnReply, fits, releaseFor, releaseReply, statusFor, noCounts, countsOf, RoundsReply, not-given, roundsReply}
-use Rattle.desk.specs.Places.{LIMIT, size}
-use Rattle.desk.specs.Layout.{slotPlace, standingBy, widthAt, jobAt, queueOf, replyOn, statusOn, countsOn, bytesAfter, roundsOn, roundsAfter}
-use Rattle.desk.specs.Meaning.{means, roomAfter}
-use Rattle.desk.specs.declared.Answer.{Answer}
+use Rattle.wire.proofs.{Codes.Small, Codes.verdict-small, Numbers.whole}
+use Rattle.desk.specs.Queue.{Job, jobTurned, Slot, free, taken, isFree, waits, slotTurned, slotAt, Found, none-found, slot, lowestFree, roundFrom, toServe, QueueCall, submit, turn}
+use Rattle.desk.specs.Queue.{release, QueueReply, denied, servedAs, submitReply, turnReply, fits, releaseFor, releaseReply, statusFor, noCounts, countsOf, RoundsReply, not-given}
+use Rattle.desk.specs.{Queue.roundsReply, Places.LIMIT, Places.size, Layout.slotPlace, Layout.standingBy, Layout.widthAt, Layout.jobAt, Layout.queueOf, Layout.replyOn}
+use Rattle.desk.specs.{Layout.statusOn, Layout.countsOn, Layout.bytesAfter, Layout.roundsOn, Layout.roundsAfter, Meaning.means, Meaning.roomAfter, declared.Answer.Answer}
 use Rattle.desk.specs.declared.Answer.the-variants.{Queued, Idle, Stands, Released, Refused}
-use Rattle.desk.proofs.Queue.{first-in}
-use Rattle.desk.proofs.Slots.{long-small, slot-in, slot-out, free-at, taken-at}
-use Rattle.desk.proofs.Turning.{Fits, at-fits, turned-fits}
-use Rattle.export_counts.specs.Tallied.{numbersOf}
-use Rattle.export_counts.specs.Inner.{Twelve}
+use Rattle.desk.proofs.{Queue.first-in, Slots.long-small, Slots.slot-in, Slots.slot-out, Slots.free-at, Slots.taken-at, Turning.Fits, Turning.at-fits, Turning.turned-fits}
+use Rattle.export_counts.specs.{Tallied.numbersOf, inner.Inner.Twelve}
 use Rattle.export_counts.proofs.Tallied.{length-numbers}
-use Rattle.export_desk.specs.Told.{fourNumbers, kindOf, replyCode, replyAnswer, answerLength, queueCode, queueBytes, queueAnswer, releaseRoom, statusBytes, statusCode, statusAnswer, roundsReplyCode, roundsReplyAnswer, roundsCode, roundsQueue, roundsAnswer, CallQueue, CallRelease, CallStatus, CallRounds, Holds, Sees}
+use Rattle.export_desk.specs.Told.{fourNumbers, kindOf, replyCode, replyAnswer, answerLength, queueCode, queueBytes, queueAnswer, releaseRoom, statusBytes, statusCode}
+use Rattle.export_desk.specs.Told.{statusAnswer, roundsReplyCode, roundsReplyAnswer, roundsCode, roundsQueue, roundsAnswer, CallQueue, CallRelease, CallStatus, CallRounds}
+use Rattle.export_desk.specs.Told.{Holds, Sees}
 
 -- ---- four numbers
-pub put-four : {d e : List ℕ} {r : ℕ} {f : List ℕ} {s : ℕ} {g : List ℕ} {t : ℕ} {h : List ℕ} {u : ℕ} (kind a b c : ℕ) → 16 ≤ length d → Written d 0 (fourBytes kind) e r → Written e r (fourBytes a) f s → Written f s (fourBytes b) g t → Written g t (fourBytes c) h u →
+pub put-four : {d e : List ℕ} {r : ℕ} {f : List ℕ} {s : ℕ} {g : List ℕ} {t : ℕ} {h : List ℕ} {u : ℕ} (kind a b c : ℕ) → 16 ≤ length d → Written d 0 (fourBytes kind) e r → Written e r
+    (fourBytes a) f s → Written f s (fourBytes b) g t → Written g t (fourBytes c) h u →
     Written d 0 (fourNumbers kind a b c) h u
 unfolding fourBytes threeNumbers fourNumbers
 put-four kind a b c l w x y z =
@@ -52,7 +37,8 @@ unfolding fourBytes threeNumbers fourNumbers
 four-length kind a b c = refl
 
 -- with twelve counts behind them
-pub all-counts : {d h : List ℕ} {u : ℕ} {e : List ℕ} {v : ℕ} (kind a b c : ℕ) (ks : List ℕ) → length d ≡ 64 → length ks ≡ 12 → Written d 0 (fourNumbers kind a b c) h u → Written h u (numbersOf ks) e v → e ≡ fourNumbers kind a b c ++ numbersOf ks
+pub all-counts : {d h : List ℕ} {u : ℕ} {e : List ℕ} {v : ℕ} (kind a b c : ℕ) (ks : List ℕ) → length d ≡ 64 → length ks ≡ 12 → Written d 0 (fourNumbers kind a b c) h u → Written h u
+    (numbersOf ks) e v → e ≡ fourNumbers kind a b c ++ numbersOf ks
 all-counts kind a b c ks l n w x =
     let m = four-length kind a b c in
     whole (omega (arith, length-append (fourNumbers kind a b c) (numbersOf ks), length-numbers ks)) (written-then (omega (arith, w .ends)) w x)
@@ -207,7 +193,8 @@ module _ (b : List ℕ) (x : QueueCall) (answer : List ℕ) where
     told = short (replyAnswer (replyOn b x) answer) answer answer (answerLength x) h;
   }
 
-  pub answered : length answer ≡ answerLength x → (r : QueueReply) → r ≡ replyOn b x → (n : ℕ) (c d : List ℕ) → n ≡ replyCode r → c ≡ bytesAfter b x → d ≡ replyAnswer r answer → CallQueue b x answer n c d
+  pub answered : length answer ≡ answerLength x → (r : QueueReply) → r ≡ replyOn b x → (n : ℕ) (c d : List ℕ) → n ≡ replyCode r → c ≡ bytesAfter b x → d ≡ replyAnswer r answer
+      → CallQueue b x answer n c d
   unfolding queueCode queueBytes queueAnswer
   answered h r e n c d f g i = record {
     code = f ∙ ap replyCode e ∙ full (replyCode (replyOn b x)) wrongLength answer (answerLength x) h;
@@ -221,7 +208,8 @@ module _ (b : List ℕ) (k : ℕ) (answer : List ℕ) where
   unfolding statusCode statusAnswer
   status-short h = record { code = short (replyCode (statusOn b k)) wrongLength answer 64 h; told = short (statusBytes (statusOn b k) (countsOn b k) answer) answer answer 64 h }
 
-  pub status-done : length answer ≡ 64 → (r : QueueReply) (counts : List ℕ) → r ≡ statusOn b k → counts ≡ countsOn b k → (n : ℕ) (d : List ℕ) → n ≡ replyCode r → d ≡ statusBytes r counts answer → CallStatus b k answer n d
+  pub status-done : length answer ≡ 64 → (r : QueueReply) (counts : List ℕ) → r ≡ statusOn b k → counts ≡ countsOn b k → (n : ℕ) (d : List ℕ) → n ≡ replyCode r → d ≡ statusBytes r counts answer
+      → CallStatus b k answer n d
   unfolding statusCode statusAnswer
   status-done h r counts e g n d f i = record {
     code = f ∙ ap replyCode e ∙ full (replyCode (statusOn b k)) wrongLength answer 64 h;
@@ -236,7 +224,8 @@ module _ (b : List ℕ) (k : ℕ) (room answer : List ℕ) where
       let u = unanswered b (release k room) answer h in
       record { code = u .code; bytes = u .bytes; written = short (roomAfter (replyOn b (release k room)) room) room answer 12 h; told = u .told }
 
-  pub release-done : length answer ≡ 12 → (r : QueueReply) → r ≡ replyOn b (release k room) → (n : ℕ) (c out d : List ℕ) → n ≡ replyCode r → c ≡ bytesAfter b (release k room) → out ≡ roomAfter (replyOn b (release k room)) room → d ≡ replyAnswer r answer →
+  pub release-done : length answer ≡ 12 → (r : QueueReply) → r ≡ replyOn b (release k room) → (n : ℕ) (c out d : List ℕ) → n ≡ replyCode r → c ≡ bytesAfter b (release k room) → out ≡ roomAfter
+      (replyOn b (release k room)) room → d ≡ replyAnswer r answer →
       CallRelease b k room answer n c out d
   unfolding releaseRoom
   release-done h r e n c out d f g o i =
@@ -261,7 +250,8 @@ module _ (b : List ℕ) (r : ℕ) (answer : List ℕ) where
     told = short (roundsReplyAnswer (roundsOn b r) answer) answer answer 12 h;
   }
 
-  pub rounded : length answer ≡ 12 → (x : RoundsReply) → x ≡ roundsOn b r → (n : ℕ) (c d : List ℕ) → n ≡ roundsReplyCode x → c ≡ roundsAfter b r → d ≡ roundsReplyAnswer x answer → CallRounds b r answer n c d
+  pub rounded : length answer ≡ 12 → (x : RoundsReply) → x ≡ roundsOn b r → (n : ℕ) (c d : List ℕ) → n ≡ roundsReplyCode x → c ≡ roundsAfter b r → d ≡ roundsReplyAnswer x answer
+      → CallRounds b r answer n c d
   unfolding roundsCode roundsQueue roundsAnswer
   rounded h x e n c d f g i = record {
     code = f ∙ ap roundsReplyCode e ∙ full (roundsReplyCode (roundsOn b r)) wrongLength answer 12 h;

@@ -1,17 +1,10 @@
 -- planner_desk_sit, planner_desk_turn, planner_desk_rounds, planner_desk_look and planner_desk_leave (paper 02, #113): what a call on the bytes b
 -- returns, and the bytes of every lent buffer afterwards. Where the answer has another length than is asked nothing is changed.
-use mathlib.Core.Path.{_≡_}
-use mathlib.Core.List.{List, _++_}
-use Prim.Native.Nat.{ℕ, _+_, _*_, _^_, _<_}
-use lib.Dec.{eqb}
-use lib.ListN.{length}
-use Rattle.model.specs.Lists.{choose}
-use Rattle.model.specs.Bytes.{fourBytes}
-use Rattle.model.specs.Run.{finished, spent, full}
+use Rattle.model.specs.Kit.{_≡_, List, _++_, ℕ, _+_, _*_, _^_, _<_, eqb, length}
+use Rattle.model.specs.{Lists.choose, Bytes.fourBytes, Run.finished, Run.spent, Run.full}
 use Rattle.wire.specs.Wire.{wrongLength, threeNumbers}
 use Rattle.desk.specs.Queue.{Standing, running, over, QueueCall, submit, turn, release, QueueReply, denied, queued, idle, served, released, RoundsReply, not-given, gave}
-use Rattle.desk.specs.Layout.{replyOn, statusOn, countsOn, bytesAfter, roundsOn, roundsAfter}
-use Rattle.desk.specs.Meaning.{roomAfter}
+use Rattle.desk.specs.{Layout.replyOn, Layout.statusOn, Layout.countsOn, Layout.bytesAfter, Layout.roundsOn, Layout.roundsAfter, Meaning.roomAfter}
 use Rattle.export_counts.specs.Tallied.{numbersOf}
 
 -- four numbers of four bytes

@@ -15,7 +15,7 @@ ghost use Rattle.model.specs.Written.{Written};
 ghost use Rattle.desk.specs.Queue.{submit};
 ghost use Rattle.desk.specs.Layout.{standingBy};
 ghost use Rattle.desk.specs.Meaning.{means};
-ghost use Rattle.export_counts.specs.Inner.{Twelve};
+ghost use Rattle.export_counts.specs.inner.Inner.{Twelve};
 ghost use Rattle.export_desk.specs.Told.{fourNumbers, kindOf, replyCode, replyAnswer, statusBytes, CallQueue, CallRelease, CallStatus, Holds, Sees};
 
 // Puts four numbers at the front; answers the place after them.
@@ -124,7 +124,8 @@ pub fn status(queue: &[u8], slot: u32, answer: &mut [u8]) -> u32
 
 // Frees a slot: the plans listed so far go to the front of the room. The answer has 12 bytes: 1, the bytes written, 0.
 pub fn release(queue: &mut [u8], slot: u32, room: &mut [u8], answer: &mut [u8]) -> u32
-    ensures { λ r. ⌜ CallRelease (now (queue .entry)) slot (now (room .entry)) (now (answer .entry)) r (now (queue .exit)) (now (room .exit)) (now (answer .exit)) ⌝ }
+    ensures { λ r. ⌜ CallRelease (now (queue .entry)) slot (now (room .entry)) (now (answer .entry)) r (now (queue .exit)) (now (room .exit))
+        (now (answer .exit)) ⌝ }
 {
     if answer.len() != 12 {
         return WRONG_LENGTH;

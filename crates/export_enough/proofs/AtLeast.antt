@@ -1,21 +1,11 @@
 -- What `planner_at_least` answers, by what it called. Assumes nothing.
-use mathlib.Core.Path.{_≡_, sym, ap, _∙_}
-use mathlib.Core.Bool.{Bool}
-use mathlib.Core.List.{List}
-use Prim.Native.Nat.{ℕ, _^_, _<_}
-use native.Mathlib.Omega.{arith}
-use lib.ListN.{length}
-use borrow.Author.Tests.{eq-eqb, ne-eqb}
-use Rattle.model.specs.Lists.{choose}
-use Rattle.model.specs.Problem.{Problem}
-use Rattle.model.specs.Verdict.{Verdict, accepted, refused, reply}
+use Rattle.model.specs.Kit.{_≡_, sym, ap, _∙_, Bool, List, ℕ, _^_, _<_, arith, length, eq-eqb, ne-eqb}
+use Rattle.model.specs.{Lists.choose, Problem.Problem, Verdict.Verdict, Verdict.accepted, Verdict.refused, Verdict.reply}
 use Rattle.run_input.specs.Lent.{verdictLent, problemLent}
-use Rattle.run_enough.specs.AtLeast.{Enough, enough, tooFew, unknown, enoughOf}
-use Rattle.run_enough.specs.Lent.{EnoughAnswer, answered, enoughLent}
+use Rattle.run_enough.specs.{AtLeast.Enough, AtLeast.enough, AtLeast.tooFew, AtLeast.unknown, AtLeast.enoughOf, Lent.EnoughAnswer, Lent.answered, Lent.enoughLent}
 use Rattle.run_enough.proofs.AtLeast.{Said, said, to-limit}
 use Rattle.wire.specs.Wire.{wrongLength}
-use Rattle.export_enough.specs.Enough.{saidCode, saidBytes, enoughCode, enoughBytes}
-use Rattle.export_enough.specs.Inner.{SmallSaid}
+use Rattle.export_enough.specs.{Enough.saidCode, Enough.saidBytes, Enough.enoughCode, Enough.enoughBytes, inner.Inner.SmallSaid}
 use Rattle.wire.proofs.Codes.{Small}
 use Rattle.export_lent.proofs.Lent.{lent-small}
 

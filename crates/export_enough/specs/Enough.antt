@@ -1,11 +1,7 @@
 -- planner_at_least (paper 02, #101): the answer has 12 bytes, three numbers: 1 yes, 2 no, 3 spent; the plans found; the nodes made.
-use mathlib.Core.List.{List}
-use Prim.Native.Nat.{ℕ, _+_, _*_}
-use lib.Dec.{eqb}
-use lib.ListN.{length}
+use Rattle.model.specs.Kit.{List, ℕ, _+_, _*_, eqb, length}
 use Rattle.model.specs.Lists.{choose}
-use Rattle.run_enough.specs.AtLeast.{enough, tooFew, unknown}
-use Rattle.run_enough.specs.Lent.{EnoughAnswer, refusal, answered, enoughLent}
+use Rattle.run_enough.specs.{AtLeast.enough, AtLeast.tooFew, AtLeast.unknown, Lent.EnoughAnswer, Lent.refusal, Lent.answered, Lent.enoughLent}
 use Rattle.wire.specs.Wire.{wrongLength, threeNumbers}
 
 abbrev pub saidCode : EnoughAnswer → ℕ

@@ -8,7 +8,7 @@ ghost use lib.ListN.{length};
 ghost use Rattle.run.specs.Meaning.{saidEnough};
 ghost use Rattle.export_enough.specs.Enough.{saidCode, saidBytes};
 ghost use Rattle.export_enough.specs.Calls.{CallEnoughBytes};
-ghost use Rattle.export_enough.specs.Inner.{SmallSaid};
+ghost use Rattle.export_enough.specs.inner.Inner.{SmallSaid};
 
 // What was said, as three numbers; a refusal leaves the answer.
 fn said(out: &mut [u8], r: Enough) -> u32

@@ -1,13 +1,6 @@
 -- What `families` answers, by what it called. Assumes nothing.
-use mathlib.Core.Path.{_≡_, sym, ap, _∙_}
-use mathlib.Core.Bool.{Bool}
-use mathlib.Core.List.{List}
-use Prim.Native.Nat.{ℕ, _*_}
-use lib.ListN.{length}
-use borrow.Author.Tests.{eq-eqb, ne-eqb}
-use Rattle.model.specs.Lists.{choose}
-use Rattle.model.specs.Verdict.{refused}
-use Rattle.model.specs.Sheet.{problemOf}
+use Rattle.model.specs.Kit.{_≡_, sym, ap, _∙_, Bool, List, ℕ, _*_, length, eq-eqb, ne-eqb}
+use Rattle.model.specs.{Lists.choose, Verdict.refused, Sheet.problemOf}
 use Rattle.model.proofs.Demands.{reply-refused}
 use Rattle.run_input.specs.Lent.{verdictLent}
 use Rattle.families_figure.specs.Figure.{familiesLent}
@@ -25,7 +18,8 @@ module _ (b pairs block : List ℕ) (limit : ℕ) (answer : List ℕ) where
         tells = sym (ap {B = List ℕ} (λ (t : Bool). choose t (countedBytes (countedLent b pairs block limit) answer) answer) e);
       }
 
-  pub right-answer : (o : Told) (r : ℕ) (bytes : List ℕ) → length answer ≡ 12 → o ≡ countedLent b pairs block limit → r ≡ figureCode o → bytes ≡ countedBytes o answer → CallFigured b pairs block limit answer r bytes
+  pub right-answer : (o : Told) (r : ℕ) (bytes : List ℕ) → length answer ≡ 12 → o ≡ countedLent b pairs block limit → r ≡ figureCode o → bytes ≡ countedBytes o answer
+      → CallFigured b pairs block limit answer r bytes
   unfolding familiesCode familiesAnswer
   right-answer o r bytes h so code w =
       let e = eq-eqb (length answer) 12 h in

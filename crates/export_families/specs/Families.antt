@@ -1,9 +1,5 @@
 -- planner_families (paper 02, #104): what it answers, and the bytes of the answer afterwards. Where the answer has not 12 bytes nothing is changed.
-use mathlib.Core.Path.{_≡_}
-use mathlib.Core.List.{List}
-use Prim.Native.Nat.{ℕ, _+_, _*_}
-use lib.Dec.{eqb}
-use lib.ListN.{length}
+use Rattle.model.specs.Kit.{_≡_, List, ℕ, _+_, _*_, eqb, length}
 use Rattle.model.specs.Lists.{choose}
 use Rattle.families_figure.specs.Figure.{Figure, number, dash}
 use Rattle.families_count.specs.Told.{Told, refusal, answered, countedLent}

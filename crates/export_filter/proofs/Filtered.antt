@@ -1,20 +1,13 @@
 -- The filter's code and bytes: the item of a refusal is below 256; an odd number of bytes, too many sets, and a refusal. Assumes nothing.
-use mathlib.Core.Path.{_≡_, refl, sym, ap, _∙_}
-use mathlib.Core.Bool.{Bool, true, false, not}
-use mathlib.Core.List.{List}
-use Prim.Native.Nat.{ℕ, zero, suc, _*_, _%_, _≤_, _<_}
-use native.Mathlib.Omega.{arith}
-use lib.Dec.{eqb, leb}
-use lib.ListN.{length, getD}
-use borrow.Author.Tests.{eq-eqb, ne-eqb, lt-leb, leb-true}
-use Rattle.model.specs.Lists.{both, at}
-use Rattle.model.specs.ValueSets.{least, leastStep}
-use Rattle.model.specs.Verdict.{Verdict, accepted, refused, ask, reply}
-use Rattle.model.specs.Nogood.{refusal, entryOk, entries, firstWrong, filterVerdict, filterAnswer, filterEnding, setsAfter}
+use Rattle.model.specs.Kit.{_≡_, refl, sym, ap, _∙_, Bool, true, false, not, List, ℕ, zero, suc, _*_, _%_, _≤_, _<_, arith, eqb, leb, length, getD, eq-eqb, ne-eqb, lt-leb}
+use Rattle.model.specs.Kit.{leb-true}
+use Rattle.model.specs.{Lists.both, Lists.at, ValueSets.least, ValueSets.leastStep, Verdict.Verdict, Verdict.accepted, Verdict.refused, Verdict.ask, Verdict.reply, Nogood.refusal}
+use Rattle.model.specs.Nogood.{entryOk, entries, firstWrong, filterVerdict, filterAnswer, filterEnding, setsAfter}
 use Rattle.wire.specs.Wire.{wrongLength}
-use Rattle.wire.proofs.Codes.{Small, ask-small, both-right}
+use Rattle.wire.proofs.Codes.{Small, ask-small}
 use Rattle.export_filter.specs.Filter.{filterAnswerCode, setsIn, bytesOf, filteredBytes, filterCode, filterBytes, SmallAnswer}
 use Rattle.export_filter.proofs.SetBytes.{length-sets, bytes-back}
+use Rattle.model.proofs.Lists.{both-second}
 
 -- ---- the filter's questions
 least-most : (k : ℕ) (f : ℕ → Bool) → least k f ≤ k
@@ -39,7 +32,7 @@ filter-small ds xs es us =
     let most : wrong ≤ m = least-most m (λ j. not (entryOk n (at xs j) (at es j) (at us j))) in
     ask-small c17 17 0 (ask c18 18 0 v18) z
     (λ e. ask-small c18 18 0 v18 z
-    (λ few. ask-small (eqb wrong m) 19 wrong accepted (omega (arith, most, leb-true m 192 (both-right (both (eqb (length es) m) (eqb (length us) m)) (leb m 192) few))) (λ e. tt)))
+    (λ few. ask-small (eqb wrong m) 19 wrong accepted (omega (arith, most, leb-true m 192 (both-second (both (eqb (length es) m) (eqb (length us) m)) (leb m 192) few))) (λ e. tt)))
 
 pub answer-small : (ds xs es us : List ℕ) → SmallAnswer (filterAnswer ds xs es us)
 unfolding filterAnswer

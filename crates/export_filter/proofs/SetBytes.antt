@@ -1,12 +1,7 @@
 -- Sets as pairs of bytes: reading, writing, and back again. Assumes nothing.
-use mathlib.Core.Path.{_≡_, refl, sym, ap, ap₂, _∙_, subst}
-use mathlib.Core.List.{List, [], _∷_, _++_}
-use Prim.Native.Nat.{ℕ, zero, suc, _+_, _*_, _-_, _/_, _%_, _≤_, _<_}
-use native.Mathlib.Numerals.{add-one}
-use native.Mathlib.Omega.{arith}
-use lib.ListN.{length, take, getD, set}
+use Rattle.model.specs.Kit.{_≡_, refl, sym, ap, ap₂, _∙_, subst, List, [], _∷_, _++_, ℕ, zero, suc, _+_, _*_, _-_, _/_, _%_, _≤_, _<_, add-one, arith, length, take, getD, set}
+use Rattle.model.specs.Kit.{below-more}
 use lib.Seq.{take-suc, ext-getD, getD-set-same, getD-set-other}
-use borrow.Author.Count.{below-more}
 use Rattle.model.specs.Written.{Written}
 use Rattle.model.proofs.Written.{written-then}
 use Rattle.export_filter.specs.Filter.{setsIn, bytesOf}
@@ -56,7 +51,8 @@ bytes-back (x ∷ y ∷ r) n e h =
     ap₂ (λ (i j : ℕ). i ∷ j ∷ bytesOf (setsIn r)) low high ∙ ap (λ (l : List ℕ). x ∷ y ∷ l) (bytes-back r (n - 1) (omega arith) (λ i. h (suc (suc i))))
 
 -- one word more
-pub bytes-turn : {d e : List ℕ} {at : ℕ} {f : List ℕ} {m : ℕ} (i : ℕ) (ws : List ℕ) → i < length ws → at ≤ length d → Written d 0 (bytesOf (take i ws)) e at → Written e at (getD ws i 0 % 256 ∷ getD ws i 0 / 256 ∷ []) f m → Written d 0 (bytesOf (take (i + 1) ws)) f m
+pub bytes-turn : {d e : List ℕ} {at : ℕ} {f : List ℕ} {m : ℕ} (i : ℕ) (ws : List ℕ) → i < length ws → at ≤ length d → Written d 0 (bytesOf (take i ws)) e at → Written e at
+    (getD ws i 0 % 256 ∷ getD ws i 0 / 256 ∷ []) f m → Written d 0 (bytesOf (take (i + 1) ws)) f m
 unfolding bytesOf
 bytes-turn {d} {e} {at} {f} {m} i ws h fits v w =
     let same : bytesOf (take (i + 1) ws) ≡ bytesOf (take i ws) ++ (getD ws i 0 % 256 ∷ getD ws i 0 / 256 ∷ []) =

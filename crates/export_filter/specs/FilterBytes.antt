@@ -1,13 +1,9 @@
 -- What a caller of `filter` (planner_filter) holds: of the bytes of the sets as they came and at the end and of the code that comes back, what crate filter's
 -- `FilterHeld` says of sets and answer. proofs/FilterBytes has the theorem.
-use mathlib.Core.Path.{_≡_}
-use mathlib.Core.List.{List}
-use Prim.Native.Nat.{ℕ, _+_, _*_, _%_, _<_}
-use lib.ListN.{length}
+use Rattle.model.specs.Kit.{_≡_, List, ℕ, _+_, _*_, _%_, _<_, length}
 use Rattle.model.specs.Lists.{at}
-use Rattle.filter.specs.FilterCalls.{FilterHeld}
-use Rattle.filter.specs.declared.Answer.{Answer}
-use Rattle.filter.specs.declared.Answer.the-variants.{Failed, Entailed, Consistent, Refused}
+use Rattle.filter.specs.{FilterCalls.FilterHeld, declared.Answer.Answer, declared.Answer.the-variants.Failed, declared.Answer.the-variants.Entailed}
+use Rattle.filter.specs.declared.Answer.the-variants.{Consistent, Refused}
 use Rattle.wire.specs.Wire.{wrongLength}
 use Rattle.export_filter.specs.Filter.{setsIn, filterCode, filterBytes}
 

@@ -1,4 +1,5 @@
 // The filter for callers: sets and lists in bytes.
+
 mod sets;
 
 use wire::WRONG_LENGTH;

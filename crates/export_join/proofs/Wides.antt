@@ -1,31 +1,19 @@
 -- The pieces of the answer as they are made, and the whole. Assumes nothing.
-use mathlib.Core.Path.{_≡_, refl, sym, ap, ap₂, _∙_, subst}
-use mathlib.Core.Bool.{Bool, true, false}
-use mathlib.Core.List.{List, [], _∷_, _++_}
-use Prim.Native.Nat.{ℕ, zero, suc, _+_, _-_, _*_, _/_, _%_, _≤_, _<_}
-use native.Mathlib.Numerals.{add-one}
-use native.Mathlib.Omega.{arith}
-use lib.Dec.{eqb}
-use lib.ListN.{length, set, replicate, length-set}
-use borrow.Author.Tests.{eq-eqb, ne-eqb}
-use Rattle.model.specs.Bytes.{fourBytes}
-use Rattle.model.specs.Lists.{at, choose, tabulate}
-use Rattle.model.specs.Written.{Written}
-use Rattle.model.proofs.Written.{written-byte, written-then, written-none}
+use Rattle.model.specs.Kit.{_≡_, refl, sym, ap, ap₂, _∙_, subst, Bool, true, false, List, [], _∷_, _++_, ℕ, zero, suc, _+_, _-_, _*_, _/_, _%_, _≤_, add-one, arith, eqb, length}
+use Rattle.model.specs.Kit.{set, replicate, length-set, eq-eqb, ne-eqb}
+use Rattle.model.specs.{Bytes.fourBytes, Lists.at, Lists.choose, Lists.tabulate, Written.Written, Verdict.Verdict, Verdict.accepted, Verdict.refused}
+use Rattle.model.proofs.{Written.written-byte, Written.written-then, Written.written-none, Lists.tabulate-snoc}
 use Rattle.wire.specs.Wire.{wrongLength}
 use Rattle.wire.proofs.Numbers.{whole}
-use Rattle.run_join.proofs.Orders.{tabulate-same}
-use Rattle.run_join.proofs.Turns.{startBytes, endBytes}
-use Rattle.run_join.specs.Join.{joinVerdict, kindAt, reachPlace, plansOf, nodesOf, countOf}
-use Rattle.model.specs.Verdict.{Verdict, accepted, refused}
-use Rattle.run_join.specs.Calls.{answerFor, figureFor, CallJoin}
-use Rattle.run_join.specs.declared.Joining.{Joining}
-use Rattle.run_join.specs.declared.Answer.{Answer}
-use Rattle.run_join.specs.declared.Answer.the-variants.{Refused, Joined, Missing}
+use Rattle.run_join.proofs.{Orders.tabulate-same, Turns.startBytes, Turns.endBytes}
+use Rattle.run_join.specs.{Join.joinVerdict, Join.kindAt, Join.reachPlace, Join.plansOf, Join.nodesOf, Join.countOf, Calls.answerFor, Calls.figureFor, Calls.CallJoin}
+use Rattle.run_join.specs.{declared.Joining.Joining, declared.Answer.Answer, declared.Answer.the-variants.Refused, declared.Answer.the-variants.Joined}
+use Rattle.run_join.specs.declared.Answer.the-variants.{Missing}
 use Rattle.export_join.specs.Joined.{eightBytes, widesOf, pathBytesAt, standBytes, beginBytes, joinBytes, joinCodeFor, joinAnswerFor, joinCode, joinAnswer, CallJoinBytes}
 
 -- ---- a number in eight bytes
-pub eight-put : {d e : List ℕ} {r : ℕ} {f : List ℕ} {s : ℕ} (o x low high : ℕ) → o + 8 ≤ length d → low ≡ x % 4294967296 → high ≡ x / 4294967296 → Written d o (fourBytes low) e r → Written e r (fourBytes high) f s → Written d o (eightBytes x) f s
+pub eight-put : {d e : List ℕ} {r : ℕ} {f : List ℕ} {s : ℕ} (o x low high : ℕ) → o + 8 ≤ length d → low ≡ x % 4294967296 → high ≡ x / 4294967296 → Written d o (fourBytes low) e r → Written e r
+    (fourBytes high) f s → Written d o (eightBytes x) f s
 unfolding eightBytes fourBytes
 eight-put {d} {e} {r} {f} {s} o x low high h p q u v =
     subst (λ (t : List ℕ). Written d o t f s) (ap₂ (λ (a b : ℕ). fourBytes a ++ fourBytes b) p q) (written-then (omega (arith, u .ends)) u v)
@@ -35,11 +23,6 @@ unfolding eightBytes fourBytes
 length-eight x = refl
 
 -- ---- values one behind the other
-tabulate-snoc : (n : ℕ) (f : ℕ → ℕ) → tabulate (suc n) f ≡ tabulate n f ++ (f n ∷ [])
-unfolding tabulate
-tabulate-snoc zero f = refl
-tabulate-snoc (suc n) f = ap (λ (l : List ℕ). f 0 ∷ l) (tabulate-snoc n (λ i. f (suc i)))
-
 wides-snoc : (ks : List ℕ) (x : ℕ) → widesOf (ks ++ (x ∷ [])) ≡ widesOf ks ++ eightBytes x
 unfolding widesOf eightBytes fourBytes
 wides-snoc [] x = refl
@@ -49,7 +32,8 @@ pub wides-start : (d : List ℕ) (f : ℕ → ℕ) → Written d 24 (widesOf (ta
 unfolding widesOf tabulate
 wides-start d f = written-none d 24
 
-pub wides-turn : {d e : List ℕ} {at : ℕ} {g : List ℕ} {m : ℕ} (i : ℕ) (f : ℕ → ℕ) → at ≤ length d → Written d 24 (widesOf (tabulate i f)) e at → Written e at (eightBytes (f i)) g m → Written d 24 (widesOf (tabulate (i + 1) f)) g m
+pub wides-turn : {d e : List ℕ} {at : ℕ} {g : List ℕ} {m : ℕ} (i : ℕ) (f : ℕ → ℕ) → at ≤ length d → Written d 24 (widesOf (tabulate i f)) e at → Written e at (eightBytes (f i)) g m → Written d 24
+    (widesOf (tabulate (i + 1) f)) g m
 wides-turn {d} {e} {at} {g} {m} i f fits v w =
     subst (λ (l : List ℕ). Written d 24 l g m) (sym (ap (λ (k : ℕ). widesOf (tabulate k f)) (add-one i) ∙ ap widesOf (tabulate-snoc i f) ∙ wides-snoc (tabulate i f) (f i))) (written-then fits v w)
 
@@ -62,18 +46,6 @@ wides-all {d} {e} {at} i f z h w =
     subst (λ (k : ℕ). Written d 24 (widesOf (tabulate 12 f)) e k) ends (subst (λ (k : ℕ). Written d 24 (widesOf (tabulate k f)) e at) z w)
 
 -- ---- thirteen bytes
-pub bytes-start : (d : List ℕ) (start : ℕ) (f : ℕ → ℕ) → Written d start (tabulate 0 f) d (start + 0)
-unfolding tabulate
-bytes-start d start f = let z : start ≡ start + 0 = omega arith in subst (λ (k : ℕ). Written d start [] d k) z (written-none d start)
-
-pub bytes-turn : (d e : List ℕ) (start i v : ℕ) (f : ℕ → ℕ) → start + i < length d → length e ≡ length d → v ≡ f i → Written d start (tabulate i f) e (start + i) →
-    Written d start (tabulate (i + 1) f) (set e (start + i) v) (start + (i + 1))
-bytes-turn d e start i v f h n q w =
-    let same : tabulate i f ++ (v ∷ []) ≡ tabulate (i + 1) f = ap (λ (x : ℕ). tabulate i f ++ (x ∷ [])) q ∙ sym (tabulate-snoc i f) ∙ ap (λ (k : ℕ). tabulate k f) (sym (add-one i)) in
-    let ends : start + i + 1 ≡ start + (i + 1) = omega arith in
-    subst (λ (k : ℕ). Written d start (tabulate (i + 1) f) (set e (start + i) v) k) ends
-    (subst (λ (l : List ℕ). Written d start l (set e (start + i) v) (start + i + 1)) same (written-then (omega arith) w (written-byte e (start + i) v (omega arith))))
-
 pub bytes-all : (d e : List ℕ) (start i : ℕ) (l : List ℕ) (o : ℕ) → i ≡ 13 → Written d start (tabulate i (λ k. at l (o + k))) e (start + i) → Written d start (pathBytesAt l o) e (start + 13)
 unfolding pathBytesAt
 bytes-all d e start i l o h w = subst (λ (k : ℕ). Written d start (tabulate k (λ j. at l (o + j))) e (start + k)) h w
@@ -139,7 +111,8 @@ module _ (l answer : List ℕ) where
         tells = sym (ap {B = List ℕ} (λ (t : Bool). choose t (joinAnswerFor l a answer) answer) e);
       }
 
-  pub right-size : (x : Answer) (code : ℕ) (bytes : List ℕ) → length answer ≡ 152 → answerFor (joinVerdict l) l ≡ x → code ≡ joinCodeFor x → bytes ≡ joinAnswerFor l x answer → CallJoinBytes l answer code bytes
+  pub right-size : (x : Answer) (code : ℕ) (bytes : List ℕ) → length answer ≡ 152 → answerFor (joinVerdict l) l ≡ x → code ≡ joinCodeFor x → bytes ≡ joinAnswerFor l x answer
+      → CallJoinBytes l answer code bytes
   unfolding joinCode joinAnswer
   right-size x code bytes h so c w =
       let e = eq-eqb (length answer) 152 h in
@@ -168,14 +141,16 @@ module _ (l : List ℕ) (r : Joining) (call : CallJoin l r) (x : Answer) (so : r
   said = sym (call .answers) ∙ so
 
   pub pieces : {d e f g : List ℕ} (kind : ℕ) (from upto : List ℕ) → length d ≡ 152 →
-      Written d 0 (fourBytes kind ++ fourBytes 0 ++ eightBytes (r .plans) ++ eightBytes (r .nodes) ++ widesOf (tabulate 12 (at (r .counts)))) e 120 → Written e 120 (from ++ upto) f 146 → Written f 146 (fourBytes 0 ++ 0 ∷ 0 ∷ []) g 152 →
+      Written d 0 (fourBytes kind ++ fourBytes 0 ++ eightBytes (r .plans) ++ eightBytes (r .nodes) ++ widesOf (tabulate 12 (at (r .counts)))) e 120 → Written e 120 (from ++ upto) f 146
+      → Written f 146 (fourBytes 0 ++ 0 ∷ 0 ∷ []) g 152 →
       g ≡ joinBytes l kind from upto
   unfolding joinBytes
   pieces {d} {e} {f} {g} kind from upto n u v w =
       let all = written-then (omega arith) (written-then (omega arith) u v) w in
       let plans : r .plans ≡ plansOf l = call .plans ∙ ap (λ (t : Verdict). figureFor t (plansOf l)) verdict in
       let nodes : r .nodes ≡ nodesOf l = call .nodes ∙ ap (λ (t : Verdict). figureFor t (nodesOf l)) verdict in
-      let counts : tabulate 12 (at (r .counts)) ≡ tabulate 12 (countOf l) = tabulate-same 12 (at (r .counts)) (countOf l) (λ x h. call .counts x h ∙ ap (λ (t : Verdict). figureFor t (countOf l x)) verdict) in
+      let counts : tabulate 12 (at (r .counts)) ≡ tabulate 12 (countOf l) = tabulate-same 12 (at (r .counts)) (countOf l)
+      (λ x h. call .counts x h ∙ ap (λ (t : Verdict). figureFor t (countOf l x)) verdict) in
       whole (omega (arith, all .ends)) all
       ∙ ap₂ (λ (a b : ℕ). (fourBytes kind ++ fourBytes 0 ++ eightBytes a ++ eightBytes b ++ widesOf (tabulate 12 (at (r .counts)))) ++ (from ++ upto) ++ (fourBytes 0 ++ 0 ∷ 0 ∷ [])) plans nodes
       ∙ ap (λ (c : List ℕ). (fourBytes kind ++ fourBytes 0 ++ eightBytes (plansOf l) ++ eightBytes (nodesOf l) ++ widesOf c) ++ (from ++ upto) ++ (fourBytes 0 ++ 0 ∷ 0 ∷ [])) counts

@@ -1,15 +1,8 @@
 -- planner_join: what it returns, and the bytes of the answer afterwards.
-use mathlib.Core.Path.{_≡_}
-use mathlib.Core.List.{List, [], _∷_, _++_}
-use Prim.Native.Nat.{ℕ, zero, suc, _+_, _*_, _/_, _%_}
-use lib.Dec.{eqb}
-use lib.ListN.{length, replicate}
-use Rattle.model.specs.Bytes.{fourBytes}
-use Rattle.model.specs.Lists.{at, choose, tabulate}
+use Rattle.model.specs.Kit.{_≡_, List, [], _∷_, _++_, ℕ, zero, suc, _+_, _*_, _/_, _%_, eqb, length, replicate}
+use Rattle.model.specs.{Bytes.fourBytes, Lists.at, Lists.choose, Lists.tabulate}
 use Rattle.wire.specs.Wire.{wrongLength}
-use Rattle.run_join.specs.Join.{joinVerdict, reachPlace, plansOf, nodesOf, countOf}
-use Rattle.run_join.specs.Calls.{answerFor}
-use Rattle.run_join.specs.declared.Answer.{Answer}
+use Rattle.run_join.specs.{Join.joinVerdict, Join.reachPlace, Join.plansOf, Join.nodesOf, Join.countOf, Calls.answerFor, declared.Answer.Answer}
 use Rattle.run_join.specs.declared.Answer.the-variants.{Refused, Joined, Missing}
 
 -- a number in eight bytes, low byte first; numbers one after another

@@ -38,7 +38,8 @@ fn put_counts(out: &mut [u8], counts: [u64; 12])
 // The kind and the sums.
 pub fn put_sums(out: &mut [u8], kind: usize, plans: u64, nodes: u64, counts: [u64; 12])
     requires { ⌜ (length (now out) ≡ 152) × (kind < 2 ^ 32) ⌝ }
-    ensures { λ _. ⌜ Written (now (out .entry)) 0 (fourBytes kind ++ fourBytes 0 ++ eightBytes plans ++ eightBytes nodes ++ widesOf (tabulate 12 (at counts))) (now (out .exit)) 120 ⌝ }
+    ensures { λ _. ⌜ Written (now (out .entry)) 0 (fourBytes kind ++ fourBytes 0 ++ eightBytes plans ++ eightBytes nodes ++ widesOf
+        (tabulate 12 (at counts))) (now (out .exit)) 120 ⌝ }
 {
     let first = four(out, 0, kind);
     let second = four(out, first, 0);

@@ -1,38 +1,22 @@
 -- What `planner_question_lent` and `planner_run_lent` answer, by what they called; the item of a refusal of pairs or a block is below 256 too.
 -- Assumes nothing.
-use mathlib.Core.Path.{_≡_, refl, sym, ap, _∙_, subst}
-use mathlib.Core.Bool.{Bool}
-use mathlib.Core.List.{List, [], _∷_}
-use Prim.Native.Nat.{ℕ, _%_, _^_, _<_, _≤_}
-use native.Mathlib.Omega.{arith}
-use lib.Dec.{leb, ltb, eqb}
-use lib.ListN.{length}
-use borrow.Author.Tests.{eq-eqb, ne-eqb}
-use Rattle.model.specs.Lists.{all, at, both, choose}
-use Rattle.model.specs.Problem.{Problem}
-use Rattle.model.specs.Verdict.{Verdict, accepted, refused, ask}
-use Rattle.model.specs.Sheet.{problemOf, verdictOf, symmetriesVerdict}
-use Rattle.model.specs.Run.{Answer, refusal, ended, Ending, nodesIn, Tally}
-use Rattle.model.proofs.Tally.{at-total}
-use Rattle.model.proofs.Demands.{reply-refused}
-use Rattle.order.specs.Order.{settlesAll, orderVerdict}
-use Rattle.order.specs.RunBy.{resultBy, placeCounts, answerBy}
+use Rattle.model.specs.Kit.{_≡_, refl, sym, ap, _∙_, subst, Bool, List, [], _∷_, ℕ, _%_, _^_, _<_, _≤_, arith, leb, ltb, eqb, length, eq-eqb, ne-eqb}
+use Rattle.model.specs.{Lists.all, Lists.at, Lists.both, Lists.choose, Problem.Problem, Verdict.Verdict, Verdict.accepted, Verdict.refused, Verdict.ask, Sheet.problemOf}
+use Rattle.model.specs.{Sheet.verdictOf, Sheet.symmetriesVerdict, Run.Answer, Run.refusal, Run.ended, Run.Ending, Run.nodesIn, Run.Tally}
+use Rattle.model.proofs.{Tally.at-total, Demands.reply-refused, Lists.T-of, Lists.length-below, Accepted.symmetries-are, Accepted.passed, Accepted.is-accepted}
+use Rattle.order.specs.{Order.settlesAll, Order.orderVerdict, RunBy.resultBy, RunBy.placeCounts, RunBy.answerBy}
 use Rattle.order.proofs.Demanded.{ran-by}
 use Rattle.sheet.specs.Meaning.{andThen}
 use Rattle.run_input.specs.Lent.{verdictLent, problemWith, orderLent, problemLent, lentInput, answerLent, listLent, tallyLent}
-use Rattle.run_input.proofs.Lent.{passed-all, demanded-lent}
+use Rattle.run_input.proofs.Lent.{demanded-lent}
 use Rattle.wire.specs.Wire.{wrongLength}
-use Rattle.export_run.specs.Run.{answerCode}
+use Rattle.export_run.specs.{Run.answerCode, inner.Inner.Counted}
 use Rattle.export_lent.specs.Lent.{placedBytes, lentRunCode, lentRunList, lentRunAnswer}
-use Rattle.export_run.specs.Inner.{Counted}
-use Rattle.export_counts.specs.Inner.{Twelve}
+use Rattle.export_counts.specs.inner.Inner.{Twelve}
 use Rattle.wire.proofs.Codes.{Small, ask-small, verdict-small, symmetries-small}
 use Rattle.export_run.proofs.Ran.{plans-most}
 use Rattle.block.specs.Block.{factorial, orderingTable, blockTables, isBlock, blockVerdict, blockLent}
-use Rattle.model.proofs.Lists.{T-of, length-below}
-use Rattle.model.proofs.Accepted.{symmetries-are, passed}
-use Rattle.block.proofs.Orderings.{factorial-le}
-use Rattle.block.proofs.Block.{block-is}
+use Rattle.block.proofs.{Orderings.factorial-le, Block.block-is}
 
 -- a block's items count on from at most sixteen, 120 of them
 block-small : (p : Problem) (block : List ℕ) → length (p .symmetries) ≤ 16 → Small (blockLent p block)
@@ -59,7 +43,7 @@ and-small accepted u s t = t refl
 and-small (refused number item) u s t = s
 
 few-symmetries : (b : List ℕ) → verdictOf b ≡ accepted → length (problemOf b .symmetries) ≤ 16
-few-symmetries b e = let l = symmetries-are b in let f = passed b (passed-all (verdictOf b) e) .header .symmetries in omega arith
+few-symmetries b e = let l = symmetries-are b in let f = passed b (is-accepted (verdictOf b) e) .header .symmetries in omega arith
 
 pub lent-small : (b pairs block : List ℕ) → Small (verdictLent b pairs block)
 unfolding verdictLent
@@ -117,6 +101,7 @@ module _ (b pairs block : List ℕ) (limit : ℕ) (list : List ℕ) where
           c ∙ ap answerCode (sym so) ∙ sym (ap {B = ℕ} (λ (t : Bool). choose t (answerCode (answerLent b pairs block limit list)) wrongLength) e),
           (
             l ∙ sym (ap {B = List ℕ} (λ (t : Bool). choose t (listLent b pairs block limit list) list) e),
-            w ∙ ap (λ (x : Answer). placedBytes b pairs block x answer) (sym so) ∙ sym (ap {B = List ℕ} (λ (t : Bool). choose t (placedBytes b pairs block (answerLent b pairs block limit list) answer) answer) e),
+            w ∙ ap (λ (x : Answer). placedBytes b pairs block x answer) (sym so) ∙ sym (ap {B = List ℕ}
+                (λ (t : Bool). choose t (placedBytes b pairs block (answerLent b pairs block limit list) answer) answer) e),
           ),
         )

@@ -1,8 +1,6 @@
 -- Calls that are lent a sheet, pairs and a block: what comes back, and every lent buffer at the end. Each is the function's contract, that of `planner_..`
 -- too; promises' `ExportedLent` says what a caller may rely on.
-use mathlib.Core.Path.{_≡_}
-use mathlib.Core.List.{List}
-use Prim.Native.Nat.{ℕ}
+use Rattle.model.specs.Kit.{_≡_, List, ℕ}
 use Rattle.export_lent.specs.Lent.{lentQuestionCode, lentRunCode, lentRunList, lentRunAnswer}
 
 -- `question_lent`: the code that comes back

@@ -1,10 +1,6 @@
 -- Calls that are lent a sheet, pairs and a block (paper 02, #107, #108 and #111).
-use mathlib.Core.List.{List, _++_}
-use Prim.Native.Nat.{ℕ}
-use lib.Dec.{eqb}
-use lib.ListN.{length}
-use Rattle.model.specs.Lists.{choose}
-use Rattle.model.specs.Run.{Answer, refusal, answered, nodesIn}
+use Rattle.model.specs.Kit.{List, _++_, ℕ, eqb, length}
+use Rattle.model.specs.{Lists.choose, Run.Answer, Run.refusal, Run.answered, Run.nodesIn}
 use Rattle.order.specs.RunBy.{placeCounts}
 use Rattle.run_input.specs.Lent.{verdictLent, problemWith, orderLent, answerLent, listLent}
 use Rattle.wire.specs.Wire.{codeOf, wrongLength}

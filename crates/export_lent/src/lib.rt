@@ -25,7 +25,8 @@ pub fn run_lent(
     list: &mut [u8],
     answer: &mut [u8],
 ) -> u32
-    ensures { λ r. ⌜ CallRunBytes (now (sheet .entry)) (now (pairs .entry)) (now (block .entry)) limit (now (list .entry)) (now (answer .entry)) r (now (list .exit)) (now (answer .exit)) ⌝ }
+    ensures { λ r. ⌜ CallRunBytes (now (sheet .entry)) (now (pairs .entry)) (now (block .entry)) limit (now (list .entry)) (now (answer .entry)) r
+        (now (list .exit)) (now (answer .exit)) ⌝ }
 {
     if answer.len() != 60 {
         return WRONG_LENGTH;

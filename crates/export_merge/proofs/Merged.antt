@@ -1,16 +1,8 @@
 -- What a merge answers, by what it called. Assumes nothing.
-use mathlib.Core.Path.{_≡_, sym, ap, _∙_}
-use mathlib.Core.Bool.{Bool}
-use mathlib.Core.List.{List}
-use Prim.Native.Nat.{ℕ}
-use lib.ListN.{length}
-use borrow.Author.Tests.{eq-eqb, ne-eqb}
-use Rattle.model.specs.Lists.{choose}
-use Rattle.model.specs.Verdict.{Verdict}
-use Rattle.model.specs.Room.{Outcome, outcomeOf, roomAfter}
+use Rattle.model.specs.Kit.{_≡_, sym, ap, _∙_, Bool, List, ℕ, length, eq-eqb, ne-eqb}
+use Rattle.model.specs.{Lists.choose, Verdict.Verdict, Room.Outcome, Room.outcomeOf, Room.roomAfter}
 use Rattle.list_merge.specs.Merge.{merged, mergeVerdict}
-use Rattle.wire.specs.Wire.{wrongLength}
-use Rattle.wire.specs.Outcomes.{outcomeCode, lentCode, lentRoom}
+use Rattle.wire.specs.{Wire.wrongLength, Outcomes.outcomeCode, Outcomes.lentCode, Outcomes.lentRoom}
 use Rattle.export_merge.specs.Merged.{mergeOutcome, mergeAnswer, CallMerged}
 use Rattle.wire.proofs.Outcomes as lent
 

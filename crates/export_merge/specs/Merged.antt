@@ -1,16 +1,9 @@
 -- planner_merge (paper 02, #106): its answer, and a call. The number of bytes written takes two of the answer's numbers: a merged list may have more
 -- bytes than 32 bits count.
-use mathlib.Core.Path.{_≡_}
-use mathlib.Core.List.{List}
-use Prim.Native.Nat.{ℕ, _%_, _/_, _^_}
-use lib.Dec.{eqb}
-use lib.ListN.{length}
-use Rattle.model.specs.Lists.{choose}
-use Rattle.model.specs.Verdict.{Verdict}
-use Rattle.model.specs.Room.{Outcome, answered, refusal, outcomeOf}
+use Rattle.model.specs.Kit.{_≡_, List, ℕ, _%_, _/_, _^_, eqb, length}
+use Rattle.model.specs.{Lists.choose, Verdict.Verdict, Room.Outcome, Room.answered, Room.refusal, Room.outcomeOf}
 use Rattle.list_merge.specs.Merge.{merged, mergeVerdict}
-use Rattle.wire.specs.Wire.{threeNumbers}
-use Rattle.wire.specs.Outcomes.{lentCode, lentRoom}
+use Rattle.wire.specs.{Wire.threeNumbers, Outcomes.lentCode, Outcomes.lentRoom}
 
 -- kind 1, the number of bytes written, its low half and its high half; after a refusal the answer is as it came
 abbrev pub mergeOutcome : Outcome → List ℕ → List ℕ

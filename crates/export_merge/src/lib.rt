@@ -16,7 +16,8 @@ pub fn merge<'a>(
     out: &mut [u8],
     answer: &mut [u8],
 ) -> u32
-    ensures { λ r. ⌜ CallMerged variables (now (pairs .entry)) (now (first .entry)) (now (second .entry)) (now (out .entry)) (now (answer .entry)) r (now (out .exit)) (now (answer .exit)) ⌝ }
+    ensures { λ r. ⌜ CallMerged variables (now (pairs .entry)) (now (first .entry)) (now (second .entry)) (now (out .entry)) (now (answer .entry)) r
+        (now (out .exit)) (now (answer .exit)) ⌝ }
 {
     if answer.len() != 12 {
         return WRONG_LENGTH;

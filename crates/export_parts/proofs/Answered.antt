@@ -1,34 +1,16 @@
 -- What `run_part` answers, by what it called: the figures fit, and the pieces fill the head. Assumes nothing.
-use mathlib.Core.Path.{_≡_, refl, sym, ap, ap₂, _∙_, subst}
-use mathlib.Core.Bool.{Bool, true, false}
-use mathlib.Core.List.{List, [], _++_}
-use Prim.Native.Nat.{ℕ, _^_, _≤_, _<_}
-use native.Mathlib.Omega.{arith}
-use lib.Dec.{eqb, ltb}
-use lib.ListN.{length, take, length-take}
-use borrow.Author.Tests.{eq-eqb, ne-eqb, ltb-true, ltb-false}
-use Rattle.model.specs.Lists.{at, choose, keep}
-use Rattle.model.specs.Problem.{Problem}
-use Rattle.model.specs.Verdict.{refused}
-use Rattle.model.specs.Search.{isPlan}
-use Rattle.model.specs.Run.{Ending, finished, spent, full, plansIn, nodesIn, search, Answer, refusal, ended, settledBy, countsBy}
-use Rattle.model.specs.Written.{Written}
-use Rattle.model.proofs.Runs.{Ended, walk}
-use Rattle.model.proofs.Tally.{length-counts, at-counts}
-use Rattle.model.proofs.Lists.{at-out}
+use Rattle.model.specs.Kit.{_≡_, sym, ap, ap₂, _∙_, subst, Bool, List, [], _++_, ℕ, _^_, _≤_, _<_, arith, length, take, length-take, eq-eqb, ne-eqb}
+use Rattle.model.specs.{Lists.at, Lists.choose, Lists.keep, Problem.Problem, Verdict.refused, Search.isPlan, Run.Ending, Run.finished, Run.spent, Run.full, Run.plansIn}
+use Rattle.model.specs.{Run.nodesIn, Run.search, Run.Answer, Run.refusal, Run.ended, Run.settledBy, Run.countsBy, Written.Written}
+use Rattle.model.proofs.{Runs.Ended, Runs.walk, Tally.length-counts, Tally.count-most, Written.written-then, Demands.reply-so, Demands.reply-refused}
 use Rattle.families.proofs.FamilyCount.{keep-length}
-use Rattle.model.proofs.Written.{written-then}
 use Rattle.run_input.specs.Lent.{verdictLent, problemLent, orderLent}
 use Rattle.wire.specs.Wire.{wrongLength}
 use Rattle.wire.proofs.Numbers.{whole}
-use Rattle.model.proofs.Demands.{reply-so, reply-refused}
 use Rattle.run_ranges.specs.Ranges.{partNodes, resultPart, answerPart, listPart, madeBy, tallyPart, lastPart}
-use Rattle.export_run.specs.Run.{endingBytes, answerCode}
-use Rattle.export_run.specs.Inner.{Counted}
-use Rattle.export_counts.specs.Tallied.{numbersOf}
-use Rattle.export_counts.specs.Inner.{Twelve}
-use Rattle.export_parts.specs.Head.{nameBytes, pathBytes, headOf, headFor}
-use Rattle.export_parts.specs.Parts.{partOf, partCode, partList, partAnswer, CallPartBytes}
+use Rattle.export_run.specs.{Run.endingBytes, Run.answerCode, inner.Inner.Counted}
+use Rattle.export_counts.specs.{Tallied.numbersOf, inner.Inner.Twelve}
+use Rattle.export_parts.specs.{Head.nameBytes, Head.pathBytes, Head.headOf, Head.headFor, Parts.partOf, Parts.partCode, Parts.partList, Parts.partAnswer, Parts.CallPartBytes}
 
 -- ---- figures that fit
 -- a walk lists no more plans than it makes nodes, and makes no more than the limit
@@ -46,13 +28,6 @@ module _ (p : Problem) (limit room : ℕ) (ts : List (List ℕ)) where
       fewer (spent plans made) k l q = omega (arith, q .1)
       fewer (full plans made) k l q = omega (arith, q .0)
 
-count-most : {A : Type 0} (f : A → ℕ) (l : List A) (x : ℕ) → at (countsBy f l) x ≤ length l
-count-most {A} f l x = go (ltb x 12) refl
-  where
-    go : (b : Bool) → ltb x 12 ≡ b → at (countsBy f l) x ≤ length l
-    go true e = omega (arith, at-counts f l x (ltb-true x 12 e), keep-length (λ a. eqb (f a) x) l)
-    go false e = omega (arith, at-out (countsBy f l) x (let n = length-counts f l in let h = ltb-false x 12 e in omega arith))
-
 module _ (b pairs block from upto : List ℕ) (limit : ℕ) (list : List ℕ) where
   pub refusal-of : (number item : ℕ) → answerPart b pairs block from upto limit list ≡ refusal number item → verdictLent b pairs block ≡ refused number item
   unfolding answerPart
@@ -64,7 +39,8 @@ module _ (b pairs block from upto : List ℕ) (limit : ℕ) (list : List ℕ) wh
 
   module _ (e : Ending) (so : answerPart b pairs block from upto limit list ≡ ended e) (fits : limit < 2 ^ 32) where
     pub counted : Counted e
-    counted = let f = figures (problemLent b pairs block) limit (length list) (partNodes b pairs block from upto) e (ended-of e so) in record { plans = omega (arith, f .0, f .1); made = omega (arith, f .1) }
+    counted = let f = figures (problemLent b pairs block) limit (length list) (partNodes b pairs block from upto) e (ended-of e so) in record
+        { plans = omega (arith, f .0, f .1); made = omega (arith, f .1) }
 
     pub counts-fit : (counts : List ℕ) → counts ≡ tallyPart b pairs block from upto limit list .counts → Twelve counts
     unfolding tallyPart at
@@ -94,7 +70,8 @@ module _ (b pairs block from upto : List ℕ) (limit : ℕ) (list : List ℕ) wh
           tells = sym (ap {B = List ℕ} (λ (t : Bool). choose t (headFor b pairs block c (c .answer) answer) answer) e);
         }
 
-    pub right-answer : (r : ℕ) (after bytes : List ℕ) (a : Answer) → length answer ≡ 115 → answerPart b pairs block from upto limit list ≡ a → r ≡ answerCode a → after ≡ listPart b pairs block from upto limit list →
+    pub right-answer : (r : ℕ) (after bytes : List ℕ) (a : Answer) → length answer ≡ 115 → answerPart b pairs block from upto limit list ≡ a → r ≡ answerCode a
+        → after ≡ listPart b pairs block from upto limit list →
         bytes ≡ headFor b pairs block (partOf b pairs block from upto limit list) a answer → Said r after bytes
     unfolding partCode partList partAnswer
     right-answer r after bytes a h so k l w =
@@ -107,7 +84,8 @@ module _ (b pairs block from upto : List ℕ) (limit : ℕ) (list : List ℕ) wh
         }
 
     -- the three pieces are the head
-    pub pieces : (x y z : List ℕ) (e : Ending) (counts last : List ℕ) → length answer ≡ 115 → counts ≡ tallyPart b pairs block from upto limit list .counts → last ≡ lastPart b pairs block from upto limit list →
+    pub pieces : (x y z : List ℕ) (e : Ending) (counts last : List ℕ) → length answer ≡ 115 → counts ≡ tallyPart b pairs block from upto limit list .counts
+        → last ≡ lastPart b pairs block from upto limit list →
         Written answer 0 (endingBytes e ++ numbersOf counts) x 60 → Written x 60 (nameBytes b pairs block) y 76 → Written y 76 (pathBytes from ++ pathBytes upto ++ pathBytes last) z 115 →
         z ≡ headOf b pairs block (partOf b pairs block from upto limit list) e
     unfolding headOf

@@ -1,16 +1,9 @@
 -- The pieces of a head as they are made: a digest byte by byte, a path value by value, texts one behind the other. Assumes nothing.
-use mathlib.Core.Path.{_≡_, refl, sym, ap, ap₂, _∙_, subst}
-use mathlib.Core.List.{List, [], _∷_, _++_}
-use Prim.Native.Nat.{ℕ, zero, suc, _+_, _*_, _%_, _≤_, _<_, min}
-use native.Mathlib.Numerals.{add-one}
-use native.Mathlib.Omega.{arith}
-use lib.ListN.{length, take, getD, set, length-take}
-use lib.Seq.{take-suc, take-all, getD-take}
-use Rattle.model.specs.Lists.{at, tabulate}
-use Rattle.model.specs.Bytes.{fourBytes}
-use Rattle.model.specs.Written.{Written}
-use Rattle.model.proofs.Lists.{length-tabulate, at-out}
-use Rattle.model.proofs.Written.{written-byte, written-then, written-none}
+use Rattle.model.specs.Kit.{_≡_, refl, sym, ap, ap₂, _∙_, subst, List, [], _∷_, _++_, ℕ, suc, _+_, _*_, _%_, _≤_, _<_, min, add-one, arith, length, take, getD, set, length-take}
+use Rattle.model.specs.Kit.{take-all, getD-take}
+use lib.Seq.{take-suc}
+use Rattle.model.specs.{Lists.at, Lists.tabulate, Bytes.fourBytes, Written.Written}
+use Rattle.model.proofs.{Lists.length-tabulate, Lists.at-out, Written.written-byte, Written.written-then}
 use Rattle.wire.specs.Wire.{threeNumbers}
 use Rattle.export_counts.specs.Tallied.{numbersOf}
 use Rattle.export_counts.proofs.Tallied.{length-numbers}
@@ -26,33 +19,17 @@ pub digest-none : (base : ℕ) → 1 ≡ digest base []
 unfolding digest digestFrom
 digest-none base = refl
 
-pub digest-turn : (base i h x r : ℕ) (bytes : List ℕ) → i < length bytes → h ≡ digest base (take i bytes) → x ≡ getD bytes i 0 → r ≡ (h * base + x + 1) % 2147483647 → r ≡ digest base (take (i + 1) bytes)
+pub digest-turn : (base i h x r : ℕ) (bytes : List ℕ) → i < length bytes → h ≡ digest base (take i bytes) → x ≡ getD bytes i 0 → r ≡ (h * base + x + 1) % 2147483647 → r ≡ digest base
+    (take (i + 1) bytes)
 unfolding digest
 digest-turn base i h x r bytes l e f g =
-    g ∙ ap₂ (λ (a y : ℕ). (a * base + y + 1) % 2147483647) e f ∙ sym (digest-snoc base 1 (take i bytes) (getD bytes i 0)) ∙ ap (digestFrom base 1) (sym (take-suc bytes i 0 l) ∙ ap (λ (k : ℕ). take k bytes) (sym (add-one i)))
+    g ∙ ap₂ (λ (a y : ℕ). (a * base + y + 1) % 2147483647) e f ∙ sym (digest-snoc base 1 (take i bytes) (getD bytes i 0)) ∙ ap (digestFrom base 1)
+    (sym (take-suc bytes i 0 l) ∙ ap (λ (k : ℕ). take k bytes) (sym (add-one i)))
 
 pub digest-all : (base i h : ℕ) (bytes : List ℕ) → length bytes ≤ i → h ≡ digest base (take i bytes) → h ≡ digest base bytes
 digest-all base i h bytes l e = e ∙ ap (digest base) (take-all i bytes l)
 
 -- ---- values one behind the other
-tabulate-snoc : (n : ℕ) (f : ℕ → ℕ) → tabulate (suc n) f ≡ tabulate n f ++ (f n ∷ [])
-unfolding tabulate
-tabulate-snoc zero f = refl
-tabulate-snoc (suc n) f = ap (λ (l : List ℕ). f 0 ∷ l) (tabulate-snoc n (λ i. f (suc i)))
-
-pub values-start : (d : List ℕ) (start : ℕ) (f : ℕ → ℕ) → Written d start (tabulate 0 f) d (start + 0)
-unfolding tabulate
-values-start d start f = let z : start ≡ start + 0 = omega arith in subst (λ (k : ℕ). Written d start [] d k) z (written-none d start)
-
-pub values-turn : (d e : List ℕ) (start i v : ℕ) (f : ℕ → ℕ) → start + i < length d → length e ≡ length d → v ≡ f i → Written d start (tabulate i f) e (start + i) →
-    Written d start (tabulate (i + 1) f) (set e (start + i) v) (start + (i + 1))
-values-turn d e start i v f h n q w =
-    let one = written-byte e (start + i) v (omega arith) in
-    let same : tabulate i f ++ (v ∷ []) ≡ tabulate (i + 1) f = ap (λ (x : ℕ). tabulate i f ++ (x ∷ [])) q ∙ sym (tabulate-snoc i f) ∙ ap (λ (k : ℕ). tabulate k f) (sym (add-one i)) in
-    let ends : start + i + 1 ≡ start + (i + 1) = omega arith in
-    subst (λ (k : ℕ). Written d start (tabulate (i + 1) f) (set e (start + i) v) k) ends
-    (subst (λ (l : List ℕ). Written d start l (set e (start + i) v) (start + i + 1)) same (written-then (omega arith) w one))
-
 pub values-all : (d e : List ℕ) (start i : ℕ) (f : ℕ → ℕ) → i ≡ 12 → Written d start (tabulate i f) e (start + i) → Written d start (tabulate 12 f) e (start + 12)
 values-all d e start i f h w = subst (λ (k : ℕ). Written d start (tabulate k f) e (start + k)) h w
 
@@ -71,7 +48,8 @@ pub length-path : (path : List ℕ) → length (pathBytes path) ≡ 13
 unfolding pathBytes
 length-path path = ap suc (length-tabulate 12 (at path))
 
-pub path-put : (d e f : List ℕ) (start : ℕ) (path : List ℕ) (kept m : ℕ) → start + 13 ≤ length d → kept ≡ length (take 12 path) → e ≡ set d start kept → Written e (start + 1) (tabulate 12 (at path)) f m → m ≡ start + 13 →
+pub path-put : (d e f : List ℕ) (start : ℕ) (path : List ℕ) (kept m : ℕ) → start + 13 ≤ length d → kept ≡ length (take 12 path) → e ≡ set d start kept → Written e (start + 1)
+    (tabulate 12 (at path)) f m → m ≡ start + 13 →
     Written d start (pathBytes path) f (start + 13)
 unfolding pathBytes
 path-put d e f start path kept m h k q w n =

@@ -1,9 +1,6 @@
 -- The head of a part of a run, in 115 bytes: how the part ended with its plans, its nodes and its twelve counts, the name of its problem, its range, and where it stands.
-use mathlib.Core.List.{List, [], _∷_, _++_}
-use Prim.Native.Nat.{ℕ, _+_, _*_, _%_}
-use lib.ListN.{length, take}
-use Rattle.model.specs.Lists.{at, tabulate}
-use Rattle.model.specs.Run.{Ending, Answer, refusal, answered}
+use Rattle.model.specs.Kit.{List, [], _∷_, _++_, ℕ, _+_, _*_, _%_, length, take}
+use Rattle.model.specs.{Lists.at, Lists.tabulate, Run.Ending, Run.Answer, Run.refusal, Run.answered}
 use Rattle.run_ranges.specs.Claims.{Part}
 use Rattle.export_run.specs.Run.{endingBytes}
 use Rattle.export_counts.specs.Tallied.{numbersOf}

@@ -1,12 +1,7 @@
 -- planner_run_part: what it returns, and the bytes of every lent buffer afterwards.
-use mathlib.Core.Path.{_≡_}
-use mathlib.Core.List.{List}
-use Prim.Native.Nat.{ℕ}
-use lib.Dec.{eqb}
-use lib.ListN.{length}
+use Rattle.model.specs.Kit.{_≡_, List, ℕ, eqb, length}
 use Rattle.model.specs.Lists.{choose}
-use Rattle.run_ranges.specs.Ranges.{answerPart, listPart, tallyPart, lastPart}
-use Rattle.run_ranges.specs.Claims.{Part}
+use Rattle.run_ranges.specs.{Ranges.answerPart, Ranges.listPart, Ranges.tallyPart, Ranges.lastPart, Claims.Part}
 use Rattle.wire.specs.Wire.{wrongLength}
 use Rattle.export_run.specs.Run.{answerCode}
 use Rattle.export_parts.specs.Head.{headFor}

@@ -12,8 +12,8 @@ ghost use Rattle.model.specs.Written.{Written};
 ghost use Rattle.run_state.specs.Meaning.{endingOf};
 ghost use Rattle.wire.specs.Wire.{threeNumbers};
 ghost use Rattle.export_run.specs.Run.{endingBytes};
-ghost use Rattle.export_run.specs.Inner.{Counted};
-ghost use Rattle.export_counts.specs.Inner.{Twelve};
+ghost use Rattle.export_run.specs.inner.Inner.{Counted};
+ghost use Rattle.export_counts.specs.inner.Inner.{Twelve};
 ghost use Rattle.export_counts.specs.Tallied.{numbersOf};
 ghost use Rattle.export_parts.specs.Head.{nameBytes, pathBytes};
 
@@ -93,7 +93,8 @@ fn put_path(out: &mut [u8], start: usize, path: &[u8], n: usize)
 // The range, and where the part stands: the first n values of `last`.
 pub fn put_paths(out: &mut [u8], from: &[u8], upto: &[u8], last: &[u8], n: usize)
     requires { ⌜ length (now out) ≡ 115 ⌝ }
-    ensures { λ _. ⌜ Written (now (out .entry)) 76 (pathBytes (now (from .entry)) ++ pathBytes (now (upto .entry)) ++ pathBytes (take n (now (last .entry)))) (now (out .exit)) 115 ⌝ }
+    ensures { λ _. ⌜ Written (now (out .entry)) 76 (pathBytes (now (from .entry)) ++ pathBytes (now (upto .entry)) ++ pathBytes
+        (take n (now (last .entry)))) (now (out .exit)) 115 ⌝ }
 {
     put_path(out, 76, from, from.len());
     put_path(out, 89, upto, upto.len());

@@ -1,13 +1,8 @@
 -- planner_report: what it returns, and the bytes of every lent buffer afterwards.
-use mathlib.Core.Path.{_≡_}
-use mathlib.Core.List.{List}
-use Prim.Native.Nat.{ℕ}
-use lib.Dec.{leb}
-use lib.ListN.{length}
+use Rattle.model.specs.Kit.{_≡_, List, ℕ, leb, length}
 use Rattle.model.specs.Verdict.{Verdict, accepted, ask}
 use Rattle.report.specs.Report.{reportOf}
-use Rattle.wire.specs.Wire.{fourAt}
-use Rattle.wire.specs.Outcomes.{lentCode, lentRoom, lentAnswer}
+use Rattle.wire.specs.{Wire.fourAt, Outcomes.lentCode, Outcomes.lentRoom, Outcomes.lentAnswer}
 
 -- 22: the buffer holds the report
 unfoldable pub reportVerdict : List ℕ → List ℕ → Verdict

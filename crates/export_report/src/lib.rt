@@ -6,12 +6,13 @@ use wire::three;
 ghost use lib.ListN.{take};
 ghost use Rattle.model.specs.Sheet.{verdictOf};
 ghost use Rattle.report.specs.Report.{reportFor};
-ghost use Rattle.report.specs.Text.{Fitted};
+ghost use Rattle.report.specs.inner.Text.{Fitted};
 ghost use Rattle.export_report.specs.Report.{CallReport};
 
 // The report on an input, of which the first 65,536 bytes are the sheet.
 fn input_report(input: &[u8], out: &mut [u8]) -> usize
-    ensures { λ r. ⌜ Fitted (now (out .entry)) (reportFor (verdictOf (take 65536 (now (input .entry)))) (take 65536 (now (input .entry)))) (now (out .exit)) r ⌝ }
+    ensures { λ r. ⌜ Fitted (now (out .entry)) (reportFor (verdictOf (take 65536 (now (input .entry)))) (take 65536 (now (input .entry))))
+        (now (out .exit)) r ⌝ }
 {
     if input.len() <= 65536 {
         return text::sheet_report(input, out);

@@ -6,10 +6,10 @@ ghost use Rattle.model.specs.Sheet.{verdictOf};
 ghost use Rattle.model.specs.Run.{finished};
 ghost use Rattle.families_figure.specs.Figure.{Figure, dash};
 ghost use Rattle.report.specs.Report.{reportFor};
-ghost use Rattle.report.specs.Text.{endedText, Fitted};
+ghost use Rattle.report.specs.inner.Text.{endedText, Fitted};
 ghost use Rattle.run_state.specs.Meaning.{endingOf};
 ghost use Rattle.families_count.specs.Told.{told, means};
-ghost use Rattle.export_report.specs.Inner.{Listed, Dashed};
+ghost use Rattle.export_report.specs.inner.Inner.{Listed, Dashed};
 
 // A run whose families aren't counted.
 fn stop_report(e: Ending, list: &[u8], n: usize, out: &mut [u8]) -> usize
@@ -33,7 +33,8 @@ fn finished_report(
     out: &mut [u8],
 ) -> usize
     requires { ⌜ Listed (finished plans nodes) n (now list) ⌝ }
-    ensures { λ r. ⌜ ((f : Figure) → means figure ≡ told f → Fitted (now (out .entry)) (endedText (finished plans nodes) f n (now (list .entry))) (now (out .exit)) r) ⌝ }
+    ensures { λ r. ⌜ ((f : Figure) → means figure ≡ told f → Fitted (now (out .entry)) (endedText (finished plans nodes) f n (now (list .entry)))
+        (now (out .exit)) r) ⌝ }
 {
     let families_count::Answer::Number(families) = figure else {
         return report::uncounted(plans, nodes, list, n, out);
@@ -50,7 +51,8 @@ fn ending_report(
     out: &mut [u8],
 ) -> usize
     requires { ⌜ Listed (endingOf e) n (now list) ⌝ }
-    ensures { λ r. ⌜ ((f : Figure) → means figure ≡ told f → Dashed (endingOf e) f → Fitted (now (out .entry)) (endedText (endingOf e) f n (now (list .entry))) (now (out .exit)) r) ⌝ }
+    ensures { λ r. ⌜ ((f : Figure) → means figure ≡ told f → Dashed (endingOf e) f → Fitted (now (out .entry))
+        (endedText (endingOf e) f n (now (list .entry))) (now (out .exit)) r) ⌝ }
 {
     let Ending::Finished(plans, nodes) = e else {
         return stop_report(e, list, n, out);
@@ -63,11 +65,11 @@ pub fn sheet_report(sheet: &[u8], out: &mut [u8]) -> usize
     ensures { λ r. ⌜ Fitted (now (out .entry)) (reportFor (verdictOf (now (sheet .entry))) (now (sheet .entry))) (now (out .exit)) r ⌝ }
 {
     let mut list = families_count::plan_room();
-    let run = families_count::report_run(sheet, 1000000, &mut list);
+    let run = families_count::report_run(sheet, report::REPORT_LIMIT, &mut list);
     let answer = run.answer;
     let figure = run.figure;
     let n = run.variables;
-    let used = 4096 * n;
+    let used = report::REPORT_PLANS * n;
     match answer {
         Answer::Refused { number, item } => report::refused(number as usize, item, out),
         Answer::Ended(e) => ending_report(figure, e, &list[..used], n, out),

@@ -1,24 +1,10 @@
 -- What a run's answer says of its counts, and `run`'s code and bytes. Assumes nothing.
-use mathlib.Core.Path.{_≡_, sym, ap, _∙_, subst}
-use mathlib.Core.Bool.{Bool, true, false}
-use mathlib.Core.List.{List, [], _∷_}
-use Prim.Native.Nat.{ℕ, suc, _^_, _≤_, _<_}
-use native.Mathlib.Omega.{arith}
-use lib.ListN.{length, take, length-take}
-use borrow.Author.Tests.{eq-eqb, ne-eqb}
-use Rattle.model.specs.Lists.{choose, keep}
-use Rattle.model.specs.Problem.{Problem}
-use Rattle.model.specs.Verdict.{refused}
-use Rattle.model.specs.Sheet.{problemOf, verdictOf}
-use Rattle.model.specs.Search.{nodes, isPlan}
-use Rattle.model.specs.Run.{Ending, finished, spent, full, plansIn, nodesIn, resultOf, Answer, refusal, ended, answerOf, listOf}
-use Rattle.model.specs.Claims.{plansAmong, CountsAt}
-use Rattle.model.proofs.Demands.{reply-so, reply-refused}
-use Rattle.model.proofs.Runs.{nodes-allowed, counts}
+use Rattle.model.specs.Kit.{_≡_, sym, ap, _∙_, subst, Bool, List, ℕ, _^_, _≤_, _<_, arith, length, take, length-take, eq-eqb, ne-eqb}
+use Rattle.model.specs.{Lists.choose, Problem.Problem, Verdict.refused, Sheet.problemOf, Sheet.verdictOf, Search.nodes, Search.isPlan, Run.Ending, Run.finished, Run.spent}
+use Rattle.model.specs.{Run.full, Run.plansIn, Run.nodesIn, Run.resultOf, Run.Answer, Run.refusal, Run.ended, Run.answerOf, Run.listOf, Claims.plansAmong, Claims.CountsAt}
+use Rattle.model.proofs.{Demands.reply-so, Demands.reply-refused, Runs.nodes-allowed, Runs.counts, Lists.keep-most}
 use Rattle.wire.specs.Wire.{wrongLength}
-use Rattle.export_run.specs.Run.{answerCode, answerBytes, runCode, runList, runAnswer}
-use Rattle.export_run.specs.Inner.{Counted}
-use Rattle.export_run.specs.Calls.{CallExported}
+use Rattle.export_run.specs.{Run.answerCode, Run.answerBytes, Run.runCode, Run.runList, Run.runAnswer, inner.Inner.Counted, Calls.CallExported}
 
 -- ---- refusals
 pub refusal-of : (b : List ℕ) (limit : ℕ) (out : List ℕ) (number item : ℕ) → answerOf b limit out ≡ refusal number item → verdictOf b ≡ refused number item
@@ -26,15 +12,6 @@ unfolding answerOf
 refusal-of b limit out number item e = reply-refused (verdictOf b) (resultOf (problemOf b) limit (length out) .ending) number item e
 
 -- ---- counts
-keep-most : {A : Type 0} (p : A → Bool) (l : List A) → length (keep p l) ≤ length l
-unfolding keep
-keep-most p [] = omega arith
-keep-most {A} p (x ∷ l) = go (p x) (keep-most p l)
-  where
-    go : (b : Bool) → length (keep p l) ≤ length l → length {A = A} (elim b [ true ↦ x ∷ keep p l | false ↦ keep p l ]) ≤ suc (length l)
-    go true h = omega arith
-    go false h = omega arith
-
 among-most : (p : Problem) (k : ℕ) → plansAmong p k ≤ k
 among-most p k = omega (arith, keep-most (isPlan p) (take k (nodes p)), length-take k (nodes p))
 

@@ -1,8 +1,6 @@
 -- A call of `question` and of `run` as they are exported: what it was lent, the code that comes back, and what the lent bytes are at the end. Each is the
 -- function's contract; promises' `Exported` says what a caller may rely on.
-use mathlib.Core.Path.{_≡_}
-use mathlib.Core.List.{List}
-use Prim.Native.Nat.{ℕ}
+use Rattle.model.specs.Kit.{_≡_, List, ℕ}
 use Rattle.export_run.specs.Run.{questionCode, runCode, runList, runAnswer}
 
 -- a call of `question`: bytes b, the code that comes back

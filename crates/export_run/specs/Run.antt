@@ -1,11 +1,6 @@
 -- planner_question and planner_run: what they answer, and the bytes of every lent buffer afterwards.
-use mathlib.Core.List.{List}
-use Prim.Native.Nat.{ℕ, _+_, _*_}
-use lib.Dec.{eqb}
-use lib.ListN.{length}
-use Rattle.model.specs.Lists.{choose}
-use Rattle.model.specs.Sheet.{verdictOf}
-use Rattle.model.specs.Run.{Ending, finished, spent, full, Answer, refusal, answered, answerOf, listOf}
+use Rattle.model.specs.Kit.{List, ℕ, _+_, _*_, eqb, length}
+use Rattle.model.specs.{Lists.choose, Sheet.verdictOf, Run.Ending, Run.finished, Run.spent, Run.full, Run.Answer, Run.refusal, Run.answered, Run.answerOf, Run.listOf}
 use Rattle.wire.specs.Wire.{codeOf, wrongLength, threeNumbers}
 
 -- ---- planner_question

@@ -8,7 +8,7 @@ ghost use lib.ListN.{length};
 ghost use Rattle.run_state.specs.Meaning.{endingOf};
 ghost use Rattle.export_run.specs.Run.{endingBytes};
 ghost use Rattle.export_run.specs.Calls.{CallCode, CallExported};
-ghost use Rattle.export_run.specs.Inner.{Counted};
+ghost use Rattle.export_run.specs.inner.Inner.{Counted};
 
 // Puts the questions to a sheet: 0 where it is accepted, else the number of the first "no" times 256, plus its item.
 pub fn question(sheet: &[u8]) -> u32

@@ -1,14 +1,8 @@
 -- What `planner_small_sheet` answers, by what it called. Assumes nothing.
-use mathlib.Core.Path.{_≡_, sym, ap, _∙_}
-use mathlib.Core.Bool.{Bool, true, false}
-use mathlib.Core.List.{List}
-use Prim.Native.Nat.{ℕ}
-use lib.ListN.{length}
-use borrow.Author.Tests.{eq-eqb, ne-eqb}
+use Rattle.model.specs.Kit.{_≡_, sym, ap, _∙_, Bool, true, false, List, ℕ, length, eq-eqb, ne-eqb}
 use Rattle.model.specs.Room.{Outcome}
 use Rattle.sheet_small.specs.Answers.{smallOutcome, smallRoom}
-use Rattle.wire.specs.Wire.{wrongLength}
-use Rattle.wire.specs.Outcomes.{outcomeCode, outcomeAnswer}
+use Rattle.wire.specs.{Wire.wrongLength, Outcomes.outcomeCode, Outcomes.outcomeAnswer}
 use Rattle.export_small.specs.SmallSheets.{smallCode, smallOut, smallAnswer}
 
 module _ (k : ℕ) (out answer : List ℕ) where
@@ -28,7 +22,8 @@ module _ (k : ℕ) (out answer : List ℕ) where
   unfolding smallCode smallOut smallAnswer
   wrong-length h = let e = ne-eqb (length answer) 12 h in (sym (ap pickCode e), (sym (ap pickOut e), sym (ap pickAnswer e)))
 
-  pub answered : (o : Outcome) (r : ℕ) (after bytes : List ℕ) → length answer ≡ 12 → o ≡ smallOutcome k out → r ≡ outcomeCode o → after ≡ smallRoom k out → bytes ≡ outcomeAnswer o answer → Answered r after bytes
+  pub answered : (o : Outcome) (r : ℕ) (after bytes : List ℕ) → length answer ≡ 12 → o ≡ smallOutcome k out → r ≡ outcomeCode o → after ≡ smallRoom k out → bytes ≡ outcomeAnswer o answer
+      → Answered r after bytes
   unfolding smallCode smallOut smallAnswer
   answered o r after bytes h s c a b =
       let e = eq-eqb (length answer) 12 h in

@@ -1,13 +1,8 @@
 -- planner_small_sheet (paper 02, #114): what it answers, and the bytes of both lent buffers afterwards. Where the answer has not 12 bytes
 -- nothing is changed.
-use mathlib.Core.Bool.{true, false}
-use mathlib.Core.List.{List}
-use Prim.Native.Nat.{ℕ}
-use lib.Dec.{eqb}
-use lib.ListN.{length}
+use Rattle.model.specs.Kit.{true, false, List, ℕ, eqb, length}
 use Rattle.sheet_small.specs.Answers.{smallOutcome, smallRoom}
-use Rattle.wire.specs.Wire.{wrongLength}
-use Rattle.wire.specs.Outcomes.{outcomeCode, outcomeAnswer}
+use Rattle.wire.specs.{Wire.wrongLength, Outcomes.outcomeCode, Outcomes.outcomeAnswer}
 
 unfoldable pub smallCode : ℕ → List ℕ → List ℕ → ℕ
 smallCode k out answer = elim (eqb (length answer) 12) [ true ↦ outcomeCode (smallOutcome k out) | false ↦ wrongLength ]

@@ -1,20 +1,9 @@
 -- The store's exported calls: an outcome's numbers fit the code and the answer; answers of 12 bytes and of another length. Assumes nothing.
-use mathlib.Core.Path.{_≡_, sym, ap, _∙_}
-use mathlib.Core.Bool.{Bool, true, false}
-use mathlib.Core.List.{List}
-use Prim.Native.Nat.{ℕ, _+_, _≤_, min}
-use native.Mathlib.Omega.{arith}
-use lib.Dec.{leb, ltb, eqb}
-use lib.ListN.{length, drop, length-take}
-use borrow.Author.Tests.{eq-eqb, ne-eqb}
-use Rattle.model.specs.Lists.{both, either, choose}
-use Rattle.model.specs.Verdict.{Verdict, accepted, refused, ask}
-use Rattle.model.specs.Sheet.{«word»}
-use Rattle.model.specs.Room.{Outcome, outcomeOf}
+use Rattle.model.specs.Kit.{_≡_, sym, ap, _∙_, Bool, true, false, List, ℕ, _+_, _≤_, min, arith, leb, ltb, eqb, length, drop, length-take, eq-eqb, ne-eqb}
+use Rattle.model.specs.{Lists.both, Lists.either, Lists.choose, Verdict.Verdict, Verdict.accepted, Verdict.refused, Verdict.ask, Sheet.«word», Room.Outcome, Room.outcomeOf}
 use Rattle.store.specs.Store.{none, table, isTable, tableIn, Entries, keysOf, Action, put, fetch, remove, Call, call, actionVerdict, callVerdict, written}
 use Rattle.store.specs.Layout.{size, slotAt, slotWith, tableAt, storeOf, verdictOn, replyOn, bytesAfter}
-use Rattle.wire.specs.Wire.{wrongLength}
-use Rattle.wire.specs.Outcomes.{outcomeCode, outcomeAnswer}
+use Rattle.wire.specs.{Wire.wrongLength, Outcomes.outcomeCode, Outcomes.outcomeAnswer}
 use Rattle.wire.proofs.Codes.{Small, ask-small}
 use Rattle.export_store.specs.Stored.{storedCode, storedAnswer, storedBytes, storedRoom, Holds}
 

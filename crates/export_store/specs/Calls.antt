@@ -1,7 +1,5 @@
 -- Calls about the store: what each was lent, the code that comes back, and every lent buffer at the end. Each is the function's contract, that of `planner_..` too.
-use mathlib.Core.Path.{_≡_}
-use mathlib.Core.List.{List}
-use Prim.Native.Nat.{ℕ}
+use Rattle.model.specs.Kit.{_≡_, List, ℕ}
 use Rattle.store.specs.Store.{call, put, fetch, remove}
 use Rattle.export_store.specs.Stored.{storedCode, storedAnswer, storedBytes, storedRoom}
 

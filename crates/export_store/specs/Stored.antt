@@ -1,15 +1,9 @@
 -- planner_store_put, planner_store_fetch and planner_store_drop (paper 02, #110): what a call on the bytes b returns, and the bytes of every lent
 -- buffer afterwards. Where the answer has not 12 bytes nothing is changed.
-use mathlib.Core.List.{List}
-use Prim.Native.Nat.{ℕ, _^_, _<_}
-use lib.Dec.{eqb}
-use lib.ListN.{length}
-use Rattle.model.specs.Lists.{choose}
-use Rattle.model.specs.Room.{Outcome, answered, refusal}
-use Rattle.store.specs.Store.{Call, call, fetch}
-use Rattle.store.specs.Layout.{replyOn, bytesAfter}
-use Rattle.wire.specs.Wire.{wrongLength}
-use Rattle.wire.specs.Outcomes.{outcomeCode, outcomeAnswer}
+use Rattle.model.specs.Kit.{List, ℕ, _^_, _<_, eqb, length}
+use Rattle.model.specs.{Lists.choose, Room.Outcome, Room.answered, Room.refusal}
+use Rattle.store.specs.{Store.Call, Store.call, Store.fetch, Layout.replyOn, Layout.bytesAfter}
+use Rattle.wire.specs.{Wire.wrongLength, Outcomes.outcomeCode, Outcomes.outcomeAnswer}
 
 unfoldable pub storedCode : List ℕ → Call → List ℕ → ℕ
 storedCode b x answer = choose (eqb (length answer) 12) (outcomeCode (replyOn b x .outcome)) wrongLength

@@ -1,22 +1,11 @@
 -- Chains of keys: one solution more is linked, and a solution is found along its chain. Assumes nothing.
-use mathlib.Core.Path.{_≡_, sym, ap, _∙_, subst}
-use mathlib.Core.List.{List}
-use Prim.Native.Nat.{ℕ, _+_, _-_, _*_, _/_, _%_, _≤_, _<_}
-use native.Mathlib.Decide.{ℕ-discrete, decLt}
-use native.Mathlib.Omega.{arith}
-use lib.Dec.{T}
-use lib.ListN.{length, set, replicate, length-replicate}
-use Rattle.model.specs.Lists.{at}
-use Rattle.model.specs.Problem.{Problem, isSolution}
-use Rattle.model.proofs.Lists.{set-each, at-replicate, at-ext}
-use Rattle.model.proofs.Tree.{solution-e}
+use Rattle.model.specs.Kit.{_≡_, sym, ap, _∙_, subst, List, ℕ, _+_, _-_, _*_, _/_, _%_, _≤_, _<_, ℕ-discrete, decLt, arith, T, length, set, replicate, length-replicate}
+use Rattle.model.specs.{Lists.at, Problem.Problem, Problem.isSolution}
+use Rattle.model.proofs.{Lists.set-each, Lists.at-replicate, Lists.at-ext, Tree.solution-e}
+use Rattle.families.specs.{Families.solutionsOf, inner.Walk.solutionAt, inner.Numbered.keyOf, inner.Numbered.keyAt, inner.Numbered.Last, inner.Numbered.Chained}
+use Rattle.families.specs.inner.Numbered.{Unlinked, Listed, Finding}
+use Rattle.families.proofs.{Numbers.at-solution, Numbers.number-of, Keys.Digits, Keys.key-same, Rows.listed-key}
 use Rattle.model.proofs.Pairs as P
-use Rattle.families.specs.Families.{solutionsOf}
-use Rattle.families.specs.Walk.{solutionAt}
-use Rattle.families.specs.Numbered.{keyOf, keyAt, Last, Chained, Unlinked, Listed, Finding}
-use Rattle.families.proofs.Numbers.{at-solution, number-of}
-use Rattle.families.proofs.Keys.{Digits, key-same}
-use Rattle.families.proofs.Rows.{listed-key}
 
 -- ---- the chains are made
 pub unlinked-begin : Unlinked (replicate 1021 0)

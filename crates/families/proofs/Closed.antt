@@ -1,23 +1,15 @@
 -- Closed symmetries: what is joined is joined by one of them, so the leaders are the earliest of their families (specs/Families). Assumes nothing.
-use mathlib.Core.Path.{_≡_, refl, sym, ap, _∙_, subst}
-use mathlib.Core.Logic.{_⊎_, inl, inr, ⊎-elim}
-use mathlib.Core.List.{List, map, List·Memᴰ, Memᴰ·cast, Memᴰ·map, Memᴰ·of-map}
-use Prim.Native.Nat.{ℕ, _*_, _<_}
-use lib.Dec.{T, eqb, eqb→eq}
-use lib.ListN.{length}
-use borrow.Author.Tests.{eq-eqb}
-use Rattle.model.specs.Lists.{both, below, at, earlier}
-use Rattle.model.specs.Problem.{Problem, pair, pairsOf, within, takes, isSolution, assignments}
-use Rattle.model.specs.Claims.{Leader, isLeader, leaders}
+use Rattle.model.specs.Kit.{_≡_, refl, sym, ap, _∙_, subst, _⊎_, inl, inr, ⊎-elim, List, map, List·Memᴰ, Memᴰ·cast, Memᴰ·map, Memᴰ·of-map, ℕ, _*_, _<_, T, eqb, eqb→eq, length}
+use Rattle.model.specs.Kit.{eq-eqb}
+use Rattle.model.specs.{Lists.both, Lists.below, Lists.at, Lists.earlier, Problem.Problem, Problem.pair, Problem.pairsOf, Problem.within, Problem.takes, Problem.isSolution}
+use Rattle.model.specs.{Problem.assignments, Claims.Leader, Claims.isLeader, Claims.leaders, WellFormed.WellFormed, WellFormed.Respected}
 use Rattle.families.specs.Families.{Joined, alone, further, solutionsOf, isEarliest, earliestOf, familiesOf, Makes, MovesNothing, Closed, makes, movesNothing, OneLeaderEach}
 use Rattle.families.specs.FamilyClaims.{One-leader-each}
-use Rattle.model.specs.WellFormed.{WellFormed, Respected}
 use Rattle.model.proofs.Lists.{earlier-asym, T-of, T-ext, both-i, both-l, both-r, all-i, all-e, keep-ext, below-i, below-e, at-ext}
-use Rattle.model.proofs.Tree.{solution-e}
-use Rattle.model.proofs.Leaders.{takes-in, takes-on, leader-i, leader-e}
+use Rattle.model.proofs.{Tree.solution-e, Leaders.takes-in, Leaders.takes-on, Leaders.leader-i, Leaders.leader-e}
+use Rattle.families.proofs.{Joined.joined-from, Joined.joined-to, Joined.joined-one, Joined.joined-trans, Joined.joined-sym, FamilyCount.row-order, FamilyCount.keep-keep}
+use Rattle.families.proofs.FamilyCount.{earliest-i, earliest-e, earliest-of}
 use Rattle.model.proofs.Pairs as P
-use Rattle.families.proofs.Joined.{joined-from, joined-to, joined-one, joined-trans, joined-sym}
-use Rattle.families.proofs.FamilyCount.{row-order, keep-keep, earliest-i, earliest-e, earliest-of}
 
 -- ---- the tests of two symmetries
 module _ (p : Problem) where
@@ -40,7 +32,8 @@ module _ (p : Problem) where
   unfolding movesNothing
   nothing-e f g t q l = eqb→eq (at g (at f q)) q (all-e (λ q. eqb (at g (at f q)) q) (below size) t q (below-i size q l))
 
-  pub takes-i : (g t s : List ℕ) → ((q : ℕ) → List·Memᴰ q (pairsOf p t) → List·Memᴰ (at g q) (pairsOf p s)) → ((q : ℕ) → List·Memᴰ q (pairsOf p s) → (r : ℕ) × List·Memᴰ r (pairsOf p t) × (at g r ≡ q)) → T (takes p g t s)
+  pub takes-i : (g t s : List ℕ) → ((q : ℕ) → List·Memᴰ q (pairsOf p t) → List·Memᴰ (at g q) (pairsOf p s)) →
+      ((q : ℕ) → List·Memᴰ q (pairsOf p s) → (r : ℕ) × List·Memᴰ r (pairsOf p t) × (at g r ≡ q)) → T (takes p g t s)
   unfolding takes
   takes-i g t s i o =
       both-i (within (map (at g) (pairsOf p t)) (pairsOf p s)) (within (pairsOf p s) (map (at g) (pairsOf p t)))
@@ -107,7 +100,8 @@ module _ (p : Problem) where
       -- the leaders are the earliest of the families
       pub leaders-earliest : leaders p ≡ earliestOf p
       unfolding earliestOf solutionsOf
-      leaders-earliest = keep-ext (isLeader earlier p) (λ s. both (isSolution p s) (isEarliest p s)) (assignments (p .initial)) (λ s m. leader-test s) ∙ sym (keep-keep (isSolution p) (isEarliest p) (assignments (p .initial)))
+      leaders-earliest = keep-ext (isLeader earlier p) (λ s. both (isSolution p s) (isEarliest p s)) (assignments (p .initial)) (λ s m. leader-test s) ∙ sym
+          (keep-keep (isSolution p) (isEarliest p) (assignments (p .initial)))
 
       pub one-of-each : OneLeaderEach p
       unfolding familiesOf

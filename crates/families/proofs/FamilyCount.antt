@@ -1,22 +1,13 @@
 -- The family of a solution holds exactly those joined to it, and the number of families is that of any list with one solution of each
 -- (specs/Families). Assumes nothing.
-use mathlib.Core.Path.{_≡_, refl, sym, ap, ap₂, _∙_, subst}
-use mathlib.Core.Bool.{Bool, true, false}
-use mathlib.Core.Logic.{_⊎_, inl, inr, ⊎-elim}
-use mathlib.Core.List.{List, [], _∷_, List·Memᴰ, List·Memᴰ·head, List·Memᴰ·tail, List·Memᴰ·not-nil, List·Memᴰ·cases-cons}
-use Prim.Native.Nat.{ℕ, zero, suc, _≤_, _<_}
-use native.Mathlib.Decide.{ℕ-discrete, decLt}
-use native.Mathlib.Omega.{arith}
-use lib.Dec.{T, T-not, not-T}
-use lib.ListN.{length}
-use Rattle.model.specs.Lists.{both, either, any, keep, same, earlier}
-use Rattle.model.specs.Problem.{Problem, isSolution, assignments, takes}
+use Rattle.model.specs.Kit.{_≡_, refl, sym, ap, ap₂, _∙_, subst, Bool, true, false, _⊎_, inl, inr, ⊎-elim, List, [], _∷_, List·Memᴰ, List·Memᴰ·head, List·Memᴰ·tail}
+use Rattle.model.specs.Kit.{List·Memᴰ·not-nil, List·Memᴰ·cases-cons, ℕ, zero, suc, _≤_, _<_, ℕ-discrete, decLt, arith, T, T-not, not-T, length}
+use Rattle.model.specs.{Lists.both, Lists.either, Lists.any, Lists.keep, Lists.same, Lists.earlier, Problem.Problem, Problem.isSolution, Problem.assignments, Problem.takes}
+use Rattle.model.specs.WellFormed.{WellFormed, Respected}
 use Rattle.families.specs.Families.{Joined, alone, further, solutionsOf, widened, reachedIn, familyOf, isEarliest, earliestOf, familiesOf, Apart, OneOfEach, FamilyCount}
 use Rattle.families.specs.FamilyClaims.{Families-counted}
-use Rattle.model.specs.WellFormed.{WellFormed, Respected}
-use Rattle.model.proofs.Lists.{earlier-asym, T-of, of-not, either-l, either-r, either-e, any-i, any-e, keep-yes, keep-no, keep-i, keep-e, same-eq, same-refl, earlier-lt, earlier-eq, Sorted, sorted-keep}
-use Rattle.model.proofs.Assignments.{assignments-sorted}
-use Rattle.model.proofs.Leaders.{sol-drawn}
+use Rattle.model.proofs.Lists.{earlier-asym, T-of, of-not, either-l, either-r, either-e, any-i, any-e, keep-yes, keep-no, keep-i, keep-e, same-eq, same-refl, earlier-lt}
+use Rattle.model.proofs.{Lists.earlier-eq, Lists.Sorted, Lists.sorted-keep, Assignments.assignments-sorted, Leaders.sol-drawn}
 use Rattle.families.proofs.Joined.{joined-to, joined-trans, joined-sym}
 
 -- ---- rows and lists of rows
@@ -86,8 +77,12 @@ module _ {A : Type 0} where
   one-fewer x [] m = absurd (List·Memᴰ·not-nil m)
   one-fewer x (y ∷ ys) (List·Memᴰ·head e) = (ys, refl, λ z k. ⊎-elim {C = (z ≡ x) ⊎ List·Memᴰ z ys} (λ q. inl (q ∙ sym e)) (λ j. inr j) (List·Memᴰ·cases-cons k))
   one-fewer x (y ∷ ys) (List·Memᴰ·tail m) =
-      let r = one-fewer x ys m in
-      (y ∷ r .0, ap suc (r .1), λ z k. ⊎-elim {C = (z ≡ x) ⊎ List·Memᴰ z (y ∷ r .0)} (λ q. inr (List·Memᴰ·head q)) (λ j. ⊎-elim {C = (z ≡ x) ⊎ List·Memᴰ z (y ∷ r .0)} (λ q. inl q) (λ i. inr (List·Memᴰ·tail i)) (r .2 z j)) (List·Memᴰ·cases-cons k))
+      let r = one-fewer x ys m in (
+        y ∷ r .0,
+        ap suc (r .1),
+        λ z k. ⊎-elim {C = (z ≡ x) ⊎ List·Memᴰ z (y ∷ r .0)} (λ q. inr (List·Memᴰ·head q))
+            (λ j. ⊎-elim {C = (z ≡ x) ⊎ List·Memᴰ z (y ∷ r .0)} (λ q. inl q) (λ i. inr (List·Memᴰ·tail i)) (r .2 z j)) (List·Memᴰ·cases-cons k),
+      )
 
   pub member-length : (l : List A) (x : A) → List·Memᴰ x l → 0 < length l
   member-length [] x m = absurd (List·Memᴰ·not-nil m)
@@ -203,7 +198,9 @@ module _ (p : Problem) (w : WellFormed p) (respected : Respected p) where
 
     -- so the family is closed under symmetries
     last : R (length (solutionsOf p)) ≡ R (suc (length (solutionsOf p)))
-    last = ⊎-elim {C = R (length (solutionsOf p)) ≡ R (suc (length (solutionsOf p)))} (λ e. e) (λ h. absurd (let q = reached-test (length sols) in let l = keep-length (q .0) sols in let e : length (R (length sols)) ≡ length (keep (q .0) sols) = ap length (q .1) in omega arith)) (stays (length (solutionsOf p)))
+    last = ⊎-elim {C = R (length (solutionsOf p)) ≡ R (suc (length (solutionsOf p)))} (λ e. e)
+        (λ h. absurd (let q = reached-test (length sols) in let l = keep-length (q .0) sols in let e : length (R (length sols)) ≡ length (keep (q .0) sols) = ap length (q .1) in omega arith))
+        (stays (length (solutionsOf p)))
 
     arrives : (s : List ℕ) → Joined p a s → List·Memᴰ s (R (length (solutionsOf p)))
     unfolding reachedIn

@@ -1,16 +1,15 @@
 -- The families of paper 01's examples, by computation. Assumes nothing.
-use mathlib.Core.Path.{_≡_, refl}
-use Prim.Native.Nat.{ℕ}
-use Rattle.model.specs.Lists.{all, any, keep, flat, tabulate, upFrom, below, at, same, earlier}
-use Rattle.model.specs.ValueSets.{has, members, least}
-use Rattle.model.specs.Problem.{valuesAt, satisfies, isSolution, assignments, pair, pairsOf, within, takes}
-use Rattle.model.specs.Sheet.{word, words, headerOf, scopeAt, rowsAt, afterAt, constraintsFrom, tableAt, problemOf}
-use Rattle.model.specs.Examples.{sheetA, sheetA0, sheetR}
+use Rattle.model.specs.Kit.{_≡_, refl, ℕ}
+use Rattle.model.specs.{Lists.all, Lists.any, Lists.keep, Lists.flat, Lists.tabulate, Lists.upFrom, Lists.below, Lists.at, Lists.same, Lists.earlier, ValueSets.has}
+use Rattle.model.specs.{ValueSets.members, ValueSets.least, Problem.valuesAt, Problem.satisfies, Problem.isSolution, Problem.assignments, Problem.pair, Problem.pairsOf}
+use Rattle.model.specs.{Problem.within, Problem.takes, Sheet.word, Sheet.words, Sheet.headerOf, Sheet.scopeAt, Sheet.rowsAt, Sheet.afterAt, Sheet.constraintsFrom, Sheet.tableAt}
+use Rattle.model.specs.{Sheet.problemOf, Examples.sheetA, Examples.sheetA0, Examples.sheetR}
 use Rattle.families.specs.Families.{solutionsOf, widened, reachedIn, familyOf, isEarliest, earliestOf, familiesOf}
-use Rattle.families.specs.Walk.{solutionAt, imageAt}
+use Rattle.families.specs.inner.Walk.{solutionAt, imageAt}
 
 opened : ℕ
-unfolding all any keep flat tabulate upFrom below at same earlier has members least valuesAt satisfies isSolution assignments pair pairsOf within takes word words headerOf scopeAt rowsAt afterAt constraintsFrom tableAt problemOf solutionsOf widened reachedIn familyOf isEarliest earliestOf familiesOf solutionAt imageAt
+unfolding all any keep flat tabulate upFrom below at same earlier has members least valuesAt satisfies isSolution assignments pair pairsOf within takes word words headerOf scopeAt rowsAt afterAt
+    constraintsFrom tableAt problemOf solutionsOf widened reachedIn familyOf isEarliest earliestOf familiesOf solutionAt imageAt
 opened = 0
 
 -- A: 3 families; without its symmetry each of its 6 solutions is one

@@ -1,25 +1,13 @@
 -- Families and other symmetries: more symmetries never make more families, those that join nothing new don't matter, nor does their order, and
 -- without any each solution is a family. Assumes nothing.
-use mathlib.Core.Path.{_≡_, refl, sym, ap, _∙_, subst}
-use mathlib.Core.Bool.{not}
-use mathlib.Core.List.{List, [], List·Memᴰ, List·Memᴰ·not-nil}
-use Prim.Native.Nat.{ℕ, _≤_}
-use native.Mathlib.Omega.{arith}
-use lib.Dec.{T}
-use lib.ListN.{length}
-use Rattle.model.specs.Lists.{both, any, keep, earlier}
-use Rattle.model.specs.Problem.{Problem, pair, isPair, pairsOf, takes, isSolution, assignments, withSymmetries}
-use Rattle.model.specs.Verdict.{isAccepted, accepted, Verdict}
-use Rattle.model.specs.Sheet.{problemOf, verdictOf, permutesPairs}
-use Rattle.model.specs.Claims.{isLeader, leaders, OneMore}
+use Rattle.model.specs.Kit.{_≡_, refl, sym, ap, _∙_, subst, not, List, [], List·Memᴰ, List·Memᴰ·not-nil, ℕ, _≤_, arith, T, length}
+use Rattle.model.specs.{Lists.both, Lists.any, Lists.keep, Lists.earlier, Problem.Problem, Problem.pair, Problem.isPair, Problem.pairsOf, Problem.takes, Problem.isSolution}
+use Rattle.model.specs.{Problem.assignments, Problem.withSymmetries, Verdict.isAccepted, Verdict.accepted, Verdict.Verdict, Sheet.problemOf, Sheet.verdictOf, Sheet.permutesPairs}
+use Rattle.model.specs.{Claims.isLeader, Claims.leaders, Claims.OneMore, WellFormed.WellFormed, WellFormed.Respected, WellFormed.GoodSymmetry}
 use Rattle.families.specs.Families.{Joined, alone, further, solutionsOf, isEarliest, earliestOf, familiesOf}
-use Rattle.model.specs.WellFormed.{WellFormed, Respected, GoodSymmetry}
-use Rattle.model.proofs.Lists.{earlier-asym, keep-all, keep-ext}
-use Rattle.model.proofs.Members.{both-yes}
-use Rattle.model.proofs.OneMore.{one-more}
-use Rattle.model.proofs.Demands.{of-accepted}
-use Rattle.families.proofs.Joined.{joined-to, joined-trans, joined-one}
-use Rattle.families.proofs.FamilyCount.{in-solution, earliest-i, earliest-e, keep-fewer}
+use Rattle.model.proofs.{Lists.earlier-asym, Lists.keep-all, Lists.keep-ext, Lists.both-true, OneMore.one-more, Demands.of-accepted}
+use Rattle.families.proofs.{Joined.joined-to, Joined.joined-trans, Joined.joined-one, FamilyCount.in-solution, FamilyCount.earliest-i, FamilyCount.earliest-e}
+use Rattle.families.proofs.FamilyCount.{keep-fewer}
 
 module _ (p : Problem) (gs : List (List ℕ)) where
   abbrev q : Problem
@@ -95,7 +83,8 @@ families-generated p gs w respected v rq h k =
     omega arith
 
 -- nor does another order of them, or repeats
-pub families-same : (p : Problem) (gs : List (List ℕ)) → WellFormed p → Respected p → Respected (withSymmetries p gs) → ((g : List ℕ) → List·Memᴰ g (p .symmetries) → List·Memᴰ g gs) → ((g : List ℕ) → List·Memᴰ g gs → List·Memᴰ g (p .symmetries)) →
+pub families-same : (p : Problem) (gs : List (List ℕ)) → WellFormed p → Respected p → Respected (withSymmetries p gs) → ((g : List ℕ) → List·Memᴰ g (p .symmetries) → List·Memᴰ g gs) →
+    ((g : List ℕ) → List·Memᴰ g gs → List·Memᴰ g (p .symmetries)) →
     familiesOf (withSymmetries p gs) ≡ familiesOf p
 families-same p gs w respected rq h k = families-generated p gs w respected (well-formed-with p gs w (λ g m. w .symmetric g (k g m))) rq h (λ g a b m sa t sb. joined-one p a b g sa (k g m) t sb)
 
@@ -103,7 +92,8 @@ families-same p gs w respected rq h k = families-generated p gs w respected (wel
 pub families-none : (p : Problem) → WellFormed p → Respected p → p .symmetries ≡ [] → familiesOf p ≡ length (solutionsOf p)
 unfolding familiesOf earliestOf
 families-none p w respected e =
-    ap length (keep-all (isEarliest p) (solutionsOf p) (λ s m. earliest-i p w respected s (in-solution p w respected s m) (λ t j b. let z : T (earlier s s) = subst (λ (u : List ℕ). T (earlier u s)) (sym (only s t j)) b in earlier-asym s s z z)))
+    ap length (keep-all (isEarliest p) (solutionsOf p) (λ s m. earliest-i p w respected s (in-solution p w respected s m)
+    (λ t j b. let z : T (earlier s s) = subst (λ (u : List ℕ). T (earlier u s)) (sym (only s t j)) b in earlier-asym s s z z)))
   where
     only : (s t : List ℕ) → Joined p s t → s ≡ t
     only s t (alone h) = refl
@@ -112,7 +102,9 @@ families-none p w respected e =
 -- and a finished run without them lists all solutions
 pub leaders-none : (p : Problem) → p .symmetries ≡ [] → leaders p ≡ solutionsOf p
 unfolding solutionsOf any
-leaders-none p e = keep-ext (isLeader earlier p) (isSolution p) (assignments (p .initial)) (λ s m. ap (λ (gs : List (List ℕ)). both (isSolution p s) (not (any (λ g. any (λ t. both (isSolution p t) (both (earlier t s) (takes p g t s))) (assignments (p .initial))) gs))) e ∙ both-yes (isSolution p s))
+leaders-none p e = keep-ext (isLeader earlier p) (isSolution p) (assignments (p .initial))
+    (λ s m. ap (λ (gs : List (List ℕ)). both (isSolution p s) (not (any (λ g. any (λ t. both (isSolution p t) (both (earlier t s) (takes p g t s))) (assignments (p .initial))) gs))) e ∙ both-true
+    (isSolution p s))
 
 pub leaders-without : (p : Problem) → leaders (withSymmetries p []) ≡ solutionsOf p
 leaders-without p = leaders-none (withSymmetries p []) refl ∙ solutions-same p []
@@ -121,4 +113,5 @@ leaders-without p = leaders-none (withSymmetries p []) refl ∙ solutions-same p
 pub one-more-families : (b c t : List ℕ) (k : ℕ) → OneMore b c k t → verdictOf b ≡ accepted → verdictOf c ≡ accepted → familiesOf (problemOf c) ≤ familiesOf (problemOf b)
 one-more-families b c t k more ab ac =
     let r = one-more b c t k more (subst (λ (v : Verdict). T (isAccepted v)) (sym ab) tt) in
-    subst (λ (q : Problem). familiesOf q ≤ familiesOf (problemOf b)) (sym (r .2)) (families-more (problemOf b) (r .0) (of-accepted b ab .well) (of-accepted b ab .respected) (subst WellFormed (r .2) (of-accepted c ac .well)) (subst Respected (r .2) (of-accepted c ac .respected)) (r .1))
+    subst (λ (q : Problem). familiesOf q ≤ familiesOf (problemOf b)) (sym (r .2)) (families-more (problemOf b) (r .0) (of-accepted b ab .well) (of-accepted b ab .respected)
+    (subst WellFormed (r .2) (of-accepted c ac .well)) (subst Respected (r .2) (of-accepted c ac .respected)) (r .1))

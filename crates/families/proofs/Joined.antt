@@ -1,11 +1,7 @@
 -- Joined solutions: none is apart from itself, one can go back and on. Assumes nothing.
-use mathlib.Core.List.{List, List·Memᴰ}
-use Prim.Native.Nat.{ℕ}
-use lib.Dec.{T}
-use Rattle.model.specs.Problem.{Problem, isSolution, takes}
-use Rattle.families.specs.Families.{Joined, alone, further}
-use Rattle.families.specs.FamilyClaims.{Joined-equivalence}
-use Rattle.model.specs.WellFormed.{WellFormed, Respected}
+use Rattle.model.specs.Kit.{List, List·Memᴰ, ℕ, T}
+use Rattle.model.specs.{Problem.Problem, Problem.isSolution, Problem.takes, WellFormed.WellFormed, WellFormed.Respected}
+use Rattle.families.specs.{Families.Joined, Families.alone, Families.further, FamilyClaims.Joined-equivalence}
 use Rattle.model.proofs.Image as I
 
 module _ (p : Problem) where

@@ -1,25 +1,13 @@
 -- Families in an order: what is joined in a problem is joined in the reordered problem; closed symmetries leave one leader of each family in
 -- any order. Assumes nothing.
-use mathlib.Core.Path.{_≡_, refl, sym, _∙_, subst, subst₂}
-use mathlib.Core.Logic.{⊎-elim}
-use mathlib.Core.List.{List, [], _∷_, map, List·Memᴰ, List·Memᴰ·head, List·Memᴰ·tail, Memᴰ·map, Memᴰ·of-map}
-use Prim.Native.Nat.{ℕ}
-use lib.Dec.{T}
-use lib.ListN.{length-map}
-use Rattle.model.specs.Lists.{earlier}
-use Rattle.model.specs.Problem.{Problem, isSolution, assignments, takes}
-use Rattle.model.specs.Claims.{Leader, isLeader}
-use Rattle.order.specs.Order.{Ordering}
-use Rattle.order.specs.Reordered.{read, write, earlierBy, symmetryIn, reordered}
-use Rattle.order.specs.RunBy.{leadersBy}
+use Rattle.model.specs.Kit.{_≡_, refl, sym, _∙_, subst, subst₂, ⊎-elim, List, [], _∷_, map, List·Memᴰ, List·Memᴰ·head, List·Memᴰ·tail, Memᴰ·map, Memᴰ·of-map, ℕ, T, length-map}
+use Rattle.model.specs.{Lists.earlier, Problem.Problem, Problem.isSolution, Problem.assignments, Problem.takes, Claims.Leader, Claims.isLeader, WellFormed.WellFormed}
+use Rattle.model.specs.WellFormed.{Respected}
+use Rattle.order.specs.{Order.Ordering, Reordered.read, Reordered.write, Reordered.earlierBy, Reordered.symmetryIn, Reordered.reordered, RunBy.leadersBy}
 use Rattle.families.specs.Families.{Joined, alone, further, OneOfEach, Apart, familiesOf, earliestOf, Closed}
-use Rattle.model.specs.WellFormed.{WellFormed, Respected}
-use Rattle.model.proofs.Lists.{earlier-asym, Sorted, sorted-keep}
-use Rattle.model.proofs.Assignments.{assignments-sorted, assign-e}
-use Rattle.model.proofs.Tree.{solution-e}
-use Rattle.families.proofs.Joined.{joined-to, joined-one, joined-trans, joined-sym}
-use Rattle.families.proofs.FamilyCount.{row-order, earliest-e, earliest-of, earliest-each, as-many-families, sorted-weaker}
-use Rattle.families.proofs.Closed.{one-step}
+use Rattle.model.proofs.{Lists.earlier-asym, Lists.Sorted, Lists.sorted-keep, Assignments.assignments-sorted, Assignments.assign-e, Tree.solution-e}
+use Rattle.families.proofs.{Joined.joined-to, Joined.joined-one, Joined.joined-trans, Joined.joined-sym, FamilyCount.row-order, FamilyCount.earliest-e}
+use Rattle.families.proofs.{FamilyCount.earliest-of, FamilyCount.earliest-each, FamilyCount.as-many-families, FamilyCount.sorted-weaker, Closed.one-step}
 use Rattle.order.proofs.RunBy.{leadersBy-hold}
 use Rattle.order.proofs.Reordered as R
 use Rattle.order.proofs.LeadersBy as L
@@ -54,7 +42,8 @@ module _ (p : Problem) (w : WellFormed p) (respected : Respected p) (order : Lis
   pub joined-read : (a b : List ℕ) → Joined p a b → Joined (reordered order p) (read order a) (read order b)
   joined-read a b (alone s) = alone (L.to p order o w a s)
   joined-read a b (further c e g j m t s) =
-      further (read order c) (read order e) (symmetryIn order p g) (joined-read a c j) (Memᴰ·map (symmetryIn order p) m) (subst T (L.took p order o w g c e m (joined-to p a c j) s) t) (L.to p order o w e s)
+      further (read order c) (read order e) (symmetryIn order p g) (joined-read a c j) (Memᴰ·map (symmetryIn order p) m) (subst T (L.took p order o w g c e m (joined-to p a c j) s) t)
+      (L.to p order o w e s)
 
   pub joined-write : (a b : List ℕ) → Joined (reordered order p) a b → Joined p (write order a) (write order b)
   joined-write a b (alone s) = alone (L.fro p order o w a s)
@@ -63,7 +52,8 @@ module _ (p : Problem) (w : WellFormed p) (respected : Respected p) (order : Lis
       let sc = joined-to p2 a c j in
       further (write order c) (write order e) (r .0) (joined-write a c j) (r .1)
       (subst T (sym (L.took p order o w (r .0) (write order c) (write order e) (r .1) (L.fro p order o w c sc) (L.fro p order o w e s)))
-      (subst₂ (λ (y z : List ℕ). T (takes p2 (symmetryIn order p (r .0)) y z)) (sym (L.again p order o w c sc)) (sym (L.again p order o w e s)) (subst (λ (k : List ℕ). T (takes p2 k c e)) (sym (r .2)) t)))
+      (subst₂ (λ (y z : List ℕ). T (takes p2 (symmetryIn order p (r .0)) y z)) (sym (L.again p order o w c sc)) (sym (L.again p order o w e s))
+      (subst (λ (k : List ℕ). T (takes p2 k c e)) (sym (r .2)) t)))
       (L.fro p order o w e s)
 
   back : (s : List ℕ) → T (isSolution p s) → write order (read order s) ≡ s
@@ -76,13 +66,19 @@ module _ (p : Problem) (w : WellFormed p) (respected : Respected p) (order : Lis
     apart = apart-of p (map (write order) l) (sorted-map (λ a b. Joined p2 a b → ⊥) (λ a b. Joined p a b → ⊥) (write order) l
         (λ a b i j h q. h (subst₂ (Joined p2) (L.again p order o w a (k .solve a i)) (L.again p order o w b (k .solve b j)) (joined-read (write order a) (write order b) q)))
         (sorted-of p2 l (k .apart)));
-    every = λ s t. (let r = k .every (read order s) (L.to p order o w s t) in (write order (r .0), Memᴰ·map (write order) (r .1), subst (Joined p (write order (r .0))) (back s t) (joined-write (r .0) (read order s) (r .2))));
+    every = λ s t. (let r = k .every (read order s) (L.to p order o w s t) in (
+      write order (r .0),
+      Memᴰ·map (write order) (r .1),
+      subst (Joined p (write order (r .0))) (back s t)
+          (joined-write (r .0) (read order s) (r .2)),
+    ));
   }
 
   -- as many families, in whatever order
   pub families-reordered : familiesOf (reordered order p) ≡ familiesOf p
   unfolding familiesOf
-  families-reordered = sym (length-map (earliestOf p2) (write order)) ∙ as-many-families p w respected (map (write order) (earliestOf p2)) (earliestOf p) (each-write (earliestOf p2) (earliest-each p2 v2 r2)) (earliest-each p w respected)
+  families-reordered = sym (length-map (earliestOf p2) (write order)) ∙ as-many-families p w respected (map (write order) (earliestOf p2)) (earliestOf p)
+      (each-write (earliestOf p2) (earliest-each p2 v2 r2)) (earliest-each p w respected)
 
   -- every family has one that reads earliest in the order
   pub earliest-by : (s : List ℕ) → T (isSolution p s) → (h : List ℕ) × T (isSolution p h) × ((t : List ℕ) → Joined p h t → T (earlierBy order t h) → ⊥) × Joined p h s
@@ -91,7 +87,8 @@ module _ (p : Problem) (w : WellFormed p) (respected : Respected p) (order : Lis
       let e = L.again p order o w (r .0) (r .1) in (
         write order (r .0),
         L.fro p order o w (r .0) (r .1),
-        λ u j k. earliest-e p2 v2 r2 (r .0) (r .1) (r .2) (read order u) (subst (λ (z : List ℕ). Joined p2 z (read order u)) e (joined-read (write order (r .0)) u j)) (subst (λ (z : List ℕ). T (earlier (read order u) z)) e k),
+        λ u j k. earliest-e p2 v2 r2 (r .0) (r .1) (r .2) (read order u) (subst (λ (z : List ℕ). Joined p2 z (read order u)) e (joined-read (write order (r .0)) u j))
+            (subst (λ (z : List ℕ). T (earlier (read order u) z)) e k),
         subst (Joined p (write order (r .0))) (back s t) (joined-write (r .0) (read order s) (r .3)),
       )
 
@@ -103,7 +100,8 @@ module _ (p : Problem) (w : WellFormed p) (respected : Respected p) (order : Lis
   module _ (closed : Closed p) where
     pub leader-earliest-by : (s : List ℕ) → Leader (earlierBy order) p s → (t : List ℕ) → Joined p s t → T (earlierBy order t s) → ⊥
     leader-earliest-by s l t j e =
-        ⊎-elim {C = ⊥} (λ q. let z : T (earlier (read order s) (read order s)) = subst (λ (u : List ℕ). T (earlier (read order u) (read order s))) q e in earlier-asym (read order s) (read order s) z z)
+        ⊎-elim {C = ⊥} (λ q. let z : T (earlier (read order s) (read order s)) = subst (λ (u : List ℕ). T (earlier (read order u) (read order s))) q e in earlier-asym (read order s)
+        (read order s) z z)
         (λ r. l .unbeaten (r .0) t (r .1) (joined-to p s t j) e (r .2)) (one-step p w respected closed t s (joined-sym p w respected s t j))
 
     -- two leaders of one family are one
@@ -123,7 +121,8 @@ module _ (p : Problem) (w : WellFormed p) (respected : Respected p) (order : Lis
     leaders-sorted : Sorted (λ a b. T (earlierBy order a b)) (leadersBy order p)
     leaders-sorted =
         let drawn = assignments (read order (p .initial)) in
-        let n : (r : List ℕ) → List·Memᴰ r drawn → read order (write order r) ≡ r = λ r m. R.read-write p order o r (assign-e (read order (p .initial)) r m .0 ∙ R.read-length p order o (p .initial)) in
+        let n : (r : List ℕ) → List·Memᴰ r drawn → read order (write order r) ≡ r = λ r m. R.read-write p order o r
+        (assign-e (read order (p .initial)) r m .0 ∙ R.read-length p order o (p .initial)) in
         sorted-keep (λ (a b : List ℕ). T (earlierBy order a b)) (isLeader (earlierBy order) p) (map (write order) drawn)
         (sorted-map (λ (a b : List ℕ). T (earlier a b)) (λ (a b : List ℕ). T (earlierBy order a b)) (write order) drawn
         (λ a b i j e. subst₂ (λ (y z : List ℕ). T (earlier y z)) (sym (n a i)) (sym (n b j)) e) (assignments-sorted (read order (p .initial))))

@@ -1,10 +1,7 @@
 -- Keys: equal for equal rows alone, and made digit by digit in any order. Assumes nothing.
-use mathlib.Core.Path.{_≡_, refl, sym, ap, ap₂, _∙_, subst}
-use Prim.Native.Nat.{ℕ, zero, suc, _+_, _-_, _*_, _%_, _^_, _≤_, _<_}
-use native.Mathlib.Nat.{pow-succ', pow-le-pow-right, mul-left-comm, mul-le-mul, mod-eq-of-lt}
-use native.Mathlib.Decide.{ℕ-discrete}
-use native.Mathlib.Omega.{arith}
-use Rattle.families.specs.Numbered.{keyOf}
+use Rattle.model.specs.Kit.{_≡_, refl, sym, ap, ap₂, _∙_, subst, ℕ, zero, suc, _+_, _-_, _*_, _%_, _^_, _≤_, _<_, mul-le-mul, mod-eq-of-lt, ℕ-discrete, arith}
+use native.Mathlib.Nat.{pow-succ', pow-le-pow-right, mul-left-comm}
+use Rattle.families.specs.inner.Numbered.{keyOf}
 
 -- the first n are digits
 abbrev pub Digits : ℕ → (ℕ → ℕ) → Type 0

@@ -1,26 +1,14 @@
 -- Solutions by their number: the number of an image, and the row that a symmetry makes. Assumes nothing.
-use mathlib.Core.Path.{_≡_, refl, sym, ap, ap₂, _∙_, subst}
-use mathlib.Core.Bool.{Bool}
-use mathlib.Core.List.{List, [], _∷_, _++_, List·Memᴰ, List·Memᴰ·head, List·Memᴰ·tail, Memᴰ·cast, append-assoc}
-use Prim.Native.Nat.{ℕ, zero, suc, _+_, _-_, _*_, _/_, _%_, _<_}
-use native.Mathlib.Nat.{not-suc-le-zero, le-of-suc-le-suc}
-use native.Mathlib.Decide.{ℕ-discrete, decLt}
-use native.Mathlib.Omega.{arith}
-use lib.Dec.{T}
-use lib.ListN.{length, getD, length-append}
-use Rattle.model.specs.Lists.{flat, at, earlier}
-use Rattle.model.specs.Problem.{Problem, pair, takes, isSolution}
-use Rattle.arrays.specs.Layout.{symmetryAt}
-use Rattle.families.specs.Families.{solutionsOf}
-use Rattle.families.specs.Walk.{solutionAt, imageAt}
-use Rattle.model.specs.WellFormed.{WellFormed, Respected}
-use Rattle.model.proofs.Lists.{earlier-asym, at-append, at-skip, of-T, not-of, mem-getD, place-of, Sorted}
-use Rattle.model.proofs.Masks.{least-at}
-use Rattle.model.proofs.Tree.{solution-e}
-use Rattle.model.proofs.Leaders.{takes-in, takes-on}
+use Rattle.model.specs.Kit.{_≡_, refl, sym, ap, ap₂, _∙_, subst, Bool, List, [], _∷_, _++_, List·Memᴰ, List·Memᴰ·head, List·Memᴰ·tail, Memᴰ·cast, append-assoc, ℕ, zero, suc, _+_}
+use Rattle.model.specs.Kit.{_-_, _*_, _/_, _%_, _<_, not-suc-le-zero, le-of-suc-le-suc, ℕ-discrete, decLt, arith, T, length, getD, length-append}
+use Rattle.model.specs.{Lists.flat, Lists.at, Lists.earlier, Problem.Problem, Problem.pair, Problem.takes, Problem.isSolution, Problem.symmetryAt, WellFormed.WellFormed}
+use Rattle.model.specs.WellFormed.{Respected}
+use Rattle.families.specs.{Families.solutionsOf, inner.Walk.solutionAt, inner.Walk.imageAt}
+use Rattle.model.proofs.{Lists.earlier-asym, Lists.at-append, Lists.at-skip, Lists.of-T, Lists.not-of, Lists.mem-getD, Lists.place-of, Lists.Sorted, Masks.least-at}
+use Rattle.model.proofs.{Tree.solution-e, Leaders.takes-in, Leaders.takes-on}
+use Rattle.families.proofs.FamilyCount.{ReadsEarlier, solution-in, in-solution, solutions-sorted}
 use Rattle.model.proofs.Pairs as P
 use Rattle.model.proofs.Image as I
-use Rattle.families.proofs.FamilyCount.{ReadsEarlier, solution-in, in-solution, solutions-sorted}
 
 -- ---- lists in a strict order, by place
 pub sorted-at : {A : Type 0} (R : A → A → Type 0) (l : List A) (d : A) → Sorted R l → (i j : ℕ) → i < j → j < length l → R (getD l i d) (getD l j d)
@@ -30,7 +18,8 @@ sorted-at R (x ∷ l) d s zero (suc j) h k = s .0 (getD l j d) (mem-getD l j d (
 sorted-at R (x ∷ l) d s (suc i) (suc j) h k = sorted-at R l d (s .1) i j (le-of-suc-le-suc h) (le-of-suc-le-suc k)
 
 -- ---- rows of one length, one after another
-pub rows-at : (n : ℕ) (rows : List (List ℕ)) (rest : List ℕ) → ((r : List ℕ) → List·Memᴰ r rows → length r ≡ n) → (i x : ℕ) → i < length rows → x < n → at (flat rows ++ rest) (i * n + x) ≡ at (getD rows i []) x
+pub rows-at : (n : ℕ) (rows : List (List ℕ)) (rest : List ℕ) → ((r : List ℕ) → List·Memᴰ r rows → length r ≡ n) → (i x : ℕ) → i < length rows → x < n → at (flat rows ++ rest) (i * n + x) ≡ at
+    (getD rows i []) x
 unfolding flat
 rows-at n [] rest h i x l k = absurd (not-suc-le-zero l)
 rows-at n (r ∷ rows) rest h zero x l k =
@@ -81,14 +70,16 @@ module _ (p : Problem) (w : WellFormed p) (respected : Respected p) where
     where
       go : Dec (i < j) → Dec (i ≡ j) → i < j
       go (yes h) d = h
-      go (no h) (yes q) = absurd (let z : T (earlier (solutionAt p i) (solutionAt p i)) = subst (λ (k : ℕ). T (earlier (solutionAt p i) (solutionAt p k))) (sym q) e in earlier-asym (solutionAt p i) (solutionAt p i) z z)
+      go (no h) (yes q) = absurd (let z : T (earlier (solutionAt p i) (solutionAt p i)) = subst (λ (k : ℕ). T (earlier (solutionAt p i) (solutionAt p k))) (sym q) e in earlier-asym
+          (solutionAt p i) (solutionAt p i) z z)
       go (no h) (no q) = absurd (earlier-asym (solutionAt p i) (solutionAt p j) e (number-earlier j i (omega arith) l))
 
   pub same-number : (i j : ℕ) → i < length (solutionsOf p) → j < length (solutionsOf p) → solutionAt p i ≡ solutionAt p j → i ≡ j
   same-number i j li lj e = go (decLt i j) (decLt j i)
     where
       none : (a b : ℕ) → a < b → b < N → solutionAt p a ≡ solutionAt p b → ⊥
-      none a b h l q = let z : T (earlier (solutionAt p b) (solutionAt p b)) = subst (λ (u : List ℕ). T (earlier u (solutionAt p b))) q (number-earlier a b h l) in earlier-asym (solutionAt p b) (solutionAt p b) z z
+      none a b h l q = let z : T (earlier (solutionAt p b) (solutionAt p b)) = subst (λ (u : List ℕ). T (earlier u (solutionAt p b))) q (number-earlier a b h l) in earlier-asym (solutionAt p b)
+          (solutionAt p b) z z
 
       go : Dec (i < j) → Dec (j < i) → i ≡ j
       go (yes h) d = absurd (none i j h lj e)
@@ -136,7 +127,8 @@ module _ (p : Problem) (w : WellFormed p) (respected : Respected p) where
     solves = at-solution (imageAt p k i) (image-good k i lk li .0)
 
     -- a pair of the image
-    pub image-pair : (x : ℕ) → x < p .variables → (goes x < p .variables * p .values) × (goes x / p .values < p .variables) × (at (solutionAt p (imageAt p k i)) (goes x / p .values) ≡ goes x % p .values)
+    pub image-pair : (x : ℕ) → x < p .variables → (goes x < p .variables * p .values) × (goes x / p .values < p .variables) ×
+        (at (solutionAt p (imageAt p k i)) (goes x / p .values) ≡ goes x % p .values)
     image-pair x lx =
         let m = takes-in p (symmetryAt p k) (solutionAt p i) image (image-good k i lk li .1) (pair p x (at (solutionAt p i) x)) (P.pairs-i p (solutionAt p i) x lx) in
         let t = P.sol-pair p w image solves (goes x) m in (

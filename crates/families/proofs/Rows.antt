@@ -1,26 +1,15 @@
 -- The rows' keys, and the key of an image made pair by pair. Assumes nothing.
-use mathlib.Core.Path.{_≡_, refl, sym, ap, ap₂, _∙_, subst}
-use mathlib.Core.List.{List, _++_}
-use Prim.Native.Nat.{ℕ, suc, _+_, _-_, _*_, _/_, _%_, _^_, _≤_, _<_}
-use native.Mathlib.Nat.{mul-le-mul-right}
-use native.Mathlib.Decide.{ℕ-discrete}
-use native.Mathlib.Omega.{arith}
-use lib.ListN.{length, set, length-set, length-append, replicate, length-replicate}
-use Rattle.model.specs.Lists.{at, flat}
-use Rattle.model.specs.Problem.{Problem, pair}
-use Rattle.model.specs.WellFormed.{WellFormed, Respected}
-use Rattle.model.proofs.Lists.{at-set, at-set-other, at-replicate, set-each}
-use Rattle.model.proofs.Tree.{solution-e}
+use Rattle.model.specs.Kit.{_≡_, refl, sym, ap, ap₂, _∙_, subst, List, _++_, ℕ, suc, _+_, _-_, _*_, _/_, _%_, _^_, _≤_, _<_, mul-le-mul-right, ℕ-discrete, arith, length, set}
+use Rattle.model.specs.Kit.{length-set, length-append, replicate, length-replicate}
+use Rattle.model.specs.{Lists.at, Lists.flat, Problem.Problem, Problem.pair, Problem.symmetryAt, WellFormed.WellFormed, WellFormed.Respected}
+use Rattle.model.proofs.{Lists.at-set, Lists.at-set-other, Lists.at-replicate, Lists.set-each, Tree.solution-e}
+use Rattle.arrays.specs.inner.Places.{IMAGES}
+use Rattle.families.specs.{Families.solutionsOf, inner.Walk.solutionAt, inner.Walk.imageAt, inner.Numbered.keyOf, inner.Numbered.Listed, inner.Numbered.Imaging}
+use Rattle.families.specs.inner.Numbered.{Finding, Numbering}
+use Rattle.families.proofs.{FamilyCount.in-solution, Numbers.rows-length, Numbers.at-solution, Numbers.at-solutions, Numbers.same-number, Numbers.symmetry-among}
+use Rattle.families.proofs.{Numbers.image-good, Numbers.image-pair, Numbers.image-onto, Keys.Digits, Keys.key-ext, Keys.key-none, Keys.key-small, Keys.key-put}
 use Rattle.model.proofs.Pairs as P
 use Rattle.model.proofs.Symmetry as S
-use Rattle.arrays.specs.Layout.{symmetryAt}
-use Rattle.arrays.specs.Places.{IMAGES}
-use Rattle.families.specs.Families.{solutionsOf}
-use Rattle.families.specs.Walk.{solutionAt, imageAt}
-use Rattle.families.specs.Numbered.{keyOf, Listed, Imaging, Finding, Numbering}
-use Rattle.families.proofs.FamilyCount.{in-solution}
-use Rattle.families.proofs.Numbers.{rows-length, at-solution, at-solutions, same-number, symmetry-among, image-good, image-pair, image-onto}
-use Rattle.families.proofs.Keys.{Digits, key-ext, key-none, key-small, key-put}
 
 -- ---- the keys of the rows
 module _ {p : Problem} {rows : List ℕ} {variables : ℕ} (a : Listed p rows variables) where
@@ -135,7 +124,8 @@ module _ {p : Problem} {rows images : List ℕ} {variables i k : ℕ} (a : Imagi
       let w : goes x % p .values ≡ goes h % p .values = sym (sent-value x l) ∙ sym (imaging-same x l) ∙ ap (at (solutionAt p (imageAt p k i))) e ∙ imaging-same h m ∙ sent-value h m in
       let g : goes x ≡ goes h = sym (P.pair-of p good (goes x)) ∙ ap₂ (pair p) v w ∙ P.pair-of p good (goes h) in
       let q = S.injective p good (symmetryAt p k) (good .symmetric (symmetryAt p k) (symmetry-among p good respected k (a .symmetry)))
-      (pair p x (at (solutionAt p i) x)) (pair p h (at (solutionAt p i) h)) (P.pair-lt p good x (at (solutionAt p i) x) (lx x l) (value-lt x l)) (P.pair-lt p good h (at (solutionAt p i) h) (lx h m) (value-lt h m)) g in
+      (pair p x (at (solutionAt p i) x)) (pair p h (at (solutionAt p i) h)) (P.pair-lt p good x (at (solutionAt p i) x) (lx x l) (value-lt x l))
+      (P.pair-lt p good h (at (solutionAt p i) h) (lx h m) (value-lt h m)) g in
       sym (P.pair-div p good x (at (solutionAt p i) x) (value-lt x l)) ∙ ap (λ (z : ℕ). z / p .values) q ∙ P.pair-div p good h (at (solutionAt p i) h) (value-lt h m)
 
   -- every variable of the image is gone to
@@ -176,7 +166,8 @@ module _ {p : Problem} {rows images : List ℕ} {variables i k r x : ℕ} (c : C
     out = out′;
     size = length-set (c .out) y v ∙ c .size;
     digits = λ z. set-each (λ (z u : ℕ). u < 16) (c .out) y v z inside (omega arith) (λ n. c .digits z);
-    put = λ h b m. set-each (λ (z u : ℕ). u ≡ at (solutionAt p (imageAt p k i)) z) (c .out) y v (sent rows images variables i k h / 16) inside (sym (imaging-same (c .asked) x l)) (λ n. old h b m n (ℕ-discrete h x));
+    put = λ h b m. set-each (λ (z u : ℕ). u ≡ at (solutionAt p (imageAt p k i)) z) (c .out) y v (sent rows images variables i k h / 16) inside (sym (imaging-same (c .asked) x l))
+        (λ n. old h b m n (ℕ-discrete h x));
     rest = λ z n. at-set-other (c .out) y v z (λ e. n x (omega arith) l (sym e)) ∙ c .rest z (λ h b m e. n h (omega arith) m e);
     key = ap₂ (λ (s t : ℕ). s + t * 2 ^ (4 * (variables - 1 - y))) (c .key) (sym here) ∙ sym (key-put variables (at (c .out)) (at out′) y small free (λ z n. at-set-other (c .out) y v z n));
   }
@@ -199,7 +190,8 @@ module _ {p : Problem} {rows images : List ℕ} {variables i k r x : ℕ} (c : C
       here : at out′ y ≡ v
       here = at-set (c .out) y v inside
 
-      old : (h : ℕ) → h < x + 1 → h < variables → (sent rows images variables i k h / 16 ≡ y → ⊥) → Dec (h ≡ x) → at (c .out) (sent rows images variables i k h / 16) ≡ at (solutionAt p (imageAt p k i)) (sent rows images variables i k h / 16)
+      old : (h : ℕ) → h < x + 1 → h < variables → (sent rows images variables i k h / 16 ≡ y → ⊥) → Dec (h ≡ x) → at (c .out) (sent rows images variables i k h / 16) ≡ at
+          (solutionAt p (imageAt p k i)) (sent rows images variables i k h / 16)
       old h b m n (yes e) = absurd (n (ap (λ (z : ℕ). sent rows images variables i k z / 16) e))
       old h b m n (no e) = c .put h (omega arith) m
 

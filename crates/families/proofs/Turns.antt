@@ -1,18 +1,11 @@
 -- One turn of each loop that counts families, by the steps of the walk. Assumes nothing.
-use mathlib.Core.Path.{_≡_, refl, sym, ap, _∙_, subst, subst₂}
-use mathlib.Core.List.{List}
-use Prim.Native.Nat.{ℕ, _+_, _≤_, _<_}
-use native.Mathlib.Omega.{arith}
-use lib.ListN.{length, set, replicate, length-replicate}
-use Rattle.model.specs.Lists.{at}
-use Rattle.model.specs.Problem.{Problem}
-use Rattle.families.specs.Families.{solutionsOf, familiesOf}
-use Rattle.families.specs.Walk.{imageAt, Walk}
-use Rattle.model.specs.WellFormed.{WellFormed, Respected}
+use Rattle.model.specs.Kit.{_≡_, refl, sym, ap, _∙_, subst, subst₂, List, ℕ, _+_, _≤_, _<_, arith, length, set, replicate, length-replicate}
+use Rattle.model.specs.{Lists.at, Problem.Problem, WellFormed.WellFormed, WellFormed.Respected}
+use Rattle.families.specs.{Families.solutionsOf, Families.familiesOf, inner.Walk.imageAt, inner.Walk.Walk, inner.Numbered.Imaged, inner.Numbered.Chained}
+use Rattle.families.specs.inner.Numbered.{Weighed, Finder, Counted, Numbering, Spreading, Flooding}
 use Rattle.model.proofs.Lists.{at-set-other, at-replicate}
-use Rattle.families.proofs.Numbers.{image-good}
-use Rattle.families.proofs.Walk.{walk-begin, walk-tail, walk-room, walk-count, walk-push, walk-known, walk-pop, walk-start, walk-skip, walk-end}
-use Rattle.families.specs.Numbered.{Imaged, Chained, Weighed, Finder, Counted, Numbering, Spreading, Flooding}
+use Rattle.families.proofs.{Numbers.image-good, Walk.walk-begin, Walk.walk-tail, Walk.walk-room, Walk.walk-count, Walk.walk-push, Walk.walk-known, Walk.walk-pop}
+use Rattle.families.proofs.Walk.{walk-start, walk-skip, walk-end}
 
 -- ---- the images of the solution at the head of the queue
 pub record Turning (p : Problem) (rows images keys heads weights : List ℕ) (variables symmetries i : ℕ) (seen queue : List ℕ) (starts count head k end : ℕ) : Type 0 where
@@ -155,14 +148,16 @@ module _ {p : Problem} {rows images keys heads weights : List ℕ} {variables sy
       (omega arith, omega arith, omega arith, omega arith)
 
   pub counting-end : solutions ≤ i → count ≡ familiesOf p
-  counting-end l = let a = counting-bounds in let e = c .counted .every in walk-end p (c .counted .lent .listed .good) (c .counted .lent .listed .respected) seen queue i count tail 0 tail (c .walk) (let z : i ≡ length (solutionsOf p) = omega arith in z)
+  counting-end l = let a = counting-bounds in let e = c .counted .every in walk-end p (c .counted .lent .listed .good) (c .counted .lent .listed .respected) seen queue i count tail 0 tail
+      (c .walk) (let z : i ≡ length (solutionsOf p) = omega arith in z)
 
   module _ (l : i < solutions) where
     below : i < length (solutionsOf p)
     below = subst (λ (z : ℕ). i < z) (c .counted .every) l
 
     pub counting-room : at seen i ≡ 0 → tail < 4096
-    counting-room e = let a = walk-room p (c .counted .lent .listed .good) (c .counted .lent .listed .respected) seen queue i count tail 0 tail (c .walk) i below e in let b = c .counted .lent .listed .few in let d = c .counted .every in omega arith
+    counting-room e = let a = walk-room p (c .counted .lent .listed .good) (c .counted .lent .listed .respected) seen queue i count tail 0 tail (c .walk) i below e in
+        let b = c .counted .lent .listed .few in let d = c .counted .every in omega arith
 
     pub counting-start : at seen i ≡ 0 → Flooding p rows images keys heads weights variables symmetries (set seen i 1) (set queue tail i) (i + 1) (count + 1) tail (tail + 1)
     counting-start e = record {
@@ -172,7 +167,8 @@ module _ {p : Problem} {rows images keys heads weights : List ℕ} {variables sy
       walk = walk-start p (c .counted .lent .listed .good) (c .counted .lent .listed .respected) seen queue i count tail tail (c .walk) refl below 1 e (λ z. omega arith);
     }
 
-    pub counting-flooded : {seen′ queue′ : List ℕ} {count′ tail′ tail″ : ℕ} {seen″ queue″ : List ℕ} → Walk p seen′ queue′ (i + 1) (count + 1) tail′ 0 tail′ → seen″ ≡ seen′ → queue″ ≡ queue′ → count′ ≡ count + 1 → tail″ ≡ tail′ →
+    pub counting-flooded : {seen′ queue′ : List ℕ} {count′ tail′ tail″ : ℕ} {seen″ queue″ : List ℕ} → Walk p seen′ queue′ (i + 1) (count + 1) tail′ 0 tail′ → seen″ ≡ seen′ → queue″ ≡ queue′
+        → count′ ≡ count + 1 → tail″ ≡ tail′ →
         Counting p rows images keys heads weights variables symmetries solutions seen″ queue″ count′ tail″ (i + 1)
     counting-flooded {seen′} {queue′} {count′} {tail′} {tail″} {seen″} {queue″} w a b d e = record {
       counted = c .counted;
@@ -185,5 +181,7 @@ module _ {p : Problem} {rows images keys heads weights : List ℕ} {variables sy
     counting-known {seen′} {queue′} {count′} {tail′} n a b d e = record {
       counted = c .counted;
       finder = c .finder;
-      walk = subst₂ (λ (y z : List ℕ). Walk p y z (i + 1) count′ tail′ 0 tail′) (sym a) (sym b) (subst₂ (λ (y z : ℕ). Walk p seen queue (i + 1) y z 0 z) (sym d) (sym e) (walk-skip p (c .counted .lent .listed .good) (c .counted .lent .listed .respected) seen queue i count tail tail (c .walk) refl below n));
+      walk = subst₂ (λ (y z : List ℕ). Walk p y z (i + 1) count′ tail′ 0 tail′) (sym a) (sym b)
+          (subst₂ (λ (y z : ℕ). Walk p seen queue (i + 1) y z 0 z) (sym d) (sym e) (walk-skip p (c .counted .lent .listed .good) (c .counted .lent .listed .respected) seen queue i count tail tail
+          (c .walk) refl below n));
     }

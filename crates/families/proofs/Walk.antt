@@ -1,26 +1,16 @@
 -- Counting families by breadth-first search over the numbers of the solutions: each step keeps the walk (specs/Walk), and at its end the count
 -- is that of the families. Assumes nothing.
-use mathlib.Core.Path.{_≡_, refl, sym, ap, _∙_, subst}
-use mathlib.Core.Logic.{_⊎_, inl, inr, ⊎-elim}
-use mathlib.Core.List.{List, [], _∷_, map, List·Memᴰ, List·Memᴰ·cases-cons, Memᴰ·map, Memᴰ·of-map}
-use Prim.Native.Nat.{ℕ, suc, _+_, _≤_, _<_}
-use native.Mathlib.Decide.{ℕ-discrete}
-use native.Mathlib.Omega.{arith}
-use lib.Dec.{T}
-use lib.ListN.{length, take, set, length-set, length-append}
-use lib.Seq.{take-suc, take-length, length-take-le}
-use Rattle.model.specs.Lists.{keep, below, at, earlier}
-use Rattle.model.specs.Problem.{Problem, takes}
-use Rattle.model.specs.Sheet.{distinct}
-use Rattle.arrays.specs.Layout.{symmetryAt}
+use Rattle.model.specs.Kit.{_≡_, refl, sym, ap, _∙_, subst, _⊎_, inl, inr, ⊎-elim, List, [], _∷_, map, List·Memᴰ, List·Memᴰ·cases-cons, Memᴰ·map, Memᴰ·of-map, ℕ, suc, _+_, _≤_}
+use Rattle.model.specs.Kit.{_<_, ℕ-discrete, arith, T, length, take, set, length-set, length-append, length-take-le}
+use lib.Seq.{take-suc, take-length}
+use Rattle.model.specs.{Lists.keep, Lists.below, Lists.at, Lists.earlier, Problem.Problem, Problem.takes, Problem.symmetryAt, Sheet.distinct, WellFormed.WellFormed}
+use Rattle.model.specs.WellFormed.{Respected}
 use Rattle.families.specs.Families.{Joined, alone, further, solutionsOf, isEarliest, earliestOf, familiesOf}
-use Rattle.families.specs.Walk.{solutionAt, imageAt, Walk}
-use Rattle.model.specs.WellFormed.{WellFormed, Respected}
+use Rattle.families.specs.inner.Walk.{solutionAt, imageAt, Walk}
 use Rattle.model.proofs.Lists.{of-T, not-of, keep-yes, keep-no, keep-append, place-of, below-i, below-e, length-below, at-set, at-set-other}
 use Rattle.model.proofs.Counting.{distinct-i, distinct-below, no-more}
-use Rattle.families.proofs.Joined.{joined-to, joined-sym}
-use Rattle.families.proofs.Numbers.{at-solution, number-of, number-earlier, earlier-number, same-number, symmetry-among, only-image, image-good}
-use Rattle.families.proofs.FamilyCount.{keep-length, earliest-i, earliest-e}
+use Rattle.families.proofs.{Joined.joined-to, Joined.joined-sym, Numbers.at-solution, Numbers.number-of, Numbers.number-earlier, Numbers.earlier-number, Numbers.same-number}
+use Rattle.families.proofs.{Numbers.symmetry-among, Numbers.only-image, Numbers.image-good, FamilyCount.keep-length, FamilyCount.earliest-i, FamilyCount.earliest-e}
 
 module _ (p : Problem) (w : WellFormed p) (respected : Respected p) where
   abbrev N : ℕ
@@ -53,7 +43,8 @@ module _ (p : Problem) (w : WellFormed p) (respected : Respected p) where
       begin-next i l ∙ ap (λ (r : List (List ℕ)). begin i + length r) (keep-no (isEarliest p) (solutionAt p i) [] (not-of (isEarliest p (solutionAt p i)) t)) ∙ e
 
   -- ---- the walk
-  pub walk-begin : (seen queue : List ℕ) → length (solutionsOf p) ≤ length seen → length (solutionsOf p) ≤ length queue → ((j : ℕ) → j < length (solutionsOf p) → at seen j ≡ 0) → Walk p seen queue 0 0 0 0 0
+  pub walk-begin : (seen queue : List ℕ) → length (solutionsOf p) ≤ length seen → length (solutionsOf p) ≤ length queue → ((j : ℕ) → j < length (solutionsOf p) → at seen j ≡ 0)
+      → Walk p seen queue 0 0 0 0 0
   unfolding keep
   walk-begin seen queue a b z = record {
     wide = a;
@@ -167,7 +158,8 @@ module _ (p : Problem) (w : WellFormed p) (respected : Respected p) where
         once = once-now;
         begun = λ h l. ⊎-elim {C = at (set seen j v) h ≡ 0 → ⊥} (λ q. seen-old h (k .begun h q)) (λ q. subst (λ (z : ℕ). at (set seen j v) z ≡ 0 → ⊥) (sym q) seen-new) (new h l);
         joined = each (λ (z : ℕ). (h : ℕ) × (h < starts′) × Joined p (solutionAt p h) (solutionAt p z)) (i, li, ij) (λ t l. let r = k .joined t l in let b = r .1 in (r .0, omega arith, r .2));
-        passed = λ t h l m. let a = k .ahead in let lt : t < tail = omega arith in subst (λ (z : ℕ). at (set seen j v) (imageAt p h z) ≡ 0 → ⊥) (sym (queue-old t lt)) (seen-old (imageAt p h (at queue t)) (k .passed t h l m));
+        passed = λ t h l m. let a = k .ahead in let lt : t < tail = omega arith in subst (λ (z : ℕ). at (set seen j v) (imageAt p h z) ≡ 0 → ⊥) (sym (queue-old t lt))
+            (seen-old (imageAt p h (at queue t)) (k .passed t h l m));
         turned = turns;
         counted = counts;
       }
@@ -175,7 +167,8 @@ module _ (p : Problem) (w : WellFormed p) (respected : Respected p) where
   -- ---- the images of the solution at the head of the queue
   module _ (seen queue : List ℕ) (starts count head turn tail : ℕ) (k : Walk p seen queue starts count head turn tail) (some : head < tail) where
     -- its image by the next symmetry was not met yet: mark it and put it into the queue
-    pub walk-push : (j v : ℕ) → turn < length (p .symmetries) → j ≡ imageAt p turn (at queue head) → at seen j ≡ 0 → (v ≡ 0 → ⊥) → Walk p (set seen j v) (set queue tail j) starts count head (turn + 1) (tail + 1)
+    pub walk-push : (j v : ℕ) → turn < length (p .symmetries) → j ≡ imageAt p turn (at queue head) → at seen j ≡ 0 → (v ≡ 0 → ⊥) → Walk p (set seen j v) (set queue tail j) starts count head
+        (turn + 1) (tail + 1)
     walk-push j v l e fresh mark =
         met-now seen queue starts count head turn tail k j v lj fresh mark starts count (turn + 1) (omega arith) (k .asked) (λ i b. inl b) (r .0) (r .1) joins turns (k .counted)
       where
@@ -192,7 +185,8 @@ module _ (p : Problem) (w : WellFormed p) (respected : Respected p) where
         r = k .joined head some
 
         joins : Joined p (solutionAt p (r .0)) (solutionAt p j)
-        joins = further (solutionAt p (at queue head)) (solutionAt p j) (symmetryAt p turn) (r .2) (symmetry-among p w respected turn l) (subst (λ (z : ℕ). T (takes p (symmetryAt p turn) (solutionAt p (at queue head)) (solutionAt p z))) (sym e) (good .1)) (at-solution p w respected j lj)
+        joins = further (solutionAt p (at queue head)) (solutionAt p j) (symmetryAt p turn) (r .2) (symmetry-among p w respected turn l)
+            (subst (λ (z : ℕ). T (takes p (symmetryAt p turn) (solutionAt p (at queue head)) (solutionAt p z))) (sym e) (good .1)) (at-solution p w respected j lj)
 
         turns : (h : ℕ) → h < turn + 1 → at (set seen j v) (imageAt p h (at (set queue tail j) head)) ≡ 0 → ⊥
         turns h lh = subst (λ (z : ℕ). at (set seen j v) (imageAt p h z) ≡ 0 → ⊥) (sym (queue-old seen queue starts count head turn tail k j v lj fresh mark head some)) (go (ℕ-discrete h turn))
@@ -260,7 +254,8 @@ module _ (p : Problem) (w : WellFormed p) (respected : Respected p) where
           imageAt p (x .0) j,
           good .0,
           subst (λ (z : ℕ). at seen (imageAt p (x .0) z) ≡ 0 → ⊥) (y .2) (k .passed (y .0) (x .0) lt (x .1)),
-          only-image p w respected g (solutionAt p j) e (solutionAt p (imageAt p (x .0) j)) m (subst (λ (u : List ℕ). T (takes p g u e)) (q .3) t) tk r (at-solution p w respected (imageAt p (x .0) j) (good .0)),
+          only-image p w respected g (solutionAt p j) e (solutionAt p (imageAt p (x .0) j)) m (subst (λ (u : List ℕ). T (takes p g u e)) (q .3) t) tk r
+              (at-solution p w respected (imageAt p (x .0) j) (good .0)),
         )
 
     module _ (l : starts < N) where
@@ -281,11 +276,13 @@ module _ (p : Problem) (w : WellFormed p) (respected : Respected p) where
           let y = k .marked starts l n in
           let r = k .joined (y .0) (y .1) in
           let j : Joined p (solutionAt p (r .0)) (solutionAt p starts) = subst (λ (z : ℕ). Joined p (solutionAt p (r .0)) (solutionAt p z)) (y .2) (r .2) in
-          earliest-e p w respected (solutionAt p starts) (at-solution p w respected starts l) t (solutionAt p (r .0)) (joined-sym p w respected (solutionAt p (r .0)) (solutionAt p starts) j) (number-earlier p w respected (r .0) starts (r .1) l)
+          earliest-e p w respected (solutionAt p starts) (at-solution p w respected starts l) t (solutionAt p (r .0)) (joined-sym p w respected (solutionAt p (r .0)) (solutionAt p starts) j)
+          (number-earlier p w respected (r .0) starts (r .1) l)
 
       pub walk-start : (v : ℕ) → at seen starts ≡ 0 → (v ≡ 0 → ⊥) → Walk p (set seen starts v) (set queue tail starts) (starts + 1) (count + 1) head 0 (tail + 1)
       walk-start v fresh mark =
-          met-now seen queue starts count head 0 tail k starts v l fresh mark (starts + 1) (count + 1) 0 (omega arith) (omega arith) (λ i b. old i b (ℕ-discrete i starts)) starts (omega arith) (alone (at-solution p w respected starts l))
+          met-now seen queue starts count head 0 tail k starts v l fresh mark (starts + 1) (count + 1) 0 (omega arith) (omega arith) (λ i b. old i b (ℕ-discrete i starts)) starts (omega arith)
+          (alone (at-solution p w respected starts l))
           (λ h b. absurd (omega arith)) (ap (λ (z : ℕ). z + 1) (k .counted) ∙ sym (begin-yes starts l (fresh-earliest fresh)))
         where
           old : (i : ℕ) → i < starts + 1 → Dec (i ≡ starts) → (i < starts) ⊎ (i ≡ starts)

@@ -1,10 +1,7 @@
 -- What families are, said of every problem that the questions can pass, with the exchanges of a block or without (paper 02, #104 and #112).
 -- The proofs are in proofs/Joined, FamilyCount and Closed.
-use mathlib.Core.List.{List}
-use Prim.Native.Nat.{ℕ}
-use lib.Dec.{T}
-use Rattle.model.specs.Problem.{Problem, isSolution}
-use Rattle.model.specs.WellFormed.{WellFormed, Respected}
+use Rattle.model.specs.Kit.{List, ℕ, T}
+use Rattle.model.specs.{Problem.Problem, Problem.isSolution, WellFormed.WellFormed, WellFormed.Respected}
 use Rattle.families.specs.Families.{Joined, FamilyCount, Closed, OneLeaderEach}
 
 -- a solution is joined to itself, to whatever is joined to it, and to what that is joined to; only solutions are joined

@@ -1,5 +1,4 @@
 -- Families of solutions, their claims, and what the code that counts them keeps.
 pub mod Families
 pub mod FamilyClaims
-pub mod Walk
-pub mod Numbered
+pub mod inner

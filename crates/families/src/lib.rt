@@ -7,8 +7,8 @@ ghost use lib.ListN.{length};
 ghost use Rattle.model.specs.Lists.{at};
 ghost use Rattle.model.specs.Problem.{Problem};
 ghost use Rattle.families.specs.Families.{solutionsOf, familiesOf};
-ghost use Rattle.families.specs.Walk.{solutionAt, imageAt, Walk};
-ghost use Rattle.families.specs.Numbered.{keyOf, Unlinked, Chained, Weighed, Listed, Imaging, Finding, Numbering, Counted, Spreading, Flooding};
+ghost use Rattle.families.specs.inner.Walk.{solutionAt, imageAt, Walk};
+ghost use Rattle.families.specs.inner.Numbered.{keyOf, Unlinked, Chained, Weighed, Listed, Imaging, Finding, Numbering, Counted, Spreading, Flooding};
 
 // The key of the row from a place on: its values as the digits of one number, which is smaller for a row that reads earlier.
 fn key(rows: &[u8], from: usize, variables: usize) -> u64
@@ -34,7 +34,8 @@ fn fill(
     heads: &mut [u16; 1021],
 )
     requires { ⌜ ((p : Problem) × Listed p (now rows) variables × (solutions ≡ length (solutionsOf p)) × (length (now keys) ≡ 4096) × Unlinked (now heads)) ⌝ }
-    ensures { λ _. ⌜ ((p : Problem) → Listed p (now (rows .entry)) variables → solutions ≡ length (solutionsOf p) → Unlinked (now (heads .entry)) → Chained p (now (keys .exit)) (now (heads .exit)) solutions) ⌝ }
+    ensures { λ _. ⌜ ((p : Problem) → Listed p (now (rows .entry)) variables → solutions ≡ length (solutionsOf p) → Unlinked (now (heads .entry))
+        → Chained p (now (keys .exit)) (now (heads .exit)) solutions) ⌝ }
 {
     let mut i = 0;
     while i < solutions {
@@ -69,7 +70,8 @@ fn carry(
     k: usize,
 ) -> u64
     requires { ⌜ ((p : Problem) × Imaging p (now rows) (now images) variables i k × Weighed variables (now weights)) ⌝ }
-    ensures { λ r. ⌜ ((p : Problem) → Imaging p (now (rows .entry)) (now (images .entry)) variables i k → Weighed variables (now (weights .entry)) → r ≡ keyOf variables (at (solutionAt p (imageAt p k i)))) ⌝ }
+    ensures { λ r. ⌜ ((p : Problem) → Imaging p (now (rows .entry)) (now (images .entry)) variables i k → Weighed variables (now (weights .entry))
+        → r ≡ keyOf variables (at (solutionAt p (imageAt p k i)))) ⌝ }
 {
     let base = 192 * k;
     let from = i * variables;
@@ -86,7 +88,8 @@ fn carry(
 // The number of a solution, by its key: along the chain, which it is in.
 fn find(keys: &[u64; 4096], heads: &[u16; 1021], key: u64) -> usize
     requires { ⌜ ((p : Problem) × (s : List ℕ) × Finding p s (now keys) (now heads) key) ⌝ }
-    ensures { λ r. ⌜ ((p : Problem) (s : List ℕ) → Finding p s (now (keys .entry)) (now (heads .entry)) key → (r < length (solutionsOf p)) × (solutionAt p r ≡ s)) ⌝ }
+    ensures { λ r. ⌜ ((p : Problem) (s : List ℕ) → Finding p s (now (keys .entry)) (now (heads .entry)) key → (r < length (solutionsOf p)) ×
+        (solutionAt p r ≡ s)) ⌝ }
 {
     let mut link = heads[(key % 1021) as usize] as usize;
     while keys[link - 1] / 65536 != key {
@@ -107,7 +110,8 @@ fn image(
     k: usize,
 ) -> usize
     requires { ⌜ ((p : Problem) × Numbering p (now rows) (now images) (now keys) (now heads) (now weights) variables i k) ⌝ }
-    ensures { λ r. ⌜ ((p : Problem) → Numbering p (now (rows .entry)) (now (images .entry)) (now (keys .entry)) (now (heads .entry)) (now (weights .entry)) variables i k → r ≡ imageAt p k i) ⌝ }
+    ensures { λ r. ⌜ ((p : Problem) → Numbering p (now (rows .entry)) (now (images .entry)) (now (keys .entry)) (now (heads .entry))
+        (now (weights .entry)) variables i k → r ≡ imageAt p k i) ⌝ }
 {
     let sought = carry(rows, images, weights, variables, i, k);
     find(keys, heads, sought)
@@ -127,8 +131,11 @@ fn spread(
     head: usize,
     tail: usize,
 ) -> usize
-    requires { ⌜ ((p : Problem) × (starts : ℕ) × (count : ℕ) × Spreading p (now rows) (now images) (now keys) (now heads) (now weights) variables symmetries (now seen) (now queue) starts count head tail) ⌝ }
-    ensures { λ r. ⌜ ((p : Problem) (starts count : ℕ) → Spreading p (now (rows .entry)) (now (images .entry)) (now (keys .entry)) (now (heads .entry)) (now (weights .entry)) variables symmetries (now (seen .entry)) (now (queue .entry)) starts count head tail → (Walk p (now (seen .exit)) (now (queue .exit)) starts count head symmetries r) × (head < r)) ⌝ }
+    requires { ⌜ ((p : Problem) × (starts : ℕ) × (count : ℕ) × Spreading p (now rows) (now images) (now keys) (now heads) (now weights) variables symmetries
+        (now seen) (now queue) starts count head tail) ⌝ }
+    ensures { λ r. ⌜ ((p : Problem) (starts count : ℕ) → Spreading p (now (rows .entry)) (now (images .entry)) (now (keys .entry)) (now (heads .entry))
+        (now (weights .entry)) variables symmetries (now (seen .entry)) (now (queue .entry)) starts count head tail →
+        (Walk p (now (seen .exit)) (now (queue .exit)) starts count head symmetries r) × (head < r)) ⌝ }
 {
     let i = queue[head] as usize;
     let mut end = tail;
@@ -159,8 +166,11 @@ fn flood(
     head: usize,
     tail: usize,
 ) -> usize
-    requires { ⌜ ((p : Problem) × (starts : ℕ) × (count : ℕ) × Flooding p (now rows) (now images) (now keys) (now heads) (now weights) variables symmetries (now seen) (now queue) starts count head tail) ⌝ }
-    ensures { λ r. ⌜ ((p : Problem) (starts count : ℕ) → Flooding p (now (rows .entry)) (now (images .entry)) (now (keys .entry)) (now (heads .entry)) (now (weights .entry)) variables symmetries (now (seen .entry)) (now (queue .entry)) starts count head tail → Walk p (now (seen .exit)) (now (queue .exit)) starts count r 0 r) ⌝ }
+    requires { ⌜ ((p : Problem) × (starts : ℕ) × (count : ℕ) × Flooding p (now rows) (now images) (now keys) (now heads) (now weights) variables symmetries
+        (now seen) (now queue) starts count head tail) ⌝ }
+    ensures { λ r. ⌜ ((p : Problem) (starts count : ℕ) → Flooding p (now (rows .entry)) (now (images .entry)) (now (keys .entry)) (now (heads .entry))
+        (now (weights .entry)) variables symmetries (now (seen .entry)) (now (queue .entry)) starts count head tail → Walk p (now (seen .exit))
+        (now (queue .exit)) starts count r 0 r) ⌝ }
 {
     let mut first = head;
     let mut end = tail;

@@ -1,21 +1,13 @@
 -- What a caller of `closed` holds (specs/Calls). Assumes nothing.
-use mathlib.Core.Path.{_≡_, refl, sym, ap, _∙_}
-use mathlib.Core.Logic.{_↔_, _⊎_, inl, inr}
-use mathlib.Core.List.{List}
-use Prim.Native.Nat.{ℕ, _<_}
-use native.Mathlib.Decide.{ℕ-discrete, decLt}
-use native.Mathlib.Omega.{arith}
-use Rattle.model.specs.Problem.{Problem}
-use Rattle.model.specs.Verdict.{Verdict, accepted, refused, reply}
+use Rattle.model.specs.Kit.{_≡_, refl, sym, ap, _∙_, _↔_, _⊎_, inl, inr, List, ℕ, _<_, ℕ-discrete, decLt, arith}
+use Rattle.model.specs.{Problem.Problem, Verdict.Verdict, Verdict.accepted, Verdict.refused, Verdict.reply}
 use Rattle.model.proofs.Lists.{of-not}
 use Rattle.run_input.specs.Lent.{verdictLent, problemWith}
 use Rattle.families.specs.Families.{Closed}
-use Rattle.families_closed.specs.Open.{Open, none, two, made, firstOpen, FirstOpen}
-use Rattle.families_closed.specs.Lent.{means, refusal, told, closedLent}
-use Rattle.families_closed.specs.declared.Answer.{Answer}
-use Rattle.families_closed.specs.declared.Answer.the-variants as A
-use Rattle.families_closed.specs.Calls.{CallClosed, ClosedHeld, Closed-calls}
+use Rattle.families_closed.specs.{Open.Open, Open.none, Open.two, Open.made, Open.firstOpen, Open.FirstOpen, Lent.means, Lent.refusal, Lent.told, Lent.closedLent}
+use Rattle.families_closed.specs.{declared.Answer.Answer, Calls.CallClosed, Calls.ClosedHeld, Calls.Closed-calls}
 use Rattle.families_closed.proofs.Open.{all-made, open-none, open-first}
+use Rattle.families_closed.specs.declared.Answer.the-variants as A
 
 -- an answer is known by what it means
 is-refused : (r : Answer) (number item : ℕ) → means r ≡ refusal number item → r ≡ A.Refused number item

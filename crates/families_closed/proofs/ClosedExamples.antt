@@ -1,16 +1,12 @@
 -- The examples of specs/ClosedExamples, by computation. Assumes nothing.
-use mathlib.Core.Path.{_≡_, refl}
-use mathlib.Core.List.{[], _∷_}
-use Rattle.model.specs.Sheet.{problemOf}
-use Rattle.model.specs.Examples.{Each, sheetA, sheetA0}
+use Rattle.model.specs.Kit.{_≡_, refl, [], _∷_}
+use Rattle.model.specs.{Sheet.problemOf, Examples.Each, Examples.sheetA, Examples.sheetA0}
 use Rattle.model.proofs.Examples.{opened}
 use Rattle.order.specs.Order.{pairsIn, forerunners, canFollow, settledFirst, settlingOrder, settlesAll, orderVerdict}
 use Rattle.block.specs.Block.{orderings, ordering, factorial, variableTable, inBlock, imageOf, orderingTable, blockTables, isBlock, blockVerdict, tablesLent, blockLent}
 use Rattle.run_input.specs.Lent.{verdictLent, problemWith}
 use Rattle.families.specs.Families.{makes, movesNothing}
-use Rattle.families_closed.specs.Open.{none, made, firstMissing, firstOpen}
-use Rattle.families_closed.specs.Lent.{closedLent}
-use Rattle.families_closed.specs.ClosedExamples.{testsClosed}
+use Rattle.families_closed.specs.{Open.none, Open.made, Open.firstMissing, Open.firstOpen, Lent.closedLent, inner.ClosedExamples.testsClosed}
 use Rattle.families_closed.proofs.Open.{open-none}
 
 none-a : firstOpen (problemOf sheetA) ≡ none
@@ -22,5 +18,6 @@ unfolding opened makes movesNothing made firstMissing firstOpen orderings orderi
 none-block = refl
 
 pub examples-closed : Each testsClosed
-unfolding opened makes movesNothing made firstMissing firstOpen closedLent verdictLent pairsIn forerunners canFollow settledFirst settlingOrder settlesAll orderVerdict orderings ordering factorial variableTable inBlock imageOf orderingTable blockTables isBlock blockVerdict tablesLent blockLent
+unfolding opened makes movesNothing made firstMissing firstOpen closedLent verdictLent pairsIn forerunners canFollow settledFirst settlingOrder settlesAll orderVerdict orderings ordering factorial
+    variableTable inBlock imageOf orderingTable blockTables isBlock blockVerdict tablesLent blockLent
 examples-closed = (open-none (problemOf sheetA) .0 none-a, (refl, (refl, (refl, (open-none (problemWith sheetA0 (0 ∷ 2 ∷ [])) .0 none-block, (refl, (refl, tt)))))))

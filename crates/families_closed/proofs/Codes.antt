@@ -1,23 +1,13 @@
 -- The codes of pairs in the images, and what a product that is missing or not is read from. Assumes nothing.
-use mathlib.Core.Path.{_≡_, sym, ap, ap₂, _∙_, subst}
-use mathlib.Core.Bool.{true, false}
-use mathlib.Core.Logic.{⊎-elim}
-use mathlib.Core.List.{List, []}
-use Prim.Native.Nat.{ℕ, _+_, _*_, _/_, _%_, _≤_, _<_}
-use native.Mathlib.Nat.{div-lt-iff-lt-mul, mod-lt, mul-le-mul-right, div-add-mod'}
-use native.Mathlib.Decide.{decLt}
-use native.Mathlib.Omega.{arith}
-use lib.Dec.{T}
-use lib.ListN.{length}
-use Rattle.model.specs.Lists.{any, at}
-use Rattle.model.specs.Problem.{Problem, pair}
+use Rattle.model.specs.Kit.{_≡_, sym, ap, ap₂, _∙_, subst, true, false, ⊎-elim, List, [], ℕ, _+_, _*_, _/_, _%_, _≤_, _<_, mul-le-mul-right, decLt, arith, T, length}
+use native.Mathlib.Nat.{div-lt-iff-lt-mul, mod-lt, div-add-mod'}
+use Rattle.model.specs.{Lists.any, Lists.at, Problem.Problem, Problem.pair, Problem.symmetryAt}
 use Rattle.model.proofs.Lists.{of-T, not-of, either-e, either-l, either-r, any-e, any-i, mem-getD, place-of}
-use Rattle.model.proofs.Symmetry as S
-use Rattle.arrays.specs.Layout.{symmetryAt, pairCode}
+use Rattle.arrays.specs.inner.Layout.{pairCode}
 use Rattle.families.specs.Families.{makes, movesNothing}
 use Rattle.families.proofs.Closed.{makes-i, makes-e, nothing-i, nothing-e}
-use Rattle.families_closed.specs.Open.{made}
-use Rattle.families_closed.specs.Held.{Held}
+use Rattle.families_closed.specs.{Open.made, inner.Held.Held}
+use Rattle.model.proofs.Symmetry as S
 
 module _ {p : Problem} {images : List ℕ} {variables values : ℕ} (h : Held p images variables values) where
   pub held-bounds : (1 ≤ values) × (values ≤ 16) × (variables ≤ 12) × (length (p .symmetries) ≤ 136)
@@ -51,7 +41,8 @@ module _ {p : Problem} {images : List ℕ} {variables values : ℕ} (h : Held p 
   -- where a symmetry takes a number, and its code in the images
   module _ (e : ℕ) (le : e < length (p .symmetries)) where
     pub goes-lt : (q : ℕ) → q < variables * values → at (symmetryAt p e) q < variables * values
-    goes-lt q l = subst (λ (n : ℕ). at (symmetryAt p e) q < n) (sym size-is) (S.image-lt p (h .good) (symmetryAt p e) (h .good .symmetric (symmetryAt p e) (mem-getD (p .symmetries) e [] le)) q (subst (λ (n : ℕ). q < n) size-is l))
+    goes-lt q l = subst (λ (n : ℕ). at (symmetryAt p e) q < n) (sym size-is) (S.image-lt p (h .good) (symmetryAt p e) (h .good .symmetric (symmetryAt p e) (mem-getD (p .symmetries) e [] le)) q
+        (subst (λ (n : ℕ). q < n) size-is l))
 
     pub code-at : (q : ℕ) → q < variables * values → at images (192 * e + pairCode values q) ≡ pairCode values (at (symmetryAt p e) q)
     unfolding pair
@@ -84,15 +75,18 @@ module _ {p : Problem} {images : List ℕ} {variables values : ℕ} (h : Held p 
       agree-turn c u lc z e = code-same (at (symmetryAt p b) (at (symmetryAt p a) q)) (at (symmetryAt p c) q) (both-lt q l) (goes-lt c lc q l) (sym y ∙ e ∙ z)
 
       pub agree-not : (c u : ℕ) → u ≡ pairCode values (at (symmetryAt p c) q) → (t ≡ u → ⊥) → false ≡ makes p (symmetryAt p a) (symmetryAt p b) (symmetryAt p c)
-      agree-not c u z n = sym (not-of (makes p (symmetryAt p a) (symmetryAt p b) (symmetryAt p c)) (λ k. n (y ∙ ap (pairCode values) (makes-e p (symmetryAt p a) (symmetryAt p b) (symmetryAt p c) k q (subst (λ (m : ℕ). q < m) size-is l)) ∙ sym z)))
+      agree-not c u z n = sym (not-of (makes p (symmetryAt p a) (symmetryAt p b) (symmetryAt p c))
+          (λ k. n (y ∙ ap (pairCode values) (makes-e p (symmetryAt p a) (symmetryAt p b) (symmetryAt p c) k q (subst (λ (m : ℕ). q < m) size-is l)) ∙ sym z)))
 
       pub stay-turn : (u : ℕ) → u ≡ pairCode values q → t ≡ u → at (symmetryAt p b) (at (symmetryAt p a) q) ≡ q
       stay-turn u z e = code-same (at (symmetryAt p b) (at (symmetryAt p a) q)) q (both-lt q l) l (sym y ∙ e ∙ z)
 
       pub stay-not : (u : ℕ) → u ≡ pairCode values q → (t ≡ u → ⊥) → false ≡ movesNothing p (symmetryAt p a) (symmetryAt p b)
-      stay-not u z n = sym (not-of (movesNothing p (symmetryAt p a) (symmetryAt p b)) (λ k. n (y ∙ ap (pairCode values) (nothing-e p (symmetryAt p a) (symmetryAt p b) k q (subst (λ (m : ℕ). q < m) size-is l)) ∙ sym z)))
+      stay-not u z n = sym (not-of (movesNothing p (symmetryAt p a) (symmetryAt p b)) (λ k. n
+          (y ∙ ap (pairCode values) (nothing-e p (symmetryAt p a) (symmetryAt p b) k q (subst (λ (m : ℕ). q < m) size-is l)) ∙ sym z)))
 
-    pub agree-all : (c q : ℕ) → variables * values ≤ q → ((k : ℕ) → k < q → at (symmetryAt p b) (at (symmetryAt p a) k) ≡ at (symmetryAt p c) k) → true ≡ makes p (symmetryAt p a) (symmetryAt p b) (symmetryAt p c)
+    pub agree-all : (c q : ℕ) → variables * values ≤ q → ((k : ℕ) → k < q → at (symmetryAt p b) (at (symmetryAt p a) k) ≡ at (symmetryAt p c) k) → true ≡ makes p (symmetryAt p a) (symmetryAt p b)
+        (symmetryAt p c)
     agree-all c q l i = sym (of-T (makes p (symmetryAt p a) (symmetryAt p b) (symmetryAt p c)) (makes-i p (symmetryAt p a) (symmetryAt p b) (symmetryAt p c) (λ k m. i k (omega (arith, size-is)))))
 
     pub stay-all : (q : ℕ) → variables * values ≤ q → ((k : ℕ) → k < q → at (symmetryAt p b) (at (symmetryAt p a) k) ≡ k) → true ≡ movesNothing p (symmetryAt p a) (symmetryAt p b)
@@ -114,10 +108,13 @@ module _ (p : Problem) (a b : ℕ) where
 
   pub made-one : (c : ℕ) → c < length (p .symmetries) → true ≡ makes p (symmetryAt p a) (symmetryAt p b) (symmetryAt p c) → true ≡ made p a b
   unfolding made
-  made-one c l e = sym (of-T (made p a b) (either-r (movesNothing p (symmetryAt p a) (symmetryAt p b)) (any (makes p (symmetryAt p a) (symmetryAt p b)) (p .symmetries)) (any-i (makes p (symmetryAt p a) (symmetryAt p b)) (p .symmetries) (symmetryAt p c) (mem-getD (p .symmetries) c [] l) (subst T e tt))))
+  made-one c l e = sym (of-T (made p a b) (either-r (movesNothing p (symmetryAt p a) (symmetryAt p b)) (any (makes p (symmetryAt p a) (symmetryAt p b)) (p .symmetries))
+      (any-i (makes p (symmetryAt p a) (symmetryAt p b)) (p .symmetries) (symmetryAt p c) (mem-getD (p .symmetries) c [] l) (subst T e tt))))
 
-  pub made-not : false ≡ movesNothing p (symmetryAt p a) (symmetryAt p b) → ((k : ℕ) → k < length (p .symmetries) → makes p (symmetryAt p a) (symmetryAt p b) (symmetryAt p k) ≡ false) → false ≡ made p a b
+  pub made-not : false ≡ movesNothing p (symmetryAt p a) (symmetryAt p b) → ((k : ℕ) → k < length (p .symmetries) → makes p (symmetryAt p a) (symmetryAt p b) (symmetryAt p k) ≡ false)
+      → false ≡ made p a b
   unfolding made
   made-not e h =
       let f = makes p (symmetryAt p a) (symmetryAt p b) in
-      sym (not-of (made p a b) (λ t. ⊎-elim {C = ⊥} (λ r. subst T (sym e) r) (λ r. let q = any-e f (p .symmetries) r in let i = place-of (p .symmetries) (q .0) [] (q .1) in subst T (ap f (sym (i .2)) ∙ h (i .0) (i .1)) (q .2)) (either-e (movesNothing p (symmetryAt p a) (symmetryAt p b)) (any f (p .symmetries)) t)))
+      sym (not-of (made p a b) (λ t. ⊎-elim {C = ⊥} (λ r. subst T (sym e) r) (λ r. let q = any-e f (p .symmetries) r in let i = place-of (p .symmetries) (q .0) [] (q .1) in subst T
+      (ap f (sym (i .2)) ∙ h (i .0) (i .1)) (q .2)) (either-e (movesNothing p (symmetryAt p a) (symmetryAt p b)) (any f (p .symmetries)) t)))

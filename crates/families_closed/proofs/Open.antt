@@ -1,21 +1,12 @@
 -- The first two that aren't closed (specs/Open). Assumes nothing.
-use mathlib.Core.Path.{_≡_, refl, sym, ap, _∙_, subst, subst₂}
-use mathlib.Core.Bool.{Bool, true, false, not}
-use mathlib.Core.Logic.{_⊎_, inl, inr, ⊎-elim}
-use mathlib.Core.List.{List, [], List·Memᴰ}
-use Prim.Native.Nat.{ℕ, zero, suc, _+_, _*_, _/_, _%_, _≤_, _<_}
-use native.Mathlib.Nat.{mul-add-div-right, mul-add-mod-self-right, mod-eq-of-lt, div-eq-of-lt, div-add-mod', div-lt-iff-lt-mul, mod-lt, mul-le-mul-right, add-zero}
-use native.Mathlib.Omega.{arith}
-use lib.ListN.{length}
-use lib.Dec.{T, ltb}
-use borrow.Author.Tests.{ltb-true, ltb-false, le-ltb}
-use Rattle.model.specs.Lists.{any}
-use Rattle.model.specs.Problem.{Problem}
-use Rattle.arrays.specs.Layout.{symmetryAt}
+use Rattle.model.specs.Kit.{_≡_, refl, sym, ap, _∙_, subst, subst₂, Bool, true, false, not, _⊎_, inl, inr, ⊎-elim, List, [], List·Memᴰ, ℕ, zero, suc, _+_, _*_, _/_, _%_, _≤_, _<_}
+use Rattle.model.specs.Kit.{mod-eq-of-lt, mul-le-mul-right, arith, length, T, ltb, ltb-true, ltb-false, le-ltb}
+use native.Mathlib.Nat.{mul-add-div-right, mul-add-mod-self-right, div-eq-of-lt, div-add-mod', div-lt-iff-lt-mul, mod-lt, add-zero}
+use Rattle.model.specs.{Lists.any, Problem.Problem, Problem.symmetryAt}
 use Rattle.families.specs.Families.{Makes, MovesNothing, Closed, makes, movesNothing}
 use Rattle.families.proofs.Closed.{makes-i, makes-e, nothing-i, nothing-e}
-use Rattle.model.proofs.Lists.{of-T, T-of, either-e, either-l, either-r, any-e, any-i, mem-getD, place-of}
-use Rattle.model.proofs.Masks.{least-none, least-at, least-below, least-is}
+use Rattle.model.proofs.{Lists.of-T, Lists.T-of, Lists.either-e, Lists.either-l, Lists.either-r, Lists.any-e, Lists.any-i, Lists.mem-getD, Lists.place-of, Masks.least-none}
+use Rattle.model.proofs.Masks.{least-at, least-below, least-is}
 use Rattle.families_closed.specs.Open.{made, firstMissing, none, two, firstOpen, Open-none, FirstOpen, Open-first}
 
 pub not-false : (b : Bool) → not b ≡ false → b ≡ true
@@ -72,7 +63,8 @@ module _ (p : Problem) where
 
   made-below : (c d : ℕ) → c < g → d < g → c * g + d < firstMissing p → T (made p c d)
   unfolding firstMissing
-  made-below c d l k h = subst₂ (λ (a b : ℕ). T (made p a b)) (pair-first c d k) (pair-second c d k) (T-of (made p ((c * g + d) / g) ((c * g + d) % g)) (not-false (made p ((c * g + d) / g) ((c * g + d) % g)) (least-below (g * g) missing (c * g + d) h)))
+  made-below c d l k h = subst₂ (λ (a b : ℕ). T (made p a b)) (pair-first c d k) (pair-second c d k)
+      (T-of (made p ((c * g + d) / g) ((c * g + d) % g)) (not-false (made p ((c * g + d) / g) ((c * g + d) % g)) (least-below (g * g) missing (c * g + d) h)))
 
   -- none is missing: closed
   closed-of : g * g ≤ firstMissing p → Closed p
@@ -103,7 +95,8 @@ module _ (p : Problem) where
     first = pair-parts g m h .1;
     second = pair-parts g m h .2;
     missing = not-true (made p (m / g) (m % g)) is;
-    before = λ c d l k o. made-below c d l k (⊎-elim {C = c * g + d < m} (λ a. let z : suc c * g ≤ m / g * g = mul-le-mul-right g a in omega (arith, whole, k)) (λ a. let z : c * g ≡ m / g * g = ap (λ (n : ℕ). n * g) (a .0) in omega (arith, whole, a .1)) o);
+    before = λ c d l k o. made-below c d l k (⊎-elim {C = c * g + d < m} (λ a. let z : suc c * g ≤ m / g * g = mul-le-mul-right g a in omega (arith, whole, k))
+        (λ a. let z : c * g ≡ m / g * g = ap (λ (n : ℕ). n * g) (a .0) in omega (arith, whole, a .1)) o);
   }
     where
       m : ℕ
@@ -128,7 +121,11 @@ module _ (p : Problem) where
 
 pub open-none : Open-none
 unfolding firstOpen
-open-none p = (λ e. closed-of p (go (ltb (firstMissing p) (n * n)) refl e), λ c. ap (λ (b : Bool). elim b [ true ↦ two (firstMissing p / n) (firstMissing p % n) | false ↦ none ]) (le-ltb (firstMissing p) (n * n) (let z = missing-none p c in omega arith)))
+open-none p = (
+  λ e. closed-of p (go (ltb (firstMissing p) (n * n)) refl e),
+  λ c. ap (λ (b : Bool). elim b [ true ↦ two (firstMissing p / n) (firstMissing p % n) | false ↦ none ])
+      (le-ltb (firstMissing p) (n * n) (let z = missing-none p c in omega arith)),
+)
   where
     n : ℕ
     n = length (p .symmetries)

@@ -1,34 +1,17 @@
 -- The test of a run that is lent a sheet, pairs and a block: its arrays, and its answer. Assumes nothing.
-use mathlib.Core.Path.{_≡_, refl, sym, ap, ap₂, _∙_, subst₂}
-use mathlib.Core.Bool.{Bool, true, false}
-use mathlib.Core.List.{List, [], _∷_}
-use Prim.Native.Nat.{ℕ, _*_, _/_, _%_, _≤_, _<_}
-use native.Mathlib.Omega.{arith}
-use lib.Dec.{T}
-use lib.ListN.{length, getD, length-append}
-use borrow.Author.Tests.{lt-ltb, le-ltb}
-use Rattle.model.specs.Lists.{at}
-use Rattle.model.specs.Problem.{Problem}
-use Rattle.model.specs.Verdict.{Verdict, accepted, refused, isAccepted, reply}
-use Rattle.model.specs.Sheet.{problemOf}
-use Rattle.model.specs.WellFormed.{WellFormed}
-use Rattle.model.proofs.Lists.{length-below}
-use Rattle.model.proofs.Accepted.{constraints-are, symmetries-are}
-use Rattle.sheet.specs.Meaning as sheet
-use Rattle.sheet.specs.declared.Answer.{Answer}
-use Rattle.sheet.specs.declared.Answer.the-variants.{Accepted}
+use Rattle.model.specs.Kit.{_≡_, refl, sym, ap, ap₂, _∙_, subst₂, Bool, true, false, List, [], _∷_, ℕ, _*_, _/_, _%_, _≤_, _<_, arith, T, length, getD, length-append, lt-ltb}
+use Rattle.model.specs.Kit.{le-ltb}
+use Rattle.model.specs.{Lists.at, Problem.Problem, Verdict.Verdict, Verdict.accepted, Verdict.refused, Verdict.isAccepted, Verdict.reply, Sheet.problemOf, WellFormed.WellFormed}
+use Rattle.model.proofs.{Lists.length-below, Accepted.constraints-are, Accepted.symmetries-are, Accepted.accepted-is, Accepted.is-accepted}
+use Rattle.sheet.specs.{declared.Answer.Answer, declared.Answer.the-variants.Accepted}
 use Rattle.block.specs.Block.{factorial, orderingTable, blockTables, tablesLent, blockLent, withLent}
-use Rattle.block.proofs.Orderings.{factorial-le}
-use Rattle.block.proofs.Block.{block-e}
-use Rattle.block.proofs.BlockLent.{is-accepted}
-use Rattle.arrays_block.specs.Asked.{Imaged, PutOn}
-use Rattle.run_input.specs.Lent.{verdictLent, problemWith}
-use Rattle.run_input.specs.Compile.{AskedLent}
-use Rattle.run_input.proofs.Lent.{passed-all, lent-passed, well-sheet, well-lent}
-use Rattle.families_closed.specs.Open.{firstMissing, none, two, firstOpen}
-use Rattle.families_closed.specs.Held.{Held, Passed}
+use Rattle.block.proofs.{Orderings.factorial-le, Block.block-e}
+use Rattle.arrays_block.specs.inner.Asked.{Imaged, PutOn}
+use Rattle.run_input.specs.{Lent.verdictLent, Lent.problemWith, inner.Compile.AskedLent}
+use Rattle.run_input.proofs.Lent.{lent-passed, well-sheet, well-lent}
+use Rattle.families_closed.specs.{Open.firstMissing, Open.none, Open.two, Open.firstOpen, inner.Held.Held, inner.Held.Passed, Lent.Told, Lent.told, Lent.closedLent}
 use Rattle.families_closed.proofs.Open.{open-first}
-use Rattle.families_closed.specs.Lent.{Told, told, closedLent}
+use Rattle.sheet.specs.Meaning as sheet
 
 -- ---- the first two from their number
 module _ (p : Problem) (n k : ℕ) (e : n ≡ length (p .symmetries)) (f : k ≡ firstMissing p) where
@@ -37,7 +20,8 @@ module _ (p : Problem) (n k : ℕ) (e : n ≡ length (p .symmetries)) (f : k ≡
   open-two l =
       let g = length (p .symmetries) in
       let h : firstMissing p < g * g = subst₂ (λ (i j : ℕ). i < j * j) f e l in
-      ap₂ (λ (i j : ℕ). told (two (j / i) (j % i))) e f ∙ ap told (sym (ap (λ (t : Bool). elim t [ true ↦ two (firstMissing p / g) (firstMissing p % g) | false ↦ none ]) (lt-ltb (firstMissing p) (g * g) h)))
+      ap₂ (λ (i j : ℕ). told (two (j / i) (j % i))) e f ∙ ap told (sym (ap (λ (t : Bool). elim t [ true ↦ two (firstMissing p / g) (firstMissing p % g) | false ↦ none ])
+      (lt-ltb (firstMissing p) (g * g) h)))
 
   pub open-no : n * n ≤ k → told none ≡ told (firstOpen p)
   unfolding firstOpen
@@ -49,7 +33,7 @@ module _ (p : Problem) (n k : ℕ) (e : n ≡ length (p .symmetries)) (f : k ≡
 -- ---- the arrays
 module _ (b pairs block numbers images : List ℕ) (h : Passed b pairs block numbers images) where
   good : T (isAccepted (verdictLent b pairs block))
-  good = passed-all (verdictLent b pairs block) (h .verdict)
+  good = is-accepted (verdictLent b pairs block) (h .verdict)
 
   pub imaged-of : Imaged (problemOf b) numbers images
   imaged-of =
@@ -71,7 +55,7 @@ module _ (b pairs block numbers images : List ℕ) (h : Passed b pairs block num
       }
 
   pub block-passed : blockLent (problemOf b) block ≡ accepted
-  block-passed = is-accepted (blockLent (problemOf b) block) (lent-passed b pairs block good .blocked)
+  block-passed = accepted-is (blockLent (problemOf b) block) (lent-passed b pairs block good .blocked)
 
   pub held-of : (images′ : List ℕ) (n : ℕ) → PutOn (withLent block (problemOf b)) images images′ n → Held (problemWith b block) images′ (getD numbers 64 0) (getD numbers 65 0)
   unfolding at
@@ -106,12 +90,12 @@ told-few b pairs block first second e = go (verdictLent b pairs block) refl e
   where
     go : (v : Verdict) → verdictLent b pairs block ≡ v → told (two first second) ≡ reply v (firstOpen (problemWith b block)) → (first < 136) × (second < 136)
     go accepted q t =
-        let good = passed-all (verdictLent b pairs block) q in
+        let good = is-accepted (verdictLent b pairs block) q in
         let x = lent-passed b pairs block good in
         let o = open-first (problemWith b block) first second (let z : firstOpen (problemWith b block) ≡ two first second = cc in z) in
         let l = length-append (problemOf b .symmetries) (tablesLent (problemOf b) block) in
         let m = symmetries-are b in
         let g = x .sheet .header .symmetries in
-        let n = tables-few (problemOf b) (well-sheet b pairs block good) block (is-accepted (blockLent (problemOf b) block) (x .blocked)) in
+        let n = tables-few (problemOf b) (well-sheet b pairs block good) block (accepted-is (blockLent (problemOf b) block) (x .blocked)) in
         (omega (arith, o .first), omega (arith, o .second))
     go (refused number item) q t = absurd (let z : _≡_ {A = ℕ} 0 1 = cc in omega arith)

@@ -1,15 +1,10 @@
 -- A call of `closed`: a sheet, pairs and a block, and the answer. It is the function's contract. And what a caller may rely on (paper 02, #112);
 -- proofs/Calls has the theorem.
-use mathlib.Core.Path.{_≡_}
-use mathlib.Core.Logic.{_↔_}
-use mathlib.Core.List.{List}
-use Prim.Native.Nat.{ℕ}
+use Rattle.model.specs.Kit.{_≡_, _↔_, List, ℕ}
 use Rattle.model.specs.Verdict.{accepted, refused}
 use Rattle.run_input.specs.Lent.{verdictLent, problemWith}
 use Rattle.families.specs.Families.{Closed}
-use Rattle.families_closed.specs.Open.{FirstOpen}
-use Rattle.families_closed.specs.Lent.{means, closedLent}
-use Rattle.families_closed.specs.declared.Answer.{Answer}
+use Rattle.families_closed.specs.{Open.FirstOpen, Lent.means, Lent.closedLent, declared.Answer.Answer}
 use Rattle.families_closed.specs.declared.Answer.the-variants as A
 
 abbrev pub CallClosed : List ℕ → List ℕ → List ℕ → Answer → Type 0

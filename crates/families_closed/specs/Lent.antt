@@ -1,12 +1,10 @@
 -- Are the exchanges of a run closed that is lent a sheet, pairs and a block (paper 02, #112)? The exchanges are the sheet's own, then the block's rows.
-use mathlib.Core.List.{List}
-use Prim.Native.Nat.{ℕ}
+use Rattle.model.specs.Kit.{List, ℕ}
 use Rattle.model.specs.Verdict.{reply}
-pub use Rattle.model.specs.Verdict.{Reply, refusal, answered}
 use Rattle.run_input.specs.Lent.{verdictLent, problemWith}
-use Rattle.families_closed.specs.Open.{Open, none, two, firstOpen}
-use Rattle.families_closed.specs.declared.Answer.{Answer}
-use Rattle.families_closed.specs.declared.Answer.the-variants.{Closed, Missing, Refused}
+use Rattle.families_closed.specs.{Open.Open, Open.none, Open.two, Open.firstOpen, declared.Answer.Answer, declared.Answer.the-variants.Closed}
+use Rattle.families_closed.specs.declared.Answer.the-variants.{Missing, Refused}
+pub use Rattle.model.specs.Verdict.{Reply, refusal, answered}
 
 -- the refusal of such a run, or the first two exchanges whose product is missing
 abbrev pub Told : Type 0

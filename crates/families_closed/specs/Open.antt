@@ -1,14 +1,6 @@
 -- Are the symmetries closed (paper 02, #112), and if not, which are the first two whose product is missing? The proofs are in proofs/Open.antt.
-use mathlib.Core.Path.{_≡_}
-use mathlib.Core.Bool.{Bool, true, false, not}
-use mathlib.Core.Logic.{_↔_, _⊎_}
-use Prim.Native.Nat.{ℕ, _*_, _/_, _%_, _<_}
-use lib.ListN.{length}
-use lib.Dec.{T, ltb}
-use Rattle.model.specs.Lists.{either, any}
-use Rattle.model.specs.ValueSets.{least}
-use Rattle.model.specs.Problem.{Problem}
-use Rattle.arrays.specs.Layout.{symmetryAt}
+use Rattle.model.specs.Kit.{_≡_, Bool, true, false, not, _↔_, _⊎_, ℕ, _*_, _/_, _%_, _<_, length, T, ltb}
+use Rattle.model.specs.{Lists.either, Lists.any, ValueSets.least, Problem.Problem, Problem.symmetryAt}
 use Rattle.families.specs.Families.{Closed, makes, movesNothing}
 
 -- symmetry a and then symmetry b move nothing, or make one of the symmetries

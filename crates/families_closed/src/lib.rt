@@ -4,12 +4,13 @@ ghost use Prim.Native.Nat.{ℕ, _+_, _*_, _≤_, _<_};
 ghost use lib.ListN.{length};
 ghost use Rattle.model.specs.Lists.{at};
 ghost use Rattle.model.specs.Problem.{Problem};
-ghost use Rattle.arrays.specs.Layout.{symmetryAt, pairCode};
+ghost use Rattle.arrays.specs.inner.Layout.{pairCode};
+ghost use Rattle.model.specs.Problem.{symmetryAt};
 ghost use Rattle.families.specs.Families.{makes, movesNothing};
 ghost use mathlib.Core.List.{List};
 ghost use Rattle.run_input.specs.Lent.{problemWith};
 ghost use Rattle.families_closed.specs.Open.{made, firstMissing, firstOpen};
-ghost use Rattle.families_closed.specs.Held.{Held, Passed};
+ghost use Rattle.families_closed.specs.inner.Held.{Held, Passed};
 ghost use Rattle.families_closed.specs.Lent.{told, means};
 ghost use Rattle.families_closed.specs.Calls.{CallClosed};
 use arrays::IMAGES;
@@ -45,8 +46,10 @@ fn goes(images: &Images, e: usize, code: usize) -> usize
 
 // Whether symmetry a and then symmetry b take each number to where symmetry c takes it.
 fn makes_one(images: &Images, variables: usize, values: usize, a: usize, b: usize, c: usize) -> bool
-    requires { ⌜ ((p : Problem) × Held p (now images) variables values × (a < length (p .symmetries)) × (b < length (p .symmetries)) × (c < length (p .symmetries))) ⌝ }
-    ensures { λ r. ⌜ ((p : Problem) → Held p (now (images .entry)) variables values → a < length (p .symmetries) → b < length (p .symmetries) → c < length (p .symmetries) → r ≡ makes p (symmetryAt p a) (symmetryAt p b) (symmetryAt p c)) ⌝ }
+    requires { ⌜ ((p : Problem) × Held p (now images) variables values × (a < length (p .symmetries)) × (b < length (p .symmetries)) ×
+        (c < length (p .symmetries))) ⌝ }
+    ensures { λ r. ⌜ ((p : Problem) → Held p (now (images .entry)) variables values → a < length (p .symmetries) → b < length (p .symmetries) → c < length
+        (p .symmetries) → r ≡ makes p (symmetryAt p a) (symmetryAt p b) (symmetryAt p c)) ⌝ }
 {
     let size = variables * values;
     let mut q = 0;
@@ -63,7 +66,8 @@ fn makes_one(images: &Images, variables: usize, values: usize, a: usize, b: usiz
 // Whether symmetry a and then symmetry b leave each number where it is.
 fn moves_none(images: &Images, variables: usize, values: usize, a: usize, b: usize) -> bool
     requires { ⌜ ((p : Problem) × Held p (now images) variables values × (a < length (p .symmetries)) × (b < length (p .symmetries))) ⌝ }
-    ensures { λ r. ⌜ ((p : Problem) → Held p (now (images .entry)) variables values → a < length (p .symmetries) → b < length (p .symmetries) → r ≡ movesNothing p (symmetryAt p a) (symmetryAt p b)) ⌝ }
+    ensures { λ r. ⌜ ((p : Problem) → Held p (now (images .entry)) variables values → a < length (p .symmetries) → b < length (p .symmetries)
+        → r ≡ movesNothing p (symmetryAt p a) (symmetryAt p b)) ⌝ }
 {
     let size = variables * values;
     let mut q = 0;
@@ -87,7 +91,8 @@ fn is_made(
     b: usize,
 ) -> bool
     requires { ⌜ ((p : Problem) × Held p (now images) variables values × (symmetries ≡ length (p .symmetries)) × (a < symmetries) × (b < symmetries)) ⌝ }
-    ensures { λ r. ⌜ ((p : Problem) → Held p (now (images .entry)) variables values → symmetries ≡ length (p .symmetries) → a < symmetries → b < symmetries → r ≡ made p a b) ⌝ }
+    ensures { λ r. ⌜ ((p : Problem) → Held p (now (images .entry)) variables values → symmetries ≡ length (p .symmetries) → a < symmetries → b < symmetries
+        → r ≡ made p a b) ⌝ }
 {
     if moves_none(images, variables, values, a, b) {
         return true;
@@ -142,7 +147,8 @@ fn two_of(symmetries: usize, k: usize) -> Answer
 // The test of a run whose questions are passed.
 fn test(block: &[u8], numbers: &Numbers, images: &mut Images) -> Answer
     requires { ⌜ ((b : List ℕ) × (pairs : List ℕ) × Passed b pairs (now block) (now numbers) (now images)) ⌝ }
-    ensures { λ r. ⌜ ((b pairs : List ℕ) → Passed b pairs (now (block .entry)) (now (numbers .entry)) (now (images .entry)) → means r ≡ told (firstOpen (problemWith b (now (block .entry))))) ⌝ }
+    ensures { λ r. ⌜ ((b pairs : List ℕ) → Passed b pairs (now (block .entry)) (now (numbers .entry)) (now (images .entry)) → means r ≡ told
+        (firstOpen (problemWith b (now (block .entry))))) ⌝ }
 {
     let symmetries = arrays_block::put_images(block, numbers, images);
     let variables = numbers[VARIABLES] as usize;

@@ -1,31 +1,18 @@
 -- A run on the arrays of a problem that has no block (specs/Held). Assumes nothing.
-use mathlib.Core.Path.{_≡_, refl, sym, ap, _∙_, subst, subst₂}
-use mathlib.Core.Bool.{Bool, true, false}
-use mathlib.Core.List.{List, map}
-use Prim.Native.Nat.{ℕ, _^_, _<_}
-use native.Mathlib.Omega.{arith}
-use lib.Dec.{eqb}
-use borrow.Author.Tests.{eqb-true, eqb-false}
-use lib.ListN.{length, set, length-set}
-use Rattle.model.specs.Lists.{at, below}
-use Rattle.model.specs.Problem.{Problem}
-use Rattle.model.specs.Run.{resultOf, written, Tally}
+use Rattle.model.specs.Kit.{_≡_, refl, sym, ap, _∙_, subst, subst₂, Bool, true, false, List, map, ℕ, _^_, _<_, arith, eqb, eqb-true, eqb-false, length, set, length-set}
+use Rattle.model.specs.{Lists.at, Lists.below, Problem.Problem, Run.resultOf, Run.written, Run.Tally}
 use Rattle.model.proofs.Lists.{at-set, at-set-other}
-use Rattle.order.specs.Reordered.{write}
-use Rattle.order.specs.RunBy.{resultBy}
-use Rattle.order.proofs.LeadersBy.{ordering-below, reordered-below}
-use Rattle.order.proofs.RunBy.{same-result}
-use Rattle.arrays.specs.Places.{LIMIT, ROOM, PLANS, DEEPER, NUMBERS}
-use Rattle.arrays.specs.Layout.{Compiled}
-use Rattle.run_state.specs.Walk.{noNodes, tallyBy}
-use Rattle.run_state.specs.Pair.{ListRoom, AtPrefix}
-use Rattle.run_search.specs.Begun.{Laid, Writable, Begun, Ended}
-use Rattle.run_search.proofs.Begun.{numbers-kept, laid-alone}
-use Rattle.run_search.proofs.Explored.{ran-tree}
+use Rattle.order.specs.{Reordered.write, RunBy.resultBy}
+use Rattle.order.proofs.{LeadersBy.ordering-below, LeadersBy.reordered-below, RunBy.same-result}
+use Rattle.arrays.specs.{inner.Places.LIMIT, inner.Places.ROOM, inner.Places.PLANS, inner.Places.DEEPER, inner.Places.NUMBERS, inner.Layout.Compiled}
+use Rattle.run_state.specs.{Walk.noNodes, Walk.tallyBy, inner.Pair.ListRoom, inner.Pair.AtPrefix}
+use Rattle.run_search.specs.inner.Begun.{Laid, Writable, Begun, Ended}
+use Rattle.run_search.proofs.{Begun.numbers-kept, Begun.laid-alone, Explored.ran-tree}
 use Rattle.run.proofs.Whole.{kept-listed}
-use Rattle.families_count.specs.Held.{Runs, Ran}
+use Rattle.families_count.specs.inner.Held.{Runs, Ran}
 
-module _ (p : Problem) (stack work supports tables numbers images list : List ℕ) (h : Runs p stack work supports tables numbers images list) (limit : ℕ) (bounded : List ℕ) (put : bounded ≡ set (set numbers LIMIT limit) ROOM 4096) where
+module _ (p : Problem) (stack work supports tables numbers images list : List ℕ) (h : Runs p stack work supports tables numbers images list) (limit : ℕ) (bounded : List ℕ)
+    (put : bounded ≡ set (set numbers LIMIT limit) ROOM 4096) where
   same₀ : (i : ℕ) → i < LIMIT → at bounded i ≡ at numbers i
   same₀ i l = ap (λ (l : List ℕ). at l i) put ∙ at-set-other (set numbers LIMIT limit) ROOM 4096 i (λ e. omega arith) ∙ at-set-other numbers LIMIT limit i (λ e. omega arith)
 
@@ -39,7 +26,12 @@ module _ (p : Problem) (stack work supports tables numbers images list : List �
   at-room = ap (λ (l : List ℕ). at l ROOM) put ∙ at-set (set numbers LIMIT limit) ROOM 4096 (let l = length-set numbers LIMIT limit in let e = h .long in omega arith)
 
   compiled₀ : Compiled p bounded supports images
-  compiled₀ = record { numbered = numbers-kept p numbers bounded (h .limits .wellFormed .few) (h .limits .constraints) (λ i l. same₀ i l) (h .compiled .numbered); supported = h .compiled .supported; imaged = h .compiled .imaged }
+  compiled₀ = record {
+    numbered = numbers-kept p numbers bounded (h .limits .wellFormed .few) (h .limits .constraints) (λ i l. same₀ i l)
+        (h .compiled .numbered);
+    supported = h .compiled .supported;
+    imaged = h .compiled .imaged;
+  }
 
   -- the search may be made ready
   pub runs-laid : (bytes : List ℕ) → (length bytes ≡ 16) × ((k : ℕ) → k < 16 → at bytes k ≡ k) → Laid p p (below (p .variables)) bounded supports images bytes 0
@@ -76,7 +68,8 @@ module _ (p : Problem) (stack work supports tables numbers images list : List �
       runs-so =
           let some = h .limits .wellFormed .some in
           let long = h .lent in
-          let r = ran-tree p (below (p .variables)) (ordering-below (p .variables) .sized) limit 4096 (length list) list (omega arith) (omega arith) (λ o. refl) work₁ (b .same PLANS (omega arith) ∙ h .begun)
+          let r = ran-tree p (below (p .variables)) (ordering-below (p .variables) .sized) limit 4096 (length list) list (omega arith) (omega arith) (λ o. refl) work₁
+          (b .same PLANS (omega arith) ∙ h .begun)
           bounded stack₁ supports tables₁ numbers₁ step work b at-limit at-room small roomy (h .begun) stack₂ work₂ list₂ tally₂ stop q in
           record {
             nodes = ap (λ (t : Tally). t .nodes) (r .tally);

@@ -1,47 +1,30 @@
 -- The figure from a bare run on the arrays (specs/Held). Assumes nothing.
-use mathlib.Core.Path.{_≡_, refl, sym, ap, _∙_, subst}
-use mathlib.Core.Logic.{inl, ⊎-elim}
-use mathlib.Core.List.{List, [], _∷_, List·Memᴰ·not-nil}
-use Prim.Native.Nat.{ℕ, _*_, _≤_}
-use native.Mathlib.Omega.{arith}
-use lib.Dec.{T}
-use lib.ListN.{length, set, replicate, length-map, length-set, length-replicate}
+use Rattle.model.specs.Kit.{_≡_, refl, sym, ap, _∙_, subst, inl, ⊎-elim, List, [], _∷_, List·Memᴰ·not-nil, ℕ, _*_, _≤_, arith, T, length, set, replicate, length-map, length-set}
+use Rattle.model.specs.Kit.{length-replicate}
 use types.Run.{OneOf}
 use denote.Enum.Declared.{tagOf}
-use Rattle.model.specs.Lists.{at}
-use Rattle.model.specs.Problem.{Problem}
-use Rattle.model.specs.WellFormed.{WellFormed}
-use Rattle.model.specs.Verdict.{Verdict, accepted, refused, isAccepted, reply}
-use Rattle.model.specs.Sheet.{problemOf, verdictOf}
-use Rattle.model.specs.Run.{Ending, finished, spent, full, plansIn, nodesIn, resultOf, Tally}
-use Rattle.model.proofs.Accepted.{passed, constraints-are, symmetries-are}
-use Rattle.model.proofs.Lists.{at-set}
-use Rattle.order.specs.Reordered.{constraintIn}
-use Rattle.order.specs.RunBy.{Input, resultBy}
+use Rattle.model.specs.{Lists.at, Problem.Problem, WellFormed.WellFormed, Verdict.Verdict, Verdict.accepted, Verdict.refused, Verdict.isAccepted, Verdict.reply, Sheet.problemOf}
+use Rattle.model.specs.{Sheet.verdictOf, Run.Ending, Run.finished, Run.spent, Run.full, Run.plansIn, Run.nodesIn, Run.resultOf, Run.Tally}
+use Rattle.model.proofs.{Accepted.passed, Accepted.constraints-are, Accepted.symmetries-are, Accepted.is-accepted, Lists.at-set}
+use Rattle.order.specs.{Reordered.constraintIn, RunBy.Input, RunBy.resultBy}
 use Rattle.order.proofs.Reordered.{well-reordered}
-use Rattle.arrays.specs.Places.{VARIABLES, SYMMETRIES, PLANS, ALL, SPENT, FULL, STACK, TABLES, WORK}
-use Rattle.arrays.specs.Layout.{Compiled}
+use Rattle.arrays.specs.inner.Places.{VARIABLES, SYMMETRIES, PLANS, ALL, SPENT, FULL, STACK, TABLES, WORK}
+use Rattle.arrays.specs.inner.Layout.{Compiled}
 use Rattle.block.proofs.Tables.{well-formed-with}
 use Rattle.run_input.specs.Lent.{verdictLent, problemWith, orderLent, problemLent}
-use Rattle.run_input.proofs.Lent.{passed-all, lent-passed, well-lent, ordering-lent, nothing-lent}
-use Rattle.families.specs.Families.{familiesOf}
-use Rattle.families.specs.Numbered.{Counted}
+use Rattle.run_input.proofs.Lent.{lent-passed, well-lent, ordering-lent, nothing-lent}
+use Rattle.families.specs.{Families.familiesOf, inner.Numbered.Counted}
 use Rattle.families_figure.specs.Figure.{number, dash, familiesLent, reportFigure}
-use Rattle.families_figure.proofs.FamiliesLent.{families-lent}
-use Rattle.families_figure.proofs.Counting.{bareLent, figure-counted, figure-number, figure-none, figure-dash, figure-few}
+use Rattle.families_figure.proofs.{FamiliesLent.families-lent, Counting.bareLent, Counting.figure-counted, Counting.figure-number, Counting.figure-none, Counting.figure-dash}
+use Rattle.families_figure.proofs.Counting.{figure-few}
 use Rattle.sheet.proofs.Whole.{zeros}
-use Rattle.run_state.specs.Walk.{stopIn}
-use Rattle.run_state.specs.Meaning.{endingOf}
-use Rattle.run_state.specs.declared.Ending as S
-use Rattle.run_state.specs.declared.Ending.the-variants.{Finished, Spent, Full}
+use Rattle.run_state.specs.{Walk.stopIn, Meaning.endingOf, declared.Ending.the-variants.Finished, declared.Ending.the-variants.Spent, declared.Ending.the-variants.Full}
 use Rattle.run_state.proofs.Ending.{the-type}
-use Rattle.families_count.specs.Told.{Told, told, countedLent}
-use Rattle.families_count.specs.Told as T
-use Rattle.families_count.specs.Held.{Roomy, Runs, Ran, Put, Whole, Listed}
+use Rattle.families_count.specs.{Told.Told, Told.told, Told.countedLent, inner.Held.Roomy, inner.Held.Runs, inner.Held.Ran, inner.Held.Put, inner.Held.Whole}
+use Rattle.families_count.specs.inner.Held.{Listed}
 use Rattle.families_count.proofs.Images.{numbers-with}
-
-accepted-of : (b : List ℕ) → verdictOf b ≡ accepted → T (isAccepted (verdictOf b))
-accepted-of b e = subst (λ (v : Verdict). T (isAccepted v)) (sym e) tt
+use Rattle.run_state.specs.declared.Ending as S
+use Rattle.families_count.specs.Told as T
 
 -- room for the plans
 pub room-long : (r : List ℕ) → r ≡ replicate 49152 0 → 49152 ≡ length r
@@ -59,7 +42,7 @@ module _ (b pairs block : List ℕ) (symmetries : ℕ) (stack work supports tabl
   p = problemLent b pairs block
 
   good : T (isAccepted (verdictLent b pairs block))
-  good = passed-all (verdictLent b pairs block) (h .put .verdict)
+  good = is-accepted (verdictLent b pairs block) (h .put .verdict)
 
   well : WellFormed (problemLent b pairs block)
   well = well-reordered (problemWith b block) (orderLent b pairs) (ordering-lent b pairs block good) (well-lent b pairs block good)
@@ -81,7 +64,12 @@ module _ (b pairs block : List ℕ) (symmetries : ℕ) (stack work supports tabl
     -- so the bare run may be made
     pub bare-runs : Runs (bareLent b pairs block) stack (set work PLANS 0) supports tables (set numbers SYMMETRIES 0) images list
     bare-runs = record {
-      compiled = record { numbered = numbers-with p [] numbers 0 (well .few) few-constraints (h .put .long) refl (h .put .compiled .numbered); supported = h .put .compiled .supported; imaged = λ e x v l. absurd (omega arith) };
+      compiled = record {
+        numbered = numbers-with p [] numbers 0 (well .few) few-constraints (h .put .long) refl
+            (h .put .compiled .numbered);
+        supported = h .put .compiled .supported;
+        imaged = λ e x v l. absurd (omega arith);
+      };
       limits = record { wellFormed = well-formed-with p [] well (λ g m. absurd (List·Memᴰ·not-nil m)); constraints = few-constraints; symmetries = omega arith };
       long = length-set numbers SYMMETRIES 0 ∙ h .put .long;
       writable = record { stack-length = h .writable .stack-length; work-length = length-set work PLANS 0 ∙ h .writable .work-length; tables-length = h .writable .tables-length };
@@ -89,7 +77,8 @@ module _ (b pairs block : List ℕ) (symmetries : ℕ) (stack work supports tabl
       lent = room .long ∙ ap (λ (k : ℕ). 4096 * k) (room .named);
     }
 
-    module _ (limit : ℕ) (numbers₀ stack′ work′ tables′ numbers′ list′ : List ℕ) (tally′ : Tally) (stop : ℕ) (a : Ran (bareLent b pairs block) limit numbers₀ list stack′ work′ tables′ numbers′ list′ tally′ stop) where
+    module _ (limit : ℕ) (numbers₀ stack′ work′ tables′ numbers′ list′ : List ℕ) (tally′ : Tally) (stop : ℕ)
+        (a : Ran (bareLent b pairs block) limit numbers₀ list stack′ work′ tables′ numbers′ list′ tally′ stop) where
       abbrev e : Ending
       e = resultOf (bareLent b pairs block) limit (length list) .ending
 
@@ -107,7 +96,8 @@ module _ (b pairs block : List ℕ) (symmetries : ℕ) (stack work supports tabl
             (subst (λ (k : ℕ). Counted p list′ images (p .variables) k (at work′ PLANS)) (sym (h .put .all))
             (subst (λ (k : ℕ). Counted p list′ images (p .variables) (length (p .symmetries)) k) (sym (a .plans))
             (subst (λ (l : List ℕ). Counted p l images (p .variables) (length (p .symmetries)) (plansIn e)) (sym (a .wrote))
-            (figure-counted b pairs block limit (length list) (h .put .verdict) (plansIn e) (nodesIn e) done images list (let q = room .named in let r = room .long in omega arith) (h .put .compiled .imaged) (let q = h .put .all in let l = h .put .few in omega arith)))))
+            (figure-counted b pairs block limit (length list) (h .put .verdict) (plansIn e) (nodesIn e) done images list (let q = room .named in let r = room .long in omega arith)
+            (h .put .compiled .imaged) (let q = h .put .all in let l = h .put .few in omega arith)))))
 
         pub bare-number : (k : ℕ) → k ≡ familiesOf (problemLent b pairs block) → told (number k) ≡ told (familiesLent b pairs block limit (length list))
         bare-number k q = ap told (sym (figure-number b pairs block limit (length list) (h .put .verdict) (plansIn e) (nodesIn e) done k q))
@@ -119,7 +109,8 @@ module _ (b pairs block : List ℕ) (symmetries : ℕ) (stack work supports tabl
         ∙ ap (λ (v : Verdict). reply v (familiesLent b pairs block limit (4096 * problemOf b .variables))) (sym (h .put .verdict))
 
 -- new arrays to write on
-pub new-whole : (b pairs block numbers supports images : List ℕ) (n : ℕ) → Put b pairs block numbers supports images n → Whole b pairs block n (replicate STACK 0) (replicate WORK 0) supports (replicate TABLES 0) numbers images
+pub new-whole : (b pairs block numbers supports images : List ℕ) (n : ℕ) → Put b pairs block numbers supports images n → Whole b pairs block n (replicate STACK 0) (replicate WORK 0) supports
+    (replicate TABLES 0) numbers images
 new-whole b pairs block numbers supports images n h = record { put = h; writable = record { stack-length = zeros STACK .sized; work-length = zeros WORK .sized; tables-length = zeros TABLES .sized } }
 
 -- a refusal is that of the run
@@ -151,7 +142,8 @@ module _ (b : List ℕ) (limit : ℕ) (verdict : verdictOf b ≡ accepted) where
   report-dash k = families-lent b [] [] limit (4096 * problemOf b .variables) accepts .dashed (inl (λ r. k (r .0) (r .1) (sym so-lent ∙ r .2)))
 
   -- without symmetries each plan is a family
-  report-plans : (plans nodes : ℕ) → problemOf b .symmetries ≡ [] → resultOf (problemOf b) limit (4096 * problemOf b .variables) .ending ≡ finished plans nodes → told (number plans) ≡ told (reportFigure b limit)
+  report-plans : (plans nodes : ℕ) → problemOf b .symmetries ≡ [] → resultOf (problemOf b) limit (4096 * problemOf b .variables) .ending ≡ finished plans nodes → told (number plans) ≡ told
+      (reportFigure b limit)
   report-plans plans nodes none e =
       ap told (sym (figure-none b [] [] limit (4096 * problemOf b .variables) accepts plans nodes (ap (λ (i : Input). i .problem .symmetries) (nothing-lent b .input) ∙ none) (so-lent ∙ e)))
 
@@ -182,7 +174,7 @@ module _ (b : List ℕ) (limit : ℕ) (stack work supports tables numbers images
           compiled = subst (λ (q : Problem). Compiled q numbers supports images) (sym t) (h .compiled);
           long = h .long;
           all = s ∙ ap (λ (q : Problem). length (q .symmetries)) (sym t);
-          few = let e = symmetries-are b in let f = passed b (accepted-of b (h .verdict)) .header .symmetries in omega arith;
+          few = let e = symmetries-are b in let f = passed b (is-accepted (verdictOf b) (h .verdict)) .header .symmetries in omega arith;
         };
         writable = h .writable;
       }

@@ -1,36 +1,23 @@
 -- The images under all symmetries of a run, its variables in the settling order. Assumes nothing.
-use mathlib.Core.Path.{_≡_, refl, sym, ap, _∙_, subst}
-use mathlib.Core.List.{List, [], _∷_}
-use Prim.Native.Nat.{ℕ, suc, _+_, _/_, _%_, _^_, _≤_, _<_}
-use native.Mathlib.Omega.{arith}
-use lib.Dec.{T, eqb}
-use lib.ListN.{length, set, length-map, length-set}
-use Rattle.model.specs.Lists.{any, at}
-use Rattle.model.specs.ValueSets.{has}
-use Rattle.model.specs.Problem.{Problem, withSymmetries}
-use Rattle.model.specs.Verdict.{accepted, isAccepted}
-use Rattle.model.specs.Sheet.{problemOf}
-use Rattle.model.proofs.Lists.{at-set, at-set-other}
-use Rattle.model.proofs.Accepted.{constraints-are}
-use Rattle.arrays.specs.Places.{INITIAL, SCOPES, VARIABLES, VALUES, CONSTRAINTS, SYMMETRIES, NUMBERS}
-use Rattle.arrays.specs.Layout.{constraintAt, Numbers, Compiled}
-use Rattle.order.specs.Order.{Ordering, settlingOrder}
-use Rattle.order.specs.Reordered.{reordered, symmetryIn}
-use Rattle.order.proofs.Order.{no-pairs}
-use Rattle.order.proofs.LeadersBy.{reordered-below}
-use Rattle.arrays_order.specs.Reorder.{Movable, Moved}
-use Rattle.sheet.specs.declared.Answer.{Answer}
-use Rattle.sheet.specs.declared.Answer.the-variants.{Accepted}
+use Rattle.model.specs.Kit.{_≡_, refl, sym, ap, _∙_, subst, List, [], _∷_, ℕ, suc, _+_, _/_, _%_, _^_, _≤_, _<_, arith, T, eqb, length, set, length-map, length-set}
+use Rattle.model.specs.{Lists.any, Lists.at, ValueSets.has, Problem.Problem, Problem.withSymmetries, Problem.constraintAt, Verdict.accepted, Verdict.isAccepted, Sheet.problemOf}
+use Rattle.model.proofs.{Lists.at-set, Lists.at-set-other, Accepted.constraints-are, Accepted.is-accepted}
+use Rattle.arrays.specs.inner.Places.{INITIAL, SCOPES, VARIABLES, VALUES, CONSTRAINTS, SYMMETRIES, NUMBERS}
+use Rattle.arrays.specs.inner.Layout.{Numbers, Compiled}
+use Rattle.order.specs.{Order.Ordering, Order.settlingOrder, Reordered.reordered, Reordered.symmetryIn}
+use Rattle.order.proofs.{Order.no-pairs, LeadersBy.reordered-below}
+use Rattle.arrays_order.specs.inner.Reorder.{Movable, Moved}
+use Rattle.sheet.specs.{declared.Answer.Answer, declared.Answer.the-variants.Accepted}
 use Rattle.block.specs.Block.{blockLent}
-use Rattle.arrays_block.specs.Asked.{Imaged, Put}
-use Rattle.run_input.specs.Lent.{verdictLent, problemWith, orderLent, problemLent}
-use Rattle.run_input.specs.Compile.{AskedLent}
-use Rattle.run_input.proofs.Lent.{passed-all, lent-passed, well-lent, ordering-lent}
+use Rattle.arrays_block.specs.inner.Asked.{Imaged, Put}
+use Rattle.run_input.specs.{Lent.verdictLent, Lent.problemWith, Lent.orderLent, Lent.problemLent, inner.Compile.AskedLent}
+use Rattle.run_input.proofs.Lent.{lent-passed, well-lent, ordering-lent}
 use Rattle.families_closed.proofs.Testing.{imaged-of, block-passed, passed-of}
-use Rattle.families_count.specs.Held as Held
+use Rattle.families_count.specs.inner.Held as Held
 
 -- with the number of symmetries put they hold the problem with other symmetries
-pub numbers-with : (p : Problem) (gs : List (List ℕ)) (numbers : List ℕ) (n : ℕ) → p .variables ≤ 12 → length (p .constraints) ≤ 32 → length numbers ≡ NUMBERS → n ≡ length gs → Numbers p numbers → Numbers (withSymmetries p gs) (set numbers SYMMETRIES n)
+pub numbers-with : (p : Problem) (gs : List (List ℕ)) (numbers : List ℕ) (n : ℕ) → p .variables ≤ 12 → length (p .constraints) ≤ 32 → length numbers ≡ NUMBERS → n ≡ length gs → Numbers p numbers
+    → Numbers (withSymmetries p gs) (set numbers SYMMETRIES n)
 numbers-with p gs numbers n f few long e c = record {
   touching = λ x k l h. subst (λ (s : ℕ). has s k ≡ any (eqb x) (constraintAt p k .scope)) (sym (same x (λ e. omega arith))) (c .touching x k l h);
   touching-few = λ x l. subst (λ (s : ℕ). s < 2 ^ length (p .constraints)) (sym (same x (λ e. omega arith))) (c .touching-few x l);
@@ -48,7 +35,8 @@ numbers-with p gs numbers n f few long e c = record {
     same i h = at-set-other numbers SYMMETRIES n i h
 
 -- ---- the images and the order
-pub asked-so : (b pairs block numbers supports images order : List ℕ) (r : Answer) → r ≡ Accepted → AskedLent b pairs block numbers supports images order r → AskedLent b pairs block numbers supports images order Accepted
+pub asked-so : (b pairs block numbers supports images order : List ℕ) (r : Answer) → r ≡ Accepted → AskedLent b pairs block numbers supports images order r
+    → AskedLent b pairs block numbers supports images order Accepted
 asked-so b pairs block numbers supports images order r e a = subst (AskedLent b pairs block numbers supports images order) e a
 
 module _ (b pairs block numbers supports images order : List ℕ) (a : AskedLent b pairs block numbers supports images order Accepted) where
@@ -60,7 +48,7 @@ module _ (b pairs block numbers supports images order : List ℕ) (a : AskedLent
   lent-block = block-passed b pairs block numbers images (passed-of b pairs block numbers supports images order Accepted a refl)
 
   good : T (isAccepted (verdictLent b pairs block))
-  good = passed-all (verdictLent b pairs block) (sym (a .answers))
+  good = is-accepted (verdictLent b pairs block) (sym (a .answers))
 
   module _ (images′ : List ℕ) (n : ℕ) (put : Put (problemWith b block) images′ n) where
     pub movable : Movable (problemWith b block) order (set numbers SYMMETRIES n) supports images′
@@ -73,7 +61,12 @@ module _ (b pairs block numbers supports images order : List ℕ) (a : AskedLent
         let m = put .few in
         let e = put .all in
         record {
-          compiled = record { numbered = numbers-with (problemOf b) (problemWith b block .symmetries) numbers n (w .few) (omega arith) (s .numbers-length) e (c .numbered); supported = c .supported; imaged = put .imaged };
+          compiled = record {
+            numbered = numbers-with (problemOf b) (problemWith b block .symmetries) numbers n (w .few) (omega arith) (s .numbers-length) e
+                (c .numbered);
+            supported = c .supported;
+            imaged = put .imaged;
+          };
           wellFormed = w;
           ordering = subst (Ordering (problemOf b .variables)) (sym (a .order-is refl)) (ordering-lent b pairs block good);
           constraints = omega arith;
@@ -83,7 +76,8 @@ module _ (b pairs block numbers supports images order : List ℕ) (a : AskedLent
           images-length = put .sized;
         }
 
-    pub put-moved : (numbers″ supports″ images″ : List ℕ) → Moved (problemWith b block) order (set numbers SYMMETRIES n) supports images′ numbers″ supports″ images″ → Held.Put b pairs block numbers″ supports″ images″ n
+    pub put-moved : (numbers″ supports″ images″ : List ℕ) → Moved (problemWith b block) order (set numbers SYMMETRIES n) supports images′ numbers″ supports″ images″
+        → Held.Put b pairs block numbers″ supports″ images″ n
     put-moved numbers″ supports″ images″ m = record {
       verdict = sym (a .answers);
       compiled = subst (λ (o : List ℕ). Compiled (reordered o (problemWith b block)) numbers″ supports″ images″) (a .order-is refl) (m .compiled);
@@ -107,4 +101,5 @@ module _ (b pairs block numbers supports images order : List ℕ) (a : AskedLent
         none (x ∷ l) z = absurd (omega arith)
 
         same : problemLent b pairs block ≡ problemWith b block
-        same = ap (λ (l : List ℕ). reordered (settlingOrder (problemOf b .variables) l) (problemWith b block)) (none pairs z) ∙ ap (λ (o : List ℕ). reordered o (problemWith b block)) (no-pairs (problemOf b .variables)) ∙ reordered-below (problemWith b block) (well-lent b pairs block good)
+        same = ap (λ (l : List ℕ). reordered (settlingOrder (problemOf b .variables) l) (problemWith b block)) (none pairs z) ∙ ap (λ (o : List ℕ). reordered o (problemWith b block))
+            (no-pairs (problemOf b .variables)) ∙ reordered-below (problemWith b block) (well-lent b pairs block good)

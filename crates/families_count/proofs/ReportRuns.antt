@@ -1,33 +1,20 @@
 -- The run of a report on the arrays of its sheet (specs/Held). Assumes nothing.
-use mathlib.Core.Path.{_≡_, refl, sym, ap, _∙_, subst, subst₂}
-use mathlib.Core.List.{List, _++_}
-use Prim.Native.Nat.{ℕ, _*_, _≤_, _<_}
-use native.Mathlib.Omega.{arith}
-use lib.Dec.{T}
-use lib.ListN.{length, take, drop, replicate}
+use Rattle.model.specs.Kit.{_≡_, refl, sym, ap, _∙_, subst, subst₂, List, _++_, ℕ, _*_, _≤_, _<_, arith, T, length, take, drop, replicate}
 use lib.Seq.{take-at}
-use Rattle.model.specs.Lists.{at}
-use Rattle.model.specs.Verdict.{Verdict, accepted, refused, isAccepted, reply, kept}
-use Rattle.model.specs.Sheet.{verdictOf, problemOf}
-use Rattle.model.specs.Run.{Ending, ended, plansIn, resultOf, answerOf, written, listOf, Tally}
+use Rattle.model.specs.{Lists.at, Verdict.Verdict, Verdict.accepted, Verdict.refused, Verdict.isAccepted, Verdict.reply, Verdict.kept, Sheet.verdictOf, Sheet.problemOf, Run.Ending}
+use Rattle.model.specs.Run.{ended, plansIn, resultOf, answerOf, written, listOf, Tally}
 use Rattle.model.proofs.Accepted.{passed, well-formed, constraints-are, symmetries-are}
-use Rattle.arrays.specs.Places.{VARIABLES, PLANS, STACK, TABLES, WORK}
+use Rattle.arrays.specs.inner.Places.{VARIABLES, PLANS, STACK, TABLES, WORK}
 use Rattle.families_figure.specs.Figure.{reportFigure}
-use Rattle.sheet.specs.Form.{Compilation}
-use Rattle.sheet.specs.declared.Answer as A
-use Rattle.sheet.specs.declared.Answer.the-variants.{Accepted}
+use Rattle.sheet.specs.{Form.Compilation, declared.Answer.the-variants.Accepted}
 use Rattle.sheet.proofs.Whole.{zeros}
 use Rattle.run_state.specs.Walk.{stopIn}
-use Rattle.run_search.proofs.Begun.{numbers-kept}
-use Rattle.run_search.proofs.Explored.{stop-in}
-use Rattle.run.specs.Calls.{Call}
-use Rattle.run.specs.Whole.{Stopped, Answered}
-use Rattle.run.specs.declared.Answer.{Answer}
-use Rattle.run.specs.declared.Answer.the-variants.{Refused}
+use Rattle.run_search.proofs.{Begun.numbers-kept, Explored.stop-in}
+use Rattle.run.specs.{Calls.Call, inner.Whole.Stopped, inner.Whole.Answered, declared.Answer.Answer, declared.Answer.the-variants.Refused}
 use Rattle.run.proofs.Whole.{ended-same}
-use Rattle.families_count.specs.Told.{told}
+use Rattle.families_count.specs.{Told.told, inner.Held.Runs, inner.Held.Ran, inner.Held.Fresh, inner.Held.Listed, inner.Held.RunTold}
+use Rattle.sheet.specs.declared.Answer as A
 use Rattle.families_count.specs.Told as F
-use Rattle.families_count.specs.Held.{Runs, Ran, Fresh, Listed, RunTold}
 use Rattle.families_count.specs.declared.Answer as C
 
 module _ (b : List ℕ) (limit : ℕ) (numbers supports images : List ℕ) (c : Compilation b numbers supports images Accepted) where
@@ -50,7 +37,12 @@ module _ (b : List ℕ) (limit : ℕ) (numbers supports images : List ℕ) (c : 
     pub report-runs : Runs (problemOf b) stack work supports tables numbers images list
     report-runs = record {
       compiled = c .compiled refl;
-      limits = record { wellFormed = well-formed b good; constraints = let l = few-constraints in omega arith; symmetries = let l = symmetries-are b in let f = passed b good .header .symmetries in omega arith };
+      limits = record {
+        wellFormed = well-formed b good;
+        constraints = let l = few-constraints in omega arith;
+        symmetries = let l = symmetries-are b in let f = passed b good .header .symmetries in
+            omega arith;
+      };
       long = c .sizes refl .numbers-length;
       writable = fresh .writable;
       begun = fresh .begun;
@@ -64,7 +56,12 @@ module _ (b : List ℕ) (limit : ℕ) (numbers supports images : List ℕ) (c : 
       pub report-listed : Listed b limit stack′ work′ supports tables′ numbers′ images stop
       report-listed = record {
         verdict = verdict;
-        compiled = record { numbered = numbers-kept (problemOf b) numbers numbers′ (well-formed b good .few) (let l = few-constraints in omega arith) (λ i l. a .same i l) (c .compiled refl .numbered); supported = c .compiled refl .supported; imaged = c .compiled refl .imaged };
+        compiled = record {
+          numbered = numbers-kept (problemOf b) numbers numbers′ (well-formed b good .few) (let l = few-constraints in omega arith) (λ i l. a .same i l)
+              (c .compiled refl .numbered);
+          supported = c .compiled refl .supported;
+          imaged = c .compiled refl .imaged;
+        };
         long = a .long;
         writable = a .writable;
         plans = a .plans ∙ ap (λ (k : ℕ). plansIn (resultOf (problemOf b) limit k .ending)) room-is;
@@ -76,7 +73,8 @@ module _ (b : List ℕ) (limit : ℕ) (numbers supports images : List ℕ) (c : 
 
       -- the list was the front of one that is lent whole
       pub report-told-so : (made : ℕ) → made ≡ tally′ .nodes → (r : Answer) → Answered work′ made stop r → (f : C.Answer) → F.means f ≡ told (reportFigure b limit) →
-          (whole : List ℕ) → list ≡ take (4096 * at numbers VARIABLES) whole → length list′ ≡ length list → RunTold b limit whole (record { answer = r; figure = f; variables = at numbers VARIABLES }) (list′ ++ drop (4096 * at numbers VARIABLES) whole)
+          (whole : List ℕ) → list ≡ take (4096 * at numbers VARIABLES) whole → length list′ ≡ length list → RunTold b limit whole
+          (record { answer = r; figure = f; variables = at numbers VARIABLES }) (list′ ++ drop (4096 * at numbers VARIABLES) whole)
       unfolding answerOf listOf
       report-told-so made m r q f g whole x y =
           let l = stop-in e in
@@ -98,7 +96,8 @@ pub accepted-so : (b numbers supports images : List ℕ) (v : A.Answer) → v �
 accepted-so b numbers supports images v e c = subst (Compilation b numbers supports images) e c
 
 -- a refusal, of which no byte of the list counts
-pub report-refused : (b : List ℕ) (limit : ℕ) (list : List ℕ) (number item : ℕ) (f : C.Answer) → refused number item ≡ verdictOf b → RunTold b limit list (record { answer = Refused number item; figure = f; variables = 0 }) list
+pub report-refused : (b : List ℕ) (limit : ℕ) (list : List ℕ) (number item : ℕ) (f : C.Answer) → refused number item ≡ verdictOf b → RunTold b limit list
+    (record { answer = Refused number item; figure = f; variables = 0 }) list
 unfolding answerOf listOf
 report-refused b limit list number item f v = record {
   sized = record { most = omega arith; true-of = λ z. absurd (never z) };

@@ -1,9 +1,6 @@
 -- A call of `families`: what it was lent, and what comes back. It is the function's contract; promises' `FamilyCalls` says what a caller may rely on.
-use mathlib.Core.Path.{_≡_}
-use mathlib.Core.List.{List}
-use Prim.Native.Nat.{ℕ}
-use Rattle.families_count.specs.Told.{countedLent, means}
-use Rattle.families_count.specs.declared.Answer.{Answer}
+use Rattle.model.specs.Kit.{_≡_, List, ℕ}
+use Rattle.families_count.specs.{Told.countedLent, Told.means, declared.Answer.Answer}
 
 -- a call of `families`: r comes back
 abbrev pub CallFamilies : List ℕ → List ℕ → List ℕ → ℕ → Answer → Type 0

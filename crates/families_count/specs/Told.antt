@@ -1,13 +1,10 @@
 -- The number of families on a sheet for callers (paper 02, #104): both runs have room for 4,096 plans.
-use mathlib.Core.List.{List}
-use Prim.Native.Nat.{ℕ, _*_}
-use Rattle.model.specs.Verdict.{reply}
-pub use Rattle.model.specs.Verdict.{Reply, refusal, answered}
-use Rattle.model.specs.Sheet.{problemOf}
+use Rattle.model.specs.Kit.{List, ℕ, _*_}
+use Rattle.model.specs.{Verdict.reply, Sheet.problemOf}
 use Rattle.run_input.specs.Lent.{verdictLent}
 use Rattle.families_figure.specs.Figure.{Figure, number, dash, familiesLent}
-use Rattle.families_count.specs.declared.Answer.{Answer}
-use Rattle.families_count.specs.declared.Answer.the-variants.{Number, Dash, Refused}
+use Rattle.families_count.specs.{declared.Answer.Answer, declared.Answer.the-variants.Number, declared.Answer.the-variants.Dash, declared.Answer.the-variants.Refused}
+pub use Rattle.model.specs.Verdict.{Reply, refusal, answered}
 
 -- the refusal of a run that is lent a sheet, pairs and a block, or its figure
 abbrev pub Told : Type 0

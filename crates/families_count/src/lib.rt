@@ -6,12 +6,12 @@ ghost use Prim.Native.Nat.{ℕ};
 ghost use lib.ListN.{length, replicate};
 ghost use Rattle.model.specs.Problem.{Problem};
 ghost use Rattle.run_state.specs.Meaning.{tallyIn};
-ghost use Rattle.run_input.specs.Compile.{AskedLent};
+ghost use Rattle.run_input.specs.inner.Compile.{AskedLent};
 ghost use Rattle.sheet.specs.Form.{Compilation};
 ghost use Rattle.sheet.specs.declared.Answer.the-variants.{Accepted};
 ghost use Rattle.families_figure.specs.Figure.{reportFigure, familiesLent};
 ghost use Rattle.families_count.specs.Told.{countedLent, told, means};
-ghost use Rattle.families_count.specs.Held.{Roomy, Runs, Ran, Put, Whole, Fresh, Listed, RunTold};
+ghost use Rattle.families_count.specs.inner.Held.{Roomy, Runs, Ran, Put, Whole, Fresh, Listed, RunTold};
 use arrays::ALL;
 use arrays::IMAGES;
 use arrays::Images;
@@ -61,7 +61,9 @@ fn put_images(
     order: &[u8; 16],
 ) -> usize
     requires { ⌜ ((b : List ℕ) × AskedLent b (now pairs) (now block) (now numbers) (now supports) (now images) (now order) Accepted) ⌝ }
-    ensures { λ r. ⌜ ((b : List ℕ) → AskedLent b (now (pairs .entry)) (now (block .entry)) (now (numbers .entry)) (now (supports .entry)) (now (images .entry)) (now (order .entry)) Accepted → Put b (now (pairs .entry)) (now (block .entry)) (now (numbers .exit)) (now (supports .exit)) (now (images .exit)) r) ⌝ }
+    ensures { λ r. ⌜ ((b : List ℕ) → AskedLent b (now (pairs .entry)) (now (block .entry)) (now (numbers .entry)) (now (supports .entry))
+        (now (images .entry)) (now (order .entry)) Accepted → Put b (now (pairs .entry)) (now (block .entry)) (now (numbers .exit)) (now (supports .exit))
+        (now (images .exit)) r) ⌝ }
 {
     let symmetries = arrays_block::put_images(block, numbers, images);
     numbers[SYMMETRIES] = symmetries as u64;
@@ -83,7 +85,9 @@ fn run_arrays(
     list: &mut [u8],
 ) -> CountedPart
     requires { ⌜ ((p : Problem) × Runs p (now stack) (now work) (now supports) (now tables) (now numbers) (now images) (now list)) ⌝ }
-    ensures { λ r. ⌜ ((p : Problem) → Runs p (now (stack .entry)) (now (work .entry)) (now (supports .entry)) (now (tables .entry)) (now (numbers .entry)) (now (images .entry)) (now (list .entry)) → Ran p limit (now (numbers .entry)) (now (list .entry)) (now (stack .exit)) (now (work .exit)) (now (tables .exit)) (now (numbers .exit)) (now (list .exit)) (tallyIn (r .tally)) (r .stop)) ⌝ }
+    ensures { λ r. ⌜ ((p : Problem) → Runs p (now (stack .entry)) (now (work .entry)) (now (supports .entry)) (now (tables .entry)) (now (numbers .entry))
+        (now (images .entry)) (now (list .entry)) → Ran p limit (now (numbers .entry)) (now (list .entry)) (now (stack .exit)) (now (work .exit))
+        (now (tables .exit)) (now (numbers .exit)) (now (list .exit)) (tallyIn (r .tally)) (r .stop)) ⌝ }
 {
     let mut order = [0u8; 16];
     run_task::by_position(&mut order);
@@ -105,8 +109,11 @@ fn figure(
     limit: u32,
     list: &mut [u8],
 ) -> Answer
-    requires { ⌜ ((b : List ℕ) × (pairs : List ℕ) × (block : List ℕ) × Whole b pairs block symmetries (now stack) (now work) (now supports) (now tables) (now numbers) (now images) × Roomy b n (now list)) ⌝ }
-    ensures { λ r. ⌜ ((b pairs block : List ℕ) → Whole b pairs block symmetries (now (stack .entry)) (now (work .entry)) (now (supports .entry)) (now (tables .entry)) (now (numbers .entry)) (now (images .entry)) → Roomy b n (now (list .entry)) → means r ≡ told (familiesLent b pairs block limit (length (now (list .entry))))) ⌝ }
+    requires { ⌜ ((b : List ℕ) × (pairs : List ℕ) × (block : List ℕ) × Whole b pairs block symmetries (now stack) (now work) (now supports) (now tables)
+        (now numbers) (now images) × Roomy b n (now list)) ⌝ }
+    ensures { λ r. ⌜ ((b pairs block : List ℕ) → Whole b pairs block symmetries (now (stack .entry)) (now (work .entry)) (now (supports .entry))
+        (now (tables .entry)) (now (numbers .entry)) (now (images .entry)) → Roomy b n (now (list .entry)) → means r ≡ told
+        (familiesLent b pairs block limit (length (now (list .entry))))) ⌝ }
 {
     numbers[SYMMETRIES] = 0;
     work[PLANS] = 0;
@@ -129,8 +136,10 @@ fn counted(
     symmetries: usize,
     limit: u32,
 ) -> Answer
-    requires { ⌜ ((b : List ℕ) × (pairs : List ℕ) × (block : List ℕ) × Whole b pairs block symmetries (now stack) (now work) (now supports) (now tables) (now numbers) (now images)) ⌝ }
-    ensures { λ r. ⌜ ((b pairs block : List ℕ) → Whole b pairs block symmetries (now (stack .entry)) (now (work .entry)) (now (supports .entry)) (now (tables .entry)) (now (numbers .entry)) (now (images .entry)) → means r ≡ countedLent b pairs block limit) ⌝ }
+    requires { ⌜ ((b : List ℕ) × (pairs : List ℕ) × (block : List ℕ) × Whole b pairs block symmetries (now stack) (now work) (now supports) (now tables)
+        (now numbers) (now images)) ⌝ }
+    ensures { λ r. ⌜ ((b pairs block : List ℕ) → Whole b pairs block symmetries (now (stack .entry)) (now (work .entry)) (now (supports .entry))
+        (now (tables .entry)) (now (numbers .entry)) (now (images .entry)) → means r ≡ countedLent b pairs block limit) ⌝ }
 {
     let n = numbers[VARIABLES] as usize;
     let used = 4096 * n;
@@ -207,7 +216,8 @@ fn report_figure(
     limit: u32,
 ) -> Answer
     requires { ⌜ ((b : List ℕ) × Listed b limit (now stack) (now work) (now supports) (now tables) (now numbers) (now images) stop) ⌝ }
-    ensures { λ r. ⌜ ((b : List ℕ) → Listed b limit (now (stack .entry)) (now (work .entry)) (now (supports .entry)) (now (tables .entry)) (now (numbers .entry)) (now (images .entry)) stop → means r ≡ told (reportFigure b limit)) ⌝ }
+    ensures { λ r. ⌜ ((b : List ℕ) → Listed b limit (now (stack .entry)) (now (work .entry)) (now (supports .entry)) (now (tables .entry))
+        (now (numbers .entry)) (now (images .entry)) stop → means r ≡ told (reportFigure b limit)) ⌝ }
 {
     if stop != ALL {
         return Answer::Dash;
@@ -239,8 +249,10 @@ fn report_arrays(
     limit: u32,
     list: &mut [u8],
 ) -> ReportRun
-    requires { ⌜ ((b : List ℕ) × Compilation b (now numbers) (now supports) (now images) Accepted) × Fresh (now stack) (now work) (now tables) × (length (now list) ≡ 49152) ⌝ }
-    ensures { λ r. ⌜ ((b : List ℕ) → Compilation b (now (numbers .entry)) (now (supports .entry)) (now (images .entry)) Accepted → RunTold b limit (now (list .entry)) r (now (list .exit))) ⌝ }
+    requires { ⌜ ((b : List ℕ) × Compilation b (now numbers) (now supports) (now images) Accepted) × Fresh (now stack) (now work) (now tables) ×
+        (length (now list) ≡ 49152) ⌝ }
+    ensures { λ r. ⌜ ((b : List ℕ) → Compilation b (now (numbers .entry)) (now (supports .entry)) (now (images .entry)) Accepted → RunTold b limit
+        (now (list .entry)) r (now (list .exit))) ⌝ }
 {
     let variables = numbers[VARIABLES] as usize;
     let used = 4096 * variables;

@@ -1,24 +1,13 @@
 -- A sheet without its exchanges is accepted where the sheet is, and states the same problem without symmetries (specs/FigureClaims). Assumes nothing.
-use mathlib.Core.Path.{_≡_, refl, sym, ap, ap₂, _∙_, subst}
-use mathlib.Core.Bool.{Bool, true}
-use mathlib.Core.List.{List, [], _++_, map}
-use Prim.Native.Nat.{ℕ, suc, _+_, _-_, _*_, _^_, _≤_, _<_}
-use native.Mathlib.Omega.{arith}
-use lib.ListN.{length, take, drop, length-append, length-take, length-drop}
-use lib.Seq.{getD-take, getD-drop}
-use borrow.Author.Tests.{eq-eqb}
-use Rattle.model.specs.Lists.{at, below, upFrom}
-use Rattle.model.specs.Bytes.{twoBytes}
-use Rattle.model.specs.Problem.{Problem, Constraint}
-use Rattle.model.specs.Verdict.{Verdict, accepted, ask}
-use Rattle.model.specs.Sheet.{Header, word, words, headerOf, headerVerdict, constraintsFrom, tableAt, problemOf, setsVerdict, constraintsVerdict, tablesFit, formVerdict, symmetriesVerdict, verdictOf}
-use Rattle.model.proofs.Lists.{at-skip, below-e}
-use Rattle.model.proofs.Accepted.{HeaderPassed, Passed, at-words}
-use Rattle.model.proofs.OneMore.{word-of, at-left, Agree, word-agree, words-agree, constraints-agree}
-use Rattle.model.proofs.Asked.{tablesHeader, header-passes, sets-pass, constraints-pass}
+use Rattle.model.specs.Kit.{_≡_, refl, sym, ap, ap₂, _∙_, subst, Bool, true, List, [], _++_, map, ℕ, suc, _+_, _-_, _*_, _^_, _≤_, _<_, arith, length, take, drop, length-append}
+use Rattle.model.specs.Kit.{length-take, length-drop, getD-take, getD-drop, eq-eqb}
+use Rattle.model.specs.{Lists.at, Lists.below, Lists.upFrom, Bytes.twoBytes, Problem.Problem, Problem.Constraint, Verdict.Verdict, Verdict.accepted, Verdict.ask, Sheet.Header}
+use Rattle.model.specs.Sheet.{word, words, headerOf, headerVerdict, constraintsFrom, tableAt, problemOf, setsVerdict, constraintsVerdict, tablesFit, formVerdict, symmetriesVerdict}
+use Rattle.model.specs.Sheet.{verdictOf}
+use Rattle.model.proofs.{Lists.at-skip, Lists.below-e, Accepted.HeaderPassed, Accepted.Passed, Accepted.at-words, OneMore.word-of, OneMore.at-left, OneMore.Agree}
+use Rattle.model.proofs.{OneMore.word-agree, OneMore.words-agree, OneMore.constraints-agree, Asked.tablesHeader, Asked.header-passes, Asked.sets-pass, Asked.constraints-pass}
 use Rattle.model.proofs.Demands.{of-accepted}
-use Rattle.families_figure.specs.Figure.{problemBare, bareSheet}
-use Rattle.families_figure.specs.FigureClaims.{Bare-sheet}
+use Rattle.families_figure.specs.{Figure.problemBare, Figure.bareSheet, FigureClaims.Bare-sheet}
 
 -- the header without exchanges
 abbrev bareHeader : Header → Header
@@ -116,7 +105,14 @@ module _ (b : List ℕ) (ok : Passed b) where
   pub bare-problem : problemOf (bareSheet b) ≡ problemBare b
   unfolding problemOf below upFrom
   bare-problem =
-      ap (λ (h : Header). record { variables = h .variables; values = h .values; initial = words c 16 (h .variables); constraints = constraintsFrom c (h .constraints) (h .second); symmetries = map (tableAt c h) (below (h .symmetries)) }) header
+      ap (λ (h : Header). record {
+        variables = h .variables;
+        values = h .values;
+        initial = words c 16 (h .variables);
+        constraints = constraintsFrom c (h .constraints) (h .second);
+        symmetries = map
+            (tableAt c h) (below (h .symmetries));
+      }) header
       ∙ ap₂ (λ (i : List ℕ) (cs : List Constraint). record { variables = headerOf b .variables; values = headerOf b .values; initial = i; constraints = cs; symmetries = [] })
       (words-agree b c 16 third body 16 (headerOf b .variables) (omega arith) (omega (arith, ok .header .second, ok .header .ordered)))
       (constraints-agree b c third body (headerOf b) refl (headerOf b .constraints) 0 (headerOf b .second) (ok .walked .0) (omega (arith, ok .header .second)) (ok .walked .1))
@@ -154,7 +150,8 @@ module _ (b : List ℕ) (ok : Passed b) where
       let last : symmetriesVerdict (problemOf c) 0 (problemOf c .symmetries) ≡ accepted = ap (λ (q : Problem). symmetriesVerdict q 0 (q .symmetries)) bare-problem in
       let e14 : tablesFit h ≡ true = eq-eqb third (third + 2 * (0 * (n * headerOf b .values))) (omega arith) in
       let end = ask (tablesFit h) 14 0 accepted in
-      ap₂ (λ (h : Header) (v : Verdict). headerVerdict h (length c) (setsVerdict c h (below (h .variables)) (constraintsVerdict c h (h .constraints) 0 (h .second) (ask (tablesFit h) 14 0 v)))) header last
+      ap₂ (λ (h : Header) (v : Verdict). headerVerdict h (length c) (setsVerdict c h (below (h .variables)) (constraintsVerdict c h (h .constraints) 0 (h .second) (ask (tablesFit h) 14 0 v))))
+      header last
       ∙ header-passes h (length c) _ header-good
       ∙ sets-pass c h (below n) _ (λ x m. sets-good x (below-e n x m))
       ∙ constraints-pass b c (headerOf b) body 0 (headerOf b .third) (headerOf b .constraints) 0 (headerOf b .second) (ok .walked .0) end (omega (arith, ok .header .second)) (ok .walked .1)

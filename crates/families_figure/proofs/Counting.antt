@@ -1,35 +1,19 @@
 -- How the figure is got: a bare run in the settling order, and the count over its rows. Assumes nothing.
-use mathlib.Core.Path.{_≡_, refl, sym, ap, _∙_, subst}
-use mathlib.Core.Logic.{inr}
-use mathlib.Core.List.{List, [], _++_, map, List·Memᴰ·not-nil}
-use Prim.Native.Nat.{ℕ, _*_, _≤_}
+use Rattle.model.specs.Kit.{_≡_, refl, sym, ap, _∙_, subst, inr, List, [], _++_, map, List·Memᴰ·not-nil, ℕ, _*_, _≤_, arith, T, length, drop}
 use native.Mathlib.Nat.{le-of-mul-le-mul-right}
-use native.Mathlib.Omega.{arith}
-use lib.Dec.{T}
-use lib.ListN.{length, drop}
-use Rattle.model.specs.Lists.{flat}
-use Rattle.model.specs.Problem.{Problem, withSymmetries}
-use Rattle.model.specs.Verdict.{accepted, isAccepted}
-use Rattle.model.specs.Sheet.{problemOf}
-use Rattle.model.specs.WellFormed.{WellFormed, Respected}
+use Rattle.model.specs.{Lists.flat, Problem.Problem, Problem.withSymmetries, Verdict.accepted, Verdict.isAccepted, Sheet.problemOf, WellFormed.WellFormed, WellFormed.Respected}
 use Rattle.model.specs.Run.{Ending, finished, spent, full, resultOf, written}
-use Rattle.model.proofs.Tree.{plans-of-tree}
-use Rattle.model.proofs.Runs.{finished-rows, finished-fits}
-use Rattle.model.proofs.Demands.{same-test}
-use Rattle.arrays.specs.Layout.{Images}
-use Rattle.order.specs.Order.{Ordering}
-use Rattle.order.specs.Reordered.{symmetryIn}
-use Rattle.order.specs.RunBy.{resultBy}
+use Rattle.model.proofs.{Tree.plans-of-tree, Runs.finished-rows, Runs.finished-fits, Demands.same-test, Accepted.is-accepted}
+use Rattle.arrays.specs.inner.Layout.{Images}
+use Rattle.order.specs.{Order.Ordering, Reordered.symmetryIn, RunBy.resultBy}
 use Rattle.order.proofs.Reordered.{well-reordered, respected-reordered}
 use Rattle.run_input.specs.Lent.{verdictLent, problemWith, orderLent, problemLent}
-use Rattle.run_input.proofs.Lent.{passed-all, well-lent, respected-lent, ordering-lent}
-use Rattle.families.specs.Families.{solutionsOf, familiesOf}
-use Rattle.families.specs.Numbered.{Listed, Counted}
+use Rattle.run_input.proofs.Lent.{well-lent, respected-lent, ordering-lent}
+use Rattle.families.specs.{Families.solutionsOf, Families.familiesOf, inner.Numbered.Listed, inner.Numbered.Counted}
 use Rattle.families.proofs.FewerFamilies.{solutions-same, well-formed-with, families-more, families-none, leaders-without}
-use Rattle.families.proofs.JoinedBy.{families-reordered}
-use Rattle.families.proofs.Rows.{listed-solutions}
-use Rattle.families_figure.specs.Figure.{problemBare, number, dash, figureFor, familiesLent}
-use Rattle.families_figure.specs.FigureClaims.{ranWith, ranBare, Finished}
+use Rattle.families.proofs.{JoinedBy.families-reordered, Rows.listed-solutions}
+use Rattle.families_figure.specs.{Figure.problemBare, Figure.number, Figure.dash, Figure.figureFor, Figure.familiesLent, FigureClaims.ranWith, FigureClaims.ranBare}
+use Rattle.families_figure.specs.FigureClaims.{Finished}
 use Rattle.families_figure.proofs.FamiliesLent.{families-lent}
 
 -- the problem that the bare run walks
@@ -48,7 +32,7 @@ module _ (b pairs block : List ℕ) (limit room : ℕ) (h : verdictLent b pairs 
   order = orderLent b pairs
 
   good : T (isAccepted (verdictLent b pairs block))
-  good = passed-all (verdictLent b pairs block) h
+  good = is-accepted (verdictLent b pairs block) h
 
   o : Ordering (problemOf b .variables) (orderLent b pairs)
   o = ordering-lent b pairs block good
@@ -87,11 +71,13 @@ module _ (b pairs block : List ℕ) (limit room : ℕ) (h : verdictLent b pairs 
 
     -- so what `families::families` is lent is right, where the images of all symmetries are in the order too
     pub figure-counted : (images out : List ℕ) → room ≤ 4096 * problemLent b pairs block .variables → Images (problemLent b pairs block) images → length (problemLent b pairs block .symmetries) ≤ 136 →
-        Counted (problemLent b pairs block) (written (resultOf (bareLent b pairs block) limit room .rows) out) images (problemLent b pairs block .variables) (length (problemLent b pairs block .symmetries)) plans
+        Counted (problemLent b pairs block) (written (resultOf (bareLent b pairs block) limit room .rows) out) images (problemLent b pairs block .variables)
+        (length (problemLent b pairs block .symmetries)) plans
     unfolding written
     figure-counted images out l i some = record {
       lent = record {
-        listed = subst (λ (rows : List (List ℕ)). Listed p (flat rows ++ drop (length (flat rows)) out) (p .variables)) (sym bare-rows) (listed-solutions p w r (few l) (drop (length (flat (solutionsOf p))) out));
+        listed = subst (λ (rows : List (List ℕ)). Listed p (flat rows ++ drop (length (flat rows)) out) (p .variables)) (sym bare-rows)
+            (listed-solutions p w r (few l) (drop (length (flat (solutionsOf p))) out));
         some = some;
         imaged = i;
       };
@@ -108,7 +94,8 @@ module _ (b pairs block : List ℕ) (limit room : ℕ) (h : verdictLent b pairs 
         f .counted (f .bare-enough bare) bare ∙ ap number (sym (a ∙ families-reordered (problemWith b block) v s order o))
 
   -- without symmetries the run is the bare run, and each of its plans is a family
-  pub figure-none : (plans made : ℕ) → problemWith b block .symmetries ≡ [] → resultBy (orderLent b pairs) (problemWith b block) limit room .ending ≡ finished plans made → familiesLent b pairs block limit room ≡ number plans
+  pub figure-none : (plans made : ℕ) → problemWith b block .symmetries ≡ [] → resultBy (orderLent b pairs) (problemWith b block) limit room .ending ≡ finished plans made
+      → familiesLent b pairs block limit room ≡ number plans
   unfolding resultBy
   figure-none plans made none e =
       let e′ : resultOf (bareLent b pairs block) limit room .ending ≡ finished plans made = sym (families-lent b pairs block limit room h .none none) ∙ e in

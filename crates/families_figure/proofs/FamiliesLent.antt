@@ -1,36 +1,22 @@
 -- The figure of a run that is lent a sheet, pairs and a block, and one of each family (specs/FigureClaims). Assumes nothing.
-use mathlib.Core.Path.{_≡_, refl, sym, ap, ap₂, _∙_, subst}
-use mathlib.Core.Logic.{_↔_, _⊎_, inl, ⊎-elim}
-use mathlib.Core.List.{List, [], _∷_, _++_, map, append-nil, List·Memᴰ, List·Memᴰ·not-nil}
-use Prim.Native.Nat.{ℕ}
-use lib.Dec.{T}
-use lib.ListN.{length}
-use Rattle.model.specs.Problem.{Problem, isSolution, withSymmetries}
-use Rattle.model.specs.Verdict.{Verdict, accepted, isAccepted, reply, kept}
-use Rattle.model.specs.Claims.{Leader}
-use Rattle.model.specs.Lists.{upFrom, below}
-use Rattle.model.specs.Sheet.{headerOf, problemOf, tableAt}
-use Rattle.model.specs.WellFormed.{WellFormed, Respected}
-use Rattle.model.specs.Run.{Ending, finished, spent, full, plansIn, written}
-use Rattle.order.specs.Order.{Ordering, settlingOrder, orderVerdict}
-use Rattle.order.specs.Reordered.{earlierBy}
-use Rattle.order.specs.RunBy.{Input, resultBy, leadersBy, answerBy, listBy}
-use Rattle.order.proofs.Order.{no-circle-passes}
-use Rattle.order.proofs.Demanded.{ran-by}
-use Rattle.order.proofs.RunBy.{leadersBy-hold, finished-lists, rows-counted-by, fewer-by}
+use Rattle.model.specs.Kit.{_≡_, refl, sym, ap, ap₂, _∙_, subst, _↔_, _⊎_, inl, ⊎-elim, List, [], _∷_, _++_, map, append-nil, List·Memᴰ, List·Memᴰ·not-nil, ℕ, T, length}
+use Rattle.model.specs.{Problem.Problem, Problem.isSolution, Problem.withSymmetries, Verdict.Verdict, Verdict.accepted, Verdict.isAccepted, Verdict.reply, Verdict.kept}
+use Rattle.model.specs.{Claims.Leader, Lists.upFrom, Lists.below, Sheet.headerOf, Sheet.problemOf, Sheet.tableAt, WellFormed.WellFormed, WellFormed.Respected, Run.Ending}
+use Rattle.model.specs.Run.{finished, spent, full, plansIn, written}
+use Rattle.order.specs.{Order.Ordering, Order.settlingOrder, Order.orderVerdict, Reordered.earlierBy, RunBy.Input, RunBy.resultBy, RunBy.leadersBy, RunBy.answerBy, RunBy.listBy}
+use Rattle.order.proofs.{Order.no-circle-passes, Demanded.ran-by, RunBy.leadersBy-hold, RunBy.finished-lists, RunBy.rows-counted-by, RunBy.fewer-by}
 use Rattle.sheet.specs.Meaning.{andThen}
 use Rattle.block.specs.Block.{blockVerdict, tablesLent, blockLent}
-use Rattle.block.proofs.BlockLent.{is-accepted}
 use Rattle.block.proofs.Claimed.{alone-closed}
 use Rattle.run_input.specs.Lent.{verdictLent, problemWith, orderLent, lentInput}
-use Rattle.run_input.proofs.Lent.{passed-all, lent-passed, well-sheet, well-lent, respected-lent, ordering-lent, lent-good, demanded-lent, nothing-lent}
+use Rattle.run_input.proofs.Lent.{lent-passed, well-sheet, well-lent, respected-lent, ordering-lent, lent-good, demanded-lent, nothing-lent}
 use Rattle.families.specs.Families.{Closed, familiesOf}
-use Rattle.families.proofs.FamilyCount.{families}
-use Rattle.families.proofs.FewerFamilies.{well-formed-with}
-use Rattle.families.proofs.JoinedBy.{leader-earliest-by, earliest-leader-by, each-by, leaders-each-by}
-use Rattle.families_figure.specs.Figure.{problemBare, bareSheet, number, dash, figureFor, familiesLent}
-use Rattle.families_figure.specs.FigureClaims.{ranWith, ranBare, Finished, Families-lent, Bare-run, OneListedEach, One-of-each-lent, Block-alone-closed, Block-alone-one-each}
+use Rattle.families.proofs.{FamilyCount.families, FewerFamilies.well-formed-with, JoinedBy.leader-earliest-by, JoinedBy.earliest-leader-by, JoinedBy.each-by}
+use Rattle.families.proofs.JoinedBy.{leaders-each-by}
+use Rattle.families_figure.specs.{Figure.problemBare, Figure.bareSheet, Figure.number, Figure.dash, Figure.figureFor, Figure.familiesLent, FigureClaims.ranWith}
+use Rattle.families_figure.specs.FigureClaims.{ranBare, Finished, Families-lent, Bare-run, OneListedEach, One-of-each-lent, Block-alone-closed, Block-alone-one-each}
 use Rattle.families_figure.proofs.BareSheet.{bare-passed}
+use Rattle.model.proofs.Accepted.{accepted-is, is-accepted}
 
 -- ---- the figure
 number-of : (e f : Ending) (k : ℕ) → Finished e → Finished f → figureFor e f k ≡ number k
@@ -74,7 +60,7 @@ families-lent b pairs block limit room h = record {
     order = orderLent b pairs
 
     good : T (isAccepted (verdictLent b pairs block))
-    good = passed-all (verdictLent b pairs block) h
+    good = is-accepted (verdictLent b pairs block) h
 
     w : WellFormed (problemWith b block)
     w = well-lent b pairs block good
@@ -95,12 +81,13 @@ families-lent b pairs block limit room h = record {
 pub bare-run : Bare-run
 unfolding answerBy listBy verdictLent blockLent
 bare-run b pairs block limit out h =
-    let x = lent-passed b pairs block (passed-all (verdictLent b pairs block) h) in
+    let x = lent-passed b pairs block (is-accepted (verdictLent b pairs block) h) in
     let c = bareSheet b in
     let e = bare-passed b (x .sheet) in
     let same : problemWith c [] ≡ problemBare b = ap (λ (i : Input). i .problem) (nothing-lent c .input) ∙ e .1 in
     let k = x .ordered in
-    let v : verdictLent c pairs [] ≡ accepted = ap₂ andThen (e .0) (ap (λ (q : Problem). orderVerdict (q .variables) pairs accepted) (e .1) ∙ no-circle-passes (problemOf b .variables) pairs (k .few) (k .whole) (k .inside) accepted (k .acyclic)) in (
+    let v : verdictLent c pairs [] ≡ accepted = ap₂ andThen (e .0) (ap (λ (q : Problem). orderVerdict (q .variables) pairs accepted) (e .1) ∙ no-circle-passes (problemOf b .variables) pairs
+    (k .few) (k .whole) (k .inside) accepted (k .acyclic)) in (
       ap₂ (λ (u : Verdict) (q : Problem). reply u (resultBy (settlingOrder (q .variables) pairs) q limit (length out) .ending)) v same,
       ap₂ (λ (u : Verdict) (q : Problem). kept u out (written (resultBy (settlingOrder (q .variables) pairs) q limit (length out) .rows) out)) v same,
     )
@@ -149,7 +136,7 @@ tables-closed : (p : Problem) → WellFormed p → p .symmetries ≡ [] → (blo
 unfolding blockLent tablesLent
 tables-closed p w none [] h f g i j = absurd (List·Memᴰ·not-nil (subst (List·Memᴰ f) (append-nil (p .symmetries) ∙ none) i))
 tables-closed p w none (first ∷ []) h f g i j = absurd h
-tables-closed p w none (first ∷ m ∷ []) h f g i j = inl (alone-closed p first m w none (is-accepted (blockVerdict p first m) h) f g i j)
+tables-closed p w none (first ∷ m ∷ []) h f g i j = inl (alone-closed p first m w none (accepted-is (blockVerdict p first m) h) f g i j)
 tables-closed p w none (first ∷ m ∷ x ∷ more) h f g i j = absurd h
 
 block-closed : (b pairs block : List ℕ) → T (isAccepted (verdictLent b pairs block)) → headerOf b .symmetries ≡ 0 → Closed (problemWith b block)
@@ -161,7 +148,8 @@ block-closed b pairs block good none =
     no-tables = refl
 
 pub block-alone-closed : Block-alone-closed
-block-alone-closed b pairs block h = block-closed b pairs block (passed-all (verdictLent b pairs block) h)
+block-alone-closed b pairs block h = block-closed b pairs block (is-accepted (verdictLent b pairs block) h)
 
 pub block-alone-one-each : Block-alone-one-each
-block-alone-one-each b pairs block limit out plans made none h = one-of-each-lent b pairs block limit out plans made (block-closed b pairs block (lent-good b pairs block limit out (finished plans made) h) none) h
+block-alone-one-each b pairs block limit out plans made none h = one-of-each-lent b pairs block limit out plans made
+    (block-closed b pairs block (lent-good b pairs block limit out (finished plans made) h) none) h

@@ -1,12 +1,7 @@
 -- The report's last figure (paper 02, #104): the number of families on the sheet; a dash when the run isn't finished, or when a run of the sheet
 -- without exchanges, same limit and room, isn't.
-use mathlib.Core.List.{List, [], _++_}
-use Prim.Native.Nat.{ℕ, _-_, _*_}
-use lib.ListN.{take, drop}
-use Rattle.model.specs.Bytes.{twoBytes}
-use Rattle.model.specs.Problem.{Problem, withSymmetries}
-use Rattle.model.specs.Sheet.{headerOf, problemOf}
-use Rattle.model.specs.Run.{Ending, finished, spent, full}
+use Rattle.model.specs.Kit.{List, [], _++_, ℕ, _-_, _*_, take, drop}
+use Rattle.model.specs.{Bytes.twoBytes, Problem.Problem, Problem.withSymmetries, Sheet.headerOf, Sheet.problemOf, Run.Ending, Run.finished, Run.spent, Run.full}
 use Rattle.order.specs.RunBy.{resultBy}
 use Rattle.run_input.specs.Lent.{problemWith, orderLent}
 use Rattle.families.specs.Families.{familiesOf}

@@ -1,17 +1,8 @@
 -- What is claimed of the figure (paper 02, #104), and that a finished run with closed exchanges lists one plan of each family (#112).
 -- Families are read with all exchanges of the run, the sheet's and the block's. The proofs are in proofs/BareSheet and proofs/FamiliesLent.
-use mathlib.Core.Path.{_≡_}
-use mathlib.Core.Logic.{_↔_, _⊎_}
-use mathlib.Core.List.{List, [], List·Memᴰ}
-use Prim.Native.Nat.{ℕ}
-use lib.ListN.{length}
-use lib.Dec.{T}
-use Rattle.model.specs.Problem.{isSolution}
-use Rattle.model.specs.Verdict.{accepted}
-use Rattle.model.specs.Sheet.{headerOf, problemOf, verdictOf}
-use Rattle.model.specs.Run.{Ending, finished, ended, written}
-use Rattle.order.specs.Reordered.{earlierBy}
-use Rattle.order.specs.RunBy.{resultBy}
+use Rattle.model.specs.Kit.{_≡_, _↔_, _⊎_, List, [], List·Memᴰ, ℕ, length, T}
+use Rattle.model.specs.{Problem.isSolution, Verdict.accepted, Sheet.headerOf, Sheet.problemOf, Sheet.verdictOf, Run.Ending, Run.finished, Run.ended, Run.written}
+use Rattle.order.specs.{Reordered.earlierBy, RunBy.resultBy}
 use Rattle.run_input.specs.Lent.{verdictLent, problemWith, orderLent, answerLent, listLent, plansLent}
 use Rattle.families.specs.Families.{Joined, OneOfEach, FamilyCount, Closed, familiesOf}
 use Rattle.families_figure.specs.Figure.{problemBare, bareSheet, number, dash, familiesLent}

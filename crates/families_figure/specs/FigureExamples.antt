@@ -1,7 +1,6 @@
 -- Figures of paper 01's sheets and of paper 02's rotation, as one list of statements about the definitions. One theorem says that each holds
 -- (proofs/FigureExamples).
-use mathlib.Core.Path.{_≡_}
-use mathlib.Core.List.{List, [], _∷_}
+use Rattle.model.specs.Kit.{_≡_, List, [], _∷_}
 use Rattle.model.specs.Examples.{sheetA, sheetA0, sheetR}
 use Rattle.families_figure.specs.Figure.{number, dash, bareSheet, familiesLent}
 

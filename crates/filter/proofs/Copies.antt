@@ -1,17 +1,7 @@
 -- The loops that copy the lent sets in and out, and that clear them. Assumes nothing.
-use mathlib.Core.Path.{_≡_, refl, sym, _∙_, subst}
-use mathlib.Core.Bool.{false}
-use mathlib.Core.List.{List}
-use Prim.Native.Nat.{ℕ, _+_, _^_, _≤_, _<_}
-use native.Mathlib.Decide.{decLt}
-use native.Mathlib.Omega.{arith}
-use lib.ListN.{length, set, take, length-map}
-use lib.Seq.{length-take-le}
-use Rattle.model.specs.Lists.{at}
-use Rattle.model.proofs.Lists.{at-ext, at-take}
-use Rattle.model.proofs.Sets.{at-zeros}
-use Rattle.model.proofs.Filling.{filled-turn}
-use Rattle.model.specs.Filling.{Filled}
+use Rattle.model.specs.Kit.{_≡_, refl, sym, _∙_, subst, false, List, ℕ, _+_, _^_, _≤_, _<_, decLt, arith, length, set, take, length-map, length-take-le}
+use Rattle.model.specs.{Lists.at, inner.Filling.Filled}
+use Rattle.model.proofs.{Lists.at-ext, Lists.at-take, Sets.at-zeros, Filling.filled-turn}
 use Rattle.filter.specs.Lists.{zeros, Loaded}
 
 -- ---- stored from the front on

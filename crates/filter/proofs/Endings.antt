@@ -1,29 +1,17 @@
 -- How the filter ends, for code that scans: at the end of a list, at an empty set, and at an equality that some assignments keep and some break.
 -- Assumes nothing.
-use mathlib.Core.Path.{_≡_, refl, sym, ap, _∙_, subst}
-use mathlib.Core.Bool.{Bool, true, false, not}
-use mathlib.Core.List.{List, [], _∷_, List·Memᴰ}
-use Prim.Native.Nat.{ℕ, _≤_, _<_}
-use native.Mathlib.Decide.{decLt}
-use native.Mathlib.Omega.{arith}
-use lib.Dec.{T, eqb}
-use lib.ListN.{length, set, take}
+use Rattle.model.specs.Kit.{_≡_, refl, sym, ap, _∙_, subst, Bool, true, false, not, List, [], _∷_, List·Memᴰ, ℕ, _≤_, _<_, decLt, arith, T, eqb, length, set, take}
 use lib.Seq.{take-set-lt}
-use Rattle.model.specs.Lists.{at, same}
-use Rattle.model.specs.ValueSets.{has, onlyMask, withoutMask, anyEmpty}
-use Rattle.model.specs.Problem.{assignments}
-use Rattle.model.specs.Nogood.{Entry, equality, is, obeysFrom, obeys, filtered, failed, entailed, consistent, endingBy, everyObeys, filterEnding, Entails, Fails}
+use Rattle.model.specs.{Lists.at, Lists.same, ValueSets.has, ValueSets.onlyMask, ValueSets.withoutMask, ValueSets.anyEmpty, Problem.assignments, Nogood.Entry, Nogood.equality}
+use Rattle.model.specs.Nogood.{is, obeysFrom, obeys, filtered, failed, entailed, consistent, endingBy, everyObeys, filterEnding, Entails, Fails}
 use Rattle.model.proofs.Lists.{T-of, of-T, not-of, of-not, T-ext, all-i, all-e, same-eq, same-refl, at-ext, at-set, at-take}
-use Rattle.model.proofs.Sets.{members-i, members-e, empty-e, inside-antisym}
-use Rattle.model.proofs.Filter.{filtered-inside}
-use Rattle.model.proofs.Assignments.{assign-i, assign-e}
-use Rattle.model.proofs.Endings.{SameModels, every-i, every-no, failed-i, entailed-i, ending-by, entailed-exactly, consistent-exactly, entailed-left, same-ending}
-use Rattle.filter.specs.Scan.{stepOf, models, None, Some, Live, Passed, Remainder, Right, Changed}
-use Rattle.filter.specs.Lists.{forced}
-use Rattle.filter.specs.declared.entry.Step.the-variants.{Split}
+use Rattle.model.proofs.{Sets.members-i, Sets.members-e, Sets.empty-e, Sets.inside-antisym, Filter.filtered-inside, Assignments.assign-i, Assignments.assign-e, Endings.SameModels}
+use Rattle.model.proofs.Endings.{every-i, every-no, failed-i, entailed-i, ending-by, entailed-exactly, consistent-exactly, entailed-left, same-ending}
+use Rattle.filter.specs.inner.Scan.{stepOf, models, None, Some, Live, Passed, Remainder, Right, Changed}
+use Rattle.filter.specs.{Lists.forced, declared.entry.Step.the-variants.Split}
+use Rattle.filter.proofs.Marks.{for-good-equality}
 use Rattle.filter.proofs.Scan
 use Rattle.filter.proofs.Front
-use Rattle.filter.proofs.Marks.{for-good-equality}
 
 -- ---- assignments drawn
 draw-mem : (ss a : List ℕ) → Scan.Draw ss a → List·Memᴰ a (assignments ss)
@@ -174,7 +162,8 @@ module _ {n : ℕ} {ss : List ℕ} (es : List Entry) (l : Live n ss) where
       (λ q. every-taken (take n ss) es (Front.front-small l) (Front.front-full l) (λ z. q (r .left ∙ z)))
 
 -- ---- at an equality that some assignments keep and some break
-module _ {n : ℕ} {ss : List ℕ} {es : List Entry} {rs : List ℕ} (k : Live n ss) (x v : ℕ) (fs : List Entry) (p : Passed n ss es rs (equality x v ∷ fs)) (r : Right n (equality x v)) (e : stepOf rs (equality x v) ≡ Split) where
+module _ {n : ℕ} {ss : List ℕ} {es : List Entry} {rs : List ℕ} (k : Live n ss) (x v : ℕ) (fs : List Entry) (p : Passed n ss es rs (equality x v ∷ fs)) (r : Right n (equality x v))
+    (e : stepOf rs (equality x v) ≡ Split) where
   inside : x < length (take n rs)
   inside = subst (λ (m : ℕ). x < m) (sym (Front.front-length (p .live))) (r .0)
 
@@ -209,4 +198,5 @@ module _ {n : ℕ} {ss : List ℕ} {es : List Entry} {rs : List ℕ} (k : Live n
       gone t = Scan.without-gone (at rs x) v (subst (λ (s : ℕ). T (has s v)) (at-take n out x (r .0) ∙ at-set rs x _ (omega (arith, r .0, p .live .few, p .live .sixteen))) t)
 
       every : Entails (take n out) (equality x v ∷ fs)
-      every a m = for-good-equality (take n out) x v (subst (λ (j : ℕ). x < j) (sym (Front.front-length (Front.split-gone x v fs (Front.begin (equality x v ∷ fs) (p .live)) r e (Front.front-length (p .live)) z .live))) (r .0)) gone a m fs
+      every a m = for-good-equality (take n out) x v (subst (λ (j : ℕ). x < j) (sym (Front.front-length
+          (Front.split-gone x v fs (Front.begin (equality x v ∷ fs) (p .live)) r e (Front.front-length (p .live)) z .live))) (r .0)) gone a m fs

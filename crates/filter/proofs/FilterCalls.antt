@@ -1,28 +1,17 @@
 -- What a caller of `filter` holds (specs/FilterCalls), from its contract and model's theorems. Assumes nothing.
-use mathlib.Core.Path.{_≡_, refl, sym, ap, ap₂, _∙_, subst}
-use mathlib.Core.Logic.{_⊎_, inl, inr, ⊎-elim, _↔_, ∥∥₁-elim, ∥∥₁-prop}
-use mathlib.Core.Bool.{Bool, true, not}
-use mathlib.Core.List.{List, [], _∷_}
-use Prim.Native.Nat.{ℕ, zero, suc, _^_, _<_}
-use native.Mathlib.Omega.{arith}
-use lib.Dec.{T, T-not, not-T, eqb, leb, ltb, eqb→eq, leb→le, ltb→lt, eqb-refl}
-use lib.ListN.{length, getD, replicate}
-use borrow.Author.Tests.{eq-eqb, ne-eqb, lt-ltb, le-leb}
-use Rattle.model.specs.Lists.{at, both}
-use Rattle.model.specs.ValueSets.{has}
-use Rattle.model.specs.Verdict.{Verdict, accepted, refused, ask, reply}
-use Rattle.model.specs.Nogood.{Entry, equality, disequality, is, obeysFrom, obeys, filtered, FilterEnding, failed, entailed, consistent, filterEnding, mark, Kind, isEquality, isDisequality, bothAbsent, bothPresent, kindBy, kindOf, CaseOf, valueOk, entryIn, entryOf, entryOk, entries, firstWrong, filterVerdict, setsAfter, refusal, answered, filterAnswer, Fails, Entails}
-use Rattle.model.specs.Claims.{Drawn}
-use Rattle.model.proofs.Lists.{both-i, both-l, both-r, not-of, getD-at}
-use Rattle.model.proofs.Assignments.{drawn-i, drawn-e}
-use Rattle.model.proofs.Filter.{length-filtered, filtered-sets}
-use Rattle.model.proofs.EntryKinds.{kind-holds}
-use Rattle.model.proofs.Endings.{failed-exactly, entailed-exactly, consistent-exactly}
-use Rattle.model.proofs.Demands.{filter-keeps, filter-empties}
-use Rattle.filter.specs.declared.Answer.{Answer}
-use Rattle.filter.specs.declared.Answer.the-variants.{Failed, Entailed, Consistent, Refused}
-use Rattle.filter.specs.Lists.{means}
-use Rattle.filter.specs.FilterCalls.{CallFilter, SetsRight, LengthsRight, EntryRight, ListsRight, Breaks, Obeys, NoneObeys, EveryObeys, Filter-calls}
+use Rattle.model.specs.Kit.{_≡_, refl, sym, ap, ap₂, _∙_, subst, _⊎_, inl, inr, ⊎-elim, _↔_, Bool, true, not, List, [], _∷_, ℕ, zero, suc, _^_, _<_, arith, T, T-not, not-T, eqb}
+use Rattle.model.specs.Kit.{leb, ltb, eqb→eq, leb→le, ltb→lt, eqb-refl, length, getD, replicate, eq-eqb, ne-eqb, lt-ltb, le-leb}
+use mathlib.Core.Logic.{∥∥₁-elim, ∥∥₁-prop}
+use Rattle.model.specs.{Lists.at, Lists.both, ValueSets.has, Verdict.Verdict, Verdict.accepted, Verdict.refused, Verdict.ask, Verdict.reply, Nogood.Entry, Nogood.equality}
+use Rattle.model.specs.Nogood.{disequality, is, obeysFrom, obeys, filtered, FilterEnding, failed, entailed, consistent, filterEnding, mark, Kind, isEquality, isDisequality}
+use Rattle.model.specs.Nogood.{bothAbsent, bothPresent, kindBy, kindOf, CaseOf, valueOk, entryIn, entryOf, entryOk, entries, firstWrong, filterVerdict, setsAfter, refusal}
+use Rattle.model.specs.{Nogood.answered, Nogood.filterAnswer, Nogood.Fails, Nogood.Entails, Claims.Drawn}
+use Rattle.model.proofs.{Lists.both-i, Lists.both-l, Lists.both-r, Lists.not-of, Lists.getD-at, Assignments.drawn-i, Assignments.drawn-e, Filter.length-filtered}
+use Rattle.model.proofs.{Filter.filtered-sets, EntryKinds.kind-holds, Endings.failed-exactly, Endings.entailed-exactly, Endings.consistent-exactly, Demands.filter-keeps}
+use Rattle.model.proofs.Demands.{filter-empties}
+use Rattle.filter.specs.{declared.Answer.Answer, declared.Answer.the-variants.Failed, declared.Answer.the-variants.Entailed, declared.Answer.the-variants.Consistent}
+use Rattle.filter.specs.{declared.Answer.the-variants.Refused, Lists.means, FilterCalls.CallFilter, FilterCalls.SetsRight, FilterCalls.LengthsRight, FilterCalls.EntryRight}
+use Rattle.filter.specs.FilterCalls.{ListsRight, Breaks, Obeys, NoneObeys, EveryObeys, Filter-calls}
 use Rattle.filter.proofs.Questions.{wrong-at, wrong-none, wrong-entry, all-right}
 
 -- ---- an entry that is right
@@ -98,7 +87,13 @@ module _ (a : List ℕ) where
       unfolding at
       unequal-i m =
           both-i (not (both held (is a x u))) (obeysFrom held a (entries xs es us))
-          (not-T (both held (is a x u)) (λ t. o (both-l held (is a x u) t) 0 record { inside = omega arith; valued = λ z. (let y = m .1 in omega arith); held = λ i l. absurd (omega arith); taken = hit-e x u inside (both-r held (is a x u) t) }))
+          (not-T (both held (is a x u)) (λ t. o (both-l held (is a x u) t) 0 record {
+            inside = omega arith;
+            valued = λ z. (let y = m .1 in omega arith);
+            held = λ i l. absurd
+                (omega arith);
+            taken = hit-e x u inside (both-r held (is a x u) t);
+          }))
           (again held (λ h j b. o h (suc j) (ahead (λ n. absurd (n (m .0))) j b)))
 
   obeys-e : (xs es us : List ℕ) → length es ≡ length xs → length us ≡ length xs → AllRight xs es us → (held : Bool) → T (obeysFrom held a (entries xs es us)) → T held → Obeys a xs es us
@@ -177,7 +172,8 @@ module _ (ds xs es us : List ℕ) (r : Answer) (rs : List ℕ) (small : (x : ℕ
 
   sets-wrong : (SetsRight ds → ⊥) → (r ≡ Refused 17 0) × (rs ≡ ds)
   unfolding filterVerdict
-  sets-wrong n = refused-so 17 0 (asked-no (both (leb 1 (length ds)) (leb (length ds) 12)) 17 0 _ (λ t. n (leb→le 1 (length ds) (both-l (leb 1 (length ds)) (leb (length ds) 12) t), leb→le (length ds) 12 (both-r (leb 1 (length ds)) (leb (length ds) 12) t))))
+  sets-wrong n = refused-so 17 0 (asked-no (both (leb 1 (length ds)) (leb (length ds) 12)) 17 0 _
+      (λ t. n (leb→le 1 (length ds) (both-l (leb 1 (length ds)) (leb (length ds) 12) t), leb→le (length ds) 12 (both-r (leb 1 (length ds)) (leb (length ds) 12) t))))
 
   lengths-wrong : SetsRight ds → (LengthsRight xs es us → ⊥) → (r ≡ Refused 18 0) × (rs ≡ ds)
   unfolding filterVerdict
@@ -188,12 +184,17 @@ module _ (ds xs es us : List ℕ) (r : Answer) (rs : List ℕ) (small : (x : ℕ
       let last = ask (eqb (firstWrong (length ds) xs es us) (length xs)) 19 (firstWrong (length ds) xs es us) accepted in
       refused-so 18 0
       (ap (λ (b : Bool). ask b 17 0 (ask (both (both e u) m) 18 0 last)) (sets-test s)
-      ∙ asked-no (both (both e u) m) 18 0 last (λ t. n (eqb→eq (length es) (length xs) (both-l e u (both-l (both e u) m t)), eqb→eq (length us) (length xs) (both-r e u (both-l (both e u) m t)), leb→le (length xs) 192 (both-r (both e u) m t))))
+      ∙ asked-no (both (both e u) m) 18 0 last (λ t. n (
+        eqb→eq (length es) (length xs) (both-l e u (both-l (both e u) m t)),
+        eqb→eq (length us) (length xs) (both-r e u (both-l (both e u) m t)),
+        leb→le (length xs) 192 (both-r (both e u) m t),
+      )))
 
   entry-wrong : SetsRight ds → LengthsRight xs es us →
       (j : ℕ) → j < length xs → ((i : ℕ) → i < j → EntryRight (length ds) xs es us i) → (EntryRight (length ds) xs es us j → ⊥) → (r ≡ Refused 19 j) × (rs ≡ ds)
   entry-wrong s l j b before n =
-      let w = wrong-at (length ds) xs es us j b (λ i k. let q = before i k in ok-i (length ds) (at xs i) (at es i) (at us i) (q .0) (q .1)) (not-of (entryOk (length ds) (at xs j) (at es j) (at us j)) (λ t. n (ok-e (length ds) (at xs j) (at es j) (at us j) t))) in
+      let w = wrong-at (length ds) xs es us j b (λ i k. let q = before i k in ok-i (length ds) (at xs i) (at es i) (at us i) (q .0) (q .1))
+      (not-of (entryOk (length ds) (at xs j) (at es j) (at us j)) (λ t. n (ok-e (length ds) (at xs j) (at es j) (at us j) t))) in
       refused-so 19 j (sym (wrong-entry ds xs es us (s .0) (s .1) (l .0) (l .1) (l .2) j w (λ z. omega arith)))
 
   after-sized : (v : Verdict) → length (setsAfter v ds (entries xs es us)) ≡ length ds

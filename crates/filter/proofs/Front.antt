@@ -1,22 +1,12 @@
 -- A scan on the first n of sixteen sets, step by step: how `Passed` goes on with each entry, and how it ends. Assumes nothing.
-use mathlib.Core.Path.{_≡_, refl, sym, ap, _∙_, subst}
-use mathlib.Core.Bool.{Bool, true, false}
-use mathlib.Core.List.{List, [], _∷_, map}
-use Prim.Native.Nat.{ℕ, _^_, _≤_, _<_}
-use native.Mathlib.Omega.{arith}
-use native.Mathlib.Decide.{decLt}
-use lib.Dec.{T, eqb}
-use lib.ListN.{length, set, take, length-set}
-use lib.Seq.{getD-take, take-set-lt, length-take-le}
-use borrow.Author.Tests.{eqb-true, eqb-false}
-use Rattle.model.specs.Lists.{at}
-use Rattle.model.specs.ValueSets.{withoutMask, onlyMask, anyEmpty}
-use Rattle.model.specs.Nogood.{Entry, equality, disequality, obeysFrom, filtered}
-use Rattle.model.proofs.Lists.{either-l, at-out, at-set-other, set-each}
-use Rattle.model.specs.Pruning.{Inside}
-use Rattle.model.proofs.Sets.{at-zeros, empty-i, inside-refl, inside-trans}
+use Rattle.model.specs.Kit.{_≡_, refl, sym, ap, _∙_, subst, Bool, true, false, List, [], _∷_, map, ℕ, _^_, _≤_, _<_, arith, decLt, T, eqb, length, set, take, length-set, getD-take}
+use Rattle.model.specs.Kit.{length-take-le, eqb-true, eqb-false}
+use lib.Seq.{take-set-lt}
+use Rattle.model.specs.{Lists.at, ValueSets.withoutMask, ValueSets.onlyMask, ValueSets.anyEmpty, ValueSets.Inside, Nogood.Entry, Nogood.equality, Nogood.disequality}
+use Rattle.model.specs.Nogood.{obeysFrom, filtered}
+use Rattle.model.proofs.{Lists.either-l, Lists.at-out, Lists.at-set-other, Lists.set-each, Sets.at-zeros, Sets.empty-i, Sets.inside-refl, Sets.inside-trans}
 use Rattle.filter.specs.declared.entry.Step.the-variants.{Next, Failed, Obeyed, Split}
-use Rattle.filter.specs.Scan.{stepOf, after, cutStep, keepStep, models, None, Some, Live, Passed, Remainder, Right}
+use Rattle.filter.specs.inner.Scan.{stepOf, after, cutStep, keepStep, models, None, Some, Live, Passed, Remainder, Right}
 use Rattle.filter.proofs.Scan
 
 -- ---- what each step says

@@ -1,25 +1,14 @@
 -- The questions 17, 18 and 19, one by one, and what an accepted call knows. Assumes nothing.
-use mathlib.Core.Path.{_≡_, refl, sym, ap, _∙_, subst}
-use mathlib.Core.Bool.{Bool, true, false, not}
-use mathlib.Core.List.{List}
-use Prim.Native.Nat.{ℕ, _≤_, _<_}
-use native.Mathlib.Omega.{arith}
-use lib.Dec.{T, eqb, leb}
-use lib.ListN.{length}
-use borrow.Author.Tests.{eq-eqb, ne-eqb, eqb-true, le-leb, lt-leb, leb-true, not-false}
-use Rattle.model.specs.Lists.{at, both}
-use Rattle.model.specs.Verdict.{Verdict, accepted, refused, ask, reply}
-use Rattle.model.specs.Nogood.{entries, entryOk, firstWrong, filterVerdict, setsAfter, filterEnding, filterAnswer}
-use Rattle.model.proofs.Lists.{T-of}
-use Rattle.model.proofs.Masks.{least-none, least-at, least-below}
-use Rattle.model.proofs.Members.{both-no}
-use Rattle.filter.specs.declared.Answer.{Answer}
-use Rattle.filter.specs.declared.Answer.the-variants as answer
-use Rattle.filter.specs.declared.Verdict as code
-use Rattle.filter.specs.declared.Verdict.the-variants.{Accepted, Refused}
-use Rattle.filter.specs.Lists.{Listed, Applied, verdictIs}
+use Rattle.model.specs.Kit.{_≡_, refl, sym, ap, _∙_, subst, Bool, true, false, not, List, ℕ, _≤_, _<_, arith, T, eqb, leb, length, eq-eqb, ne-eqb, eqb-true, le-leb, lt-leb}
+use Rattle.model.specs.Kit.{leb-true, not-false}
+use Rattle.model.specs.{Lists.at, Lists.both, Verdict.Verdict, Verdict.accepted, Verdict.refused, Verdict.ask, Verdict.reply, Nogood.entries, Nogood.entryOk, Nogood.firstWrong}
+use Rattle.model.specs.Nogood.{filterVerdict, setsAfter, filterEnding, filterAnswer}
+use Rattle.model.proofs.{Lists.T-of, Lists.both-false, Masks.least-none, Masks.least-at, Masks.least-below}
+use Rattle.filter.specs.{declared.Answer.Answer, declared.Verdict.the-variants.Accepted, declared.Verdict.the-variants.Refused, Lists.Listed, Lists.Applied, Lists.verdictIs}
 use Rattle.filter.specs.FilterCalls.{CallFilter}
 use Rattle.filter.proofs.Marks.{ok-right}
+use Rattle.filter.specs.declared.Answer.the-variants as answer
+use Rattle.filter.specs.declared.Verdict as code
 
 -- ---- the first entry that is not right
 module _ (n : ℕ) (xs es us : List ℕ) where
@@ -48,7 +37,7 @@ module _ (ds xs es us : List ℕ) where
 
   pub many-sets : 12 < length ds → refused 17 0 ≡ filterVerdict ds xs es us
   unfolding filterVerdict
-  many-sets h = simp (lt-leb (length ds) 12 h, both-no)
+  many-sets h = simp (lt-leb (length ds) 12 h, both-false)
 
   module _ (h : 1 ≤ length ds) (m : length ds ≤ 12) where
     pub other-equals : (length es ≡ length xs → ⊥) → refused 18 0 ≡ filterVerdict ds xs es us
@@ -57,11 +46,11 @@ module _ (ds xs es us : List ℕ) where
 
     pub other-others : (length us ≡ length xs → ⊥) → refused 18 0 ≡ filterVerdict ds xs es us
     unfolding filterVerdict
-    other-others q = simp (le-leb 1 (length ds) h, le-leb (length ds) 12 m, ne-eqb (length us) (length xs) q, both-no)
+    other-others q = simp (le-leb 1 (length ds) h, le-leb (length ds) 12 m, ne-eqb (length us) (length xs) q, both-false)
 
     pub long-lists : 192 < length xs → refused 18 0 ≡ filterVerdict ds xs es us
     unfolding filterVerdict
-    long-lists l = simp (le-leb 1 (length ds) h, le-leb (length ds) 12 m, lt-leb (length xs) 192 l, both-no)
+    long-lists l = simp (le-leb 1 (length ds) h, le-leb (length ds) 12 m, lt-leb (length xs) 192 l, both-false)
 
     module _ (p : length es ≡ length xs) (q : length us ≡ length xs) (l : length xs ≤ 192) (r : ℕ) (b : r ≡ firstWrong (length ds) xs es us) where
       pub wrong-entry : (r ≡ length xs → ⊥) → refused 19 r ≡ filterVerdict ds xs es us

@@ -1,28 +1,17 @@
 -- The laws of the scan. First, over any list of sets, what each entry comes to, for every list of entries after it and every test q;
 -- then what the filter leaves at the end of a scan. Front has the same of the first n of sixteen sets. Assumes nothing.
-use mathlib.Core.Path.{_≡_, refl, sym, ap, ap₂, _∙_, subst, fun-ext}
-use mathlib.Core.Bool.{Bool, true, false, not}
-use mathlib.Core.List.{List, [], _∷_, map}
-use mathlib.Core.Logic.{_⊎_, inl, inr, ⊎-elim}
-use Prim.Native.Nat.{ℕ, zero, suc, _^_, _<_}
-use native.Mathlib.Nat.{not-suc-le-zero, le-of-suc-le-suc}
-use native.Mathlib.Decide.{ℕ-discrete}
-use native.Mathlib.Omega.{arith}
-use lib.Dec.{T, eqb, eqb→eq}
-use lib.ListN.{length, getD, set, length-set, length-map}
+use Rattle.model.specs.Kit.{_≡_, refl, sym, ap, ap₂, _∙_, subst, Bool, true, false, not, List, [], _∷_, map, _⊎_, inl, inr, ⊎-elim, ℕ, zero, suc, _^_, _<_, not-suc-le-zero}
+use Rattle.model.specs.Kit.{le-of-suc-le-suc, ℕ-discrete, arith, T, eqb, eqb→eq, length, getD, set, length-set, length-map, eq-eqb, eqb-true}
+use mathlib.Core.Path.{fun-ext}
 use lib.Seq.{getD-set-same}
-use borrow.Author.Tests.{eq-eqb, eqb-true}
-use Rattle.model.specs.Lists.{both, either, any, at, tabulate}
-use Rattle.model.specs.ValueSets.{has, maskOf, withoutMask, onlyMask}
-use Rattle.model.specs.Problem.{assignments}
-use Rattle.model.specs.Pruning.{Inside}
-use Rattle.model.specs.Nogood.{Entry, equality, disequality, is, obeysFrom, obeys, obeying, used, filtered}
-use Rattle.model.proofs.Lists.{T-of, of-T, not-of, of-not, T-ext, both-i, both-l, both-r, either-l, either-r, either-e, any-i, any-e, keep-i, keep-e, getD-at, at-ext, at-tabulate, length-tabulate, at-set, at-set-other, set-at, set-each, both-less}
-use Rattle.model.proofs.Sets.{has-mask, has-none, mask-lt, mask-i, mask-e, members-i, members-e, member, at-zeros}
-use Rattle.model.proofs.Masks.{is-mask}
-use Rattle.model.proofs.Members.{either-no}
-use Rattle.model.proofs.Assignments.{assign-i, assign-e}
-use Rattle.filter.specs.Scan.{models}
+use Rattle.model.specs.{Lists.both, Lists.either, Lists.any, Lists.at, Lists.tabulate, ValueSets.has, ValueSets.maskOf, ValueSets.withoutMask, ValueSets.onlyMask, ValueSets.Inside}
+use Rattle.model.specs.{Problem.assignments, Nogood.Entry, Nogood.equality, Nogood.disequality, Nogood.is, Nogood.obeysFrom, Nogood.obeys, Nogood.obeying, Nogood.used}
+use Rattle.model.specs.Nogood.{filtered}
+use Rattle.model.proofs.Lists.{T-of, of-T, not-of, of-not, T-ext, both-i, both-l, both-r, either-l, either-r, either-e, any-i, any-e, keep-i, keep-e, getD-at, at-ext, at-tabulate}
+use Rattle.model.proofs.{Lists.length-tabulate, Lists.at-set, Lists.at-set-other, Lists.set-at, Lists.set-each, Lists.both-less, Sets.has-mask, Sets.has-none, Sets.mask-lt}
+use Rattle.model.proofs.{Sets.mask-i, Sets.mask-e, Sets.members-i, Sets.members-e, Sets.member, Sets.at-zeros, Masks.is-mask, Members.either-no, Assignments.assign-i}
+use Rattle.model.proofs.Assignments.{assign-e}
+use Rattle.filter.specs.inner.Scan.{models}
 
 -- ---- an assignment drawn from the sets
 abbrev pub Draw : List ℕ → List ℕ → Type 0

@@ -1,26 +1,17 @@
 -- The equality at which a pass stops, and what the whole filter leaves. Assumes nothing.
-use mathlib.Core.Path.{_≡_, refl, sym, ap, _∙_, subst}
-use mathlib.Core.Bool.{Bool, true, false, not}
-use mathlib.Core.List.{List, [], _∷_}
-use Prim.Native.Nat.{ℕ, zero, suc, _+_, _^_, _<_}
-use native.Mathlib.Numerals.{add-one}
-use native.Mathlib.Omega.{arith}
-use lib.Dec.{T}
-use lib.ListN.{length, take, drop, replicate}
-use Rattle.model.specs.Lists.{at}
-use Rattle.model.specs.Nogood.{Entry, equality, disequality, entries, filtered, endingBy, everyObeys, filterEnding, answered}
-use Rattle.filter.specs.declared.entry.Step.{Step}
-use Rattle.filter.specs.declared.Reached.{Reached}
-use Rattle.filter.specs.declared.Reached.the-variants.{Failed, End, Split}
-use Rattle.filter.specs.declared.Ending.{Ending}
+use Rattle.model.specs.Kit.{_≡_, refl, sym, ap, _∙_, subst, Bool, true, false, not, List, [], _∷_, ℕ, zero, suc, _+_, _^_, _<_, add-one, arith, T, length, take, drop, replicate}
+use Rattle.model.specs.{Lists.at, Nogood.Entry, Nogood.equality, Nogood.disequality, Nogood.entries, Nogood.filtered, Nogood.endingBy, Nogood.everyObeys, Nogood.filterEnding}
+use Rattle.model.specs.Nogood.{answered}
+use Rattle.filter.specs.{declared.entry.Step.Step, declared.Reached.Reached, declared.Reached.the-variants.Failed, declared.Reached.the-variants.End}
+use Rattle.filter.specs.{declared.Reached.the-variants.Split, declared.Ending.Ending, inner.Scan.models, inner.Scan.Right, inner.Scan.Stepped, inner.Scan.None}
+use Rattle.filter.specs.{inner.Scan.Some, inner.Scan.Live, inner.Scan.Passed, inner.Scan.Remainder, inner.Scan.Resolved, inner.Scan.Changed, Lists.Listed, Lists.Ready}
+use Rattle.filter.specs.Lists.{AtSplit, SplitReached, PassResult, ScanResult, Loaded, Applied, forced, zeros}
+use Rattle.filter.proofs.{Turns.entry-at, Endings.none-failed, Endings.passed-ending, Endings.every-passed, Endings.every-changed, Endings.ended-entailed}
+use Rattle.filter.proofs.Endings.{ended-every, kept-ending, gone-entailed, unchanged, changed-front, by-changed, front-consistent, front-remainder}
 use Rattle.filter.specs.declared.Ending.the-variants as ending
 use Rattle.filter.specs.declared.Answer.the-variants as answer
-use Rattle.filter.specs.Scan.{models, Right, Stepped, None, Some, Live, Passed, Remainder, Resolved, Changed}
-use Rattle.filter.specs.Lists.{Listed, Ready, AtSplit, SplitReached, PassResult, ScanResult, Loaded, Applied, forced, zeros}
 use Rattle.filter.proofs.Scan
 use Rattle.filter.proofs.Front
-use Rattle.filter.proofs.Turns.{entry-at}
-use Rattle.filter.proofs.Endings.{none-failed, passed-ending, every-passed, every-changed, ended-entailed, ended-every, kept-ending, gone-entailed, unchanged, changed-front, by-changed, front-consistent, front-remainder}
 
 -- what a pass said, where it ended so
 said : (n : ℕ) (ss xs es us : List ℕ) (start : ℕ) (rs : List ℕ) (r v : Reached) → r ≡ v → PassResult n ss xs es us start rs r → PassResult n ss xs es us start rs v
@@ -62,7 +53,8 @@ module _ {n : ℕ} {ss xs es us : List ℕ} {k : ℕ} (f : AtSplit n ss xs es us
     from-next P z = subst (λ (l : List ℕ). P n l fs) e (subst (λ (j : ℕ). P n ts (drop j (entries xs es us))) (add-one k) z)
 
     -- no assignment obeys them: the value goes, and every one that is left breaks the equality
-    pub resolved-gone : (rs : List ℕ) (r : Reached) → PassResult n ts xs es us (k + 1) rs r → r ≡ Failed → {us′ : List ℕ} {s : Step} → Stepped ss (disequality (at xs k) (at es k)) us′ s → Resolved true n ss (drop k (entries xs es us)) us′
+    pub resolved-gone : (rs : List ℕ) (r : Reached) → PassResult n ts xs es us (k + 1) rs r → r ≡ Failed → {us′ : List ℕ} {s : Step} → Stepped ss (disequality (at xs k) (at es k)) us′ s
+        → Resolved true n ss (drop k (entries xs es us)) us′
     resolved-gone rs r h d s =
         let z : None n (forced ss (at xs k) (at es k)) fs = from-next None (said n ts xs es us (k + 1) rs r Failed d h) in
         record {
@@ -125,7 +117,8 @@ module _ {n : ℕ} {ss xs es us : List ℕ} {k : ℕ} (f : AtSplit n ss xs es us
             is-false false e = refl
 
         pub resolved-again : not y ≡ false → (b : Bool) → Changed b ts vs → Resolved (not b) n ss (drop k (entries xs es us)) ss
-        resolved-again w b l = kept some (at-next ∙ front-remainder (drop j (entries xs es us)) (next .at-split .live) (z .remainder) (z .ending ∙ ap (endingBy true) (is-true y w)) b (subst (λ (m : List ℕ). Changed b m vs) (sym (unchanged (split-ready .live) (next .at-split .live) c g q)) l))
+        resolved-again w b l = kept some (at-next ∙ front-remainder (drop j (entries xs es us)) (next .at-split .live) (z .remainder) (z .ending ∙ ap (endingBy true) (is-true y w)) b
+            (subst (λ (m : List ℕ). Changed b m vs) (sym (unchanged (split-ready .live) (next .at-split .live) c g q)) l))
           where
             is-true : (b : Bool) → not b ≡ false → b ≡ true
             is-true true e = refl

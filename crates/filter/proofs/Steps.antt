@@ -1,18 +1,9 @@
 -- What the code does to one set, as the step of an entry. Assumes nothing.
-use mathlib.Core.Path.{_≡_, refl, sym, ap, ap₂, _∙_}
-use mathlib.Core.Bool.{Bool, true, false, not, _||_}
-use mathlib.Core.List.{List}
-use Prim.Native.Nat.{ℕ, _+_, _^_, _≤_, _<_}
-use native.Mathlib.Omega.{arith}
-use lib.Dec.{eqb}
-use lib.ListN.{set}
-use borrow.Author.Count.{below-more}
-use borrow.Author.Tests.{eq-eqb, ne-eqb, eqb-true, eqb-false}
-use Rattle.model.specs.Lists.{at}
-use Rattle.model.specs.ValueSets.{withoutMask, onlyMask}
-use Rattle.model.specs.Nogood.{equality, disequality}
+use Rattle.model.specs.Kit.{_≡_, refl, sym, ap, ap₂, _∙_, Bool, true, false, not, List, ℕ, _+_, _^_, _≤_, _<_, arith, eqb, set, below-more, eq-eqb, ne-eqb, eqb-true, eqb-false}
+use mathlib.Core.Bool.{_||_}
+use Rattle.model.specs.{Lists.at, ValueSets.withoutMask, ValueSets.onlyMask, Nogood.equality, Nogood.disequality}
 use Rattle.filter.specs.declared.entry.Step.the-variants.{Next, Failed, Obeyed, Split}
-use Rattle.filter.specs.Scan.{Stepped, Changed, cutStep, keepStep}
+use Rattle.filter.specs.inner.Scan.{Stepped, Changed, cutStep, keepStep}
 use Rattle.filter.proofs.Scan.{kept-without, absent-only}
 
 -- `left` is the variable's set without the value

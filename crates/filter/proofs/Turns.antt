@@ -1,20 +1,11 @@
 -- A pass over the three lists: what each turn does, and what its end says. Assumes nothing.
-use mathlib.Core.Path.{_≡_, refl, sym, ap, _∙_, subst}
-use mathlib.Core.Bool.{Bool, true, false}
-use mathlib.Core.List.{List, [], _∷_}
-use Prim.Native.Nat.{ℕ, zero, suc, _+_, _≤_, _<_}
-use native.Mathlib.Nat.{not-suc-le-zero, le-of-suc-le-suc}
-use native.Mathlib.Numerals.{add-one}
-use native.Mathlib.Omega.{arith}
-use lib.Dec.{eqb}
-use lib.ListN.{length, drop}
-use Rattle.model.specs.Lists.{at}
-use Rattle.model.specs.ValueSets.{withoutMask}
-use Rattle.model.specs.Nogood.{Entry, equality, disequality, Kind, isEquality, isDisequality, bothAbsent, bothPresent, kindOf, entryIn, entryOf, entries}
-use Rattle.filter.specs.declared.entry.Step.{Step}
-use Rattle.filter.specs.declared.entry.Step.the-variants.{Next, Failed, Obeyed, Split}
-use Rattle.filter.specs.Scan.{stepOf, after, cutStep, Right, Stepped, None, Passed}
-use Rattle.filter.specs.Lists.{Ready, SplitReached}
+use Rattle.model.specs.Kit.{_≡_, refl, sym, ap, _∙_, subst, Bool, true, false, List, [], _∷_, ℕ, zero, suc, _+_, _≤_, _<_, not-suc-le-zero, le-of-suc-le-suc, add-one, arith, eqb}
+use Rattle.model.specs.Kit.{length, drop}
+use Rattle.model.specs.{Lists.at, ValueSets.withoutMask, Nogood.Entry, Nogood.equality, Nogood.disequality, Nogood.Kind, Nogood.isEquality, Nogood.isDisequality, Nogood.bothAbsent}
+use Rattle.model.specs.Nogood.{bothPresent, kindOf, entryIn, entryOf, entries}
+use Rattle.filter.specs.{declared.entry.Step.Step, declared.entry.Step.the-variants.Next, declared.entry.Step.the-variants.Failed, declared.entry.Step.the-variants.Obeyed}
+use Rattle.filter.specs.{declared.entry.Step.the-variants.Split, inner.Scan.stepOf, inner.Scan.after, inner.Scan.cutStep, inner.Scan.Right, inner.Scan.Stepped}
+use Rattle.filter.specs.{inner.Scan.None, inner.Scan.Passed, Lists.Ready, Lists.SplitReached}
 use Rattle.filter.proofs.Marks.{right-mono}
 use Rattle.filter.proofs.Front
 

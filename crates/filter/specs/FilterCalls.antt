@@ -1,18 +1,9 @@
 -- What a caller of `filter` may rely on (paper 01, "Nogood lists" and demand 2; paper 02, #102 and #105), in terms of what it holds: the sets as they
 -- came, the three lists, the answer, and the sets afterwards. proofs/FilterCalls has the theorem.
-use mathlib.Core.Path.{_≡_}
-use mathlib.Core.Logic.{_⊎_, _↔_}
-use mathlib.Core.List.{List}
-use Prim.Native.Nat.{ℕ, _^_, _≤_, _<_}
-use lib.ListN.{length, replicate}
-use lib.Dec.{T}
-use Rattle.model.specs.Lists.{at}
-use Rattle.model.specs.ValueSets.{has}
-use Rattle.model.specs.Nogood.{mark, entries, filterVerdict, filterAnswer, setsAfter}
-use Rattle.model.specs.Claims.{Drawn}
-use Rattle.filter.specs.Lists.{means}
-use Rattle.filter.specs.declared.Answer.{Answer}
-use Rattle.filter.specs.declared.Answer.the-variants.{Failed, Entailed, Consistent, Refused}
+use Rattle.model.specs.Kit.{_≡_, _⊎_, _↔_, List, ℕ, _^_, _≤_, _<_, length, replicate, T}
+use Rattle.model.specs.{Lists.at, ValueSets.has, Nogood.mark, Nogood.entries, Nogood.filterVerdict, Nogood.filterAnswer, Nogood.setsAfter, Claims.Drawn}
+use Rattle.filter.specs.{Lists.means, declared.Answer.Answer, declared.Answer.the-variants.Failed, declared.Answer.the-variants.Entailed}
+use Rattle.filter.specs.declared.Answer.the-variants.{Consistent, Refused}
 
 -- a call of `filter`: sets ds and the lists index, equal, not-equal as lent, answer r, sets rs at the end. It is the function's contract.
 pub record CallFilter (ds xs es us : List ℕ) (r : Answer) (rs : List ℕ) : Type 0 where

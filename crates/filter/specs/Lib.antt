@@ -1,4 +1,4 @@
-pub mod Scan
 pub mod Lists
 pub mod FilterCalls
 pub mod Marks
+pub mod inner

@@ -1,25 +1,17 @@
 -- What the answer of the filter means, and what the functions that read the three lists say to each other.
-use mathlib.Core.Path.{_≡_}
-use mathlib.Core.Bool.{Bool, true, false}
-use mathlib.Core.List.{List, [], map}
-use Prim.Native.Nat.{ℕ, _≤_, _<_}
-use lib.ListN.{length, set, take, drop}
-use Rattle.model.specs.Lists.{at}
-use Rattle.model.specs.ValueSets.{onlyMask}
-use Rattle.model.specs.Verdict.{Verdict, accepted, refused}
-use Rattle.model.specs.Nogood.{Entry, equality, filtered, failed, entailed, consistent, filterEnding, FilterAnswer, refusal, answered, Kind, isEquality, isDisequality, bothAbsent, bothPresent, entryOf, entries}
-use Rattle.filter.specs.declared.Answer.{Answer}
+use Rattle.model.specs.Kit.{_≡_, Bool, true, false, List, [], map, ℕ, _≤_, _<_, length, set, take, drop}
+use Rattle.model.specs.{Lists.at, ValueSets.onlyMask, Verdict.Verdict, Verdict.accepted, Verdict.refused, Nogood.Entry, Nogood.equality, Nogood.filtered, Nogood.failed}
+use Rattle.model.specs.Nogood.{entailed, consistent, filterEnding, FilterAnswer, refusal, answered, Kind, isEquality, isDisequality, bothAbsent, bothPresent, entryOf, entries}
+use Rattle.filter.specs.{declared.Answer.Answer, declared.Ending.Ending, declared.Kind.the-variants.Equality, declared.Kind.the-variants.Disequality}
+use Rattle.filter.specs.{declared.Kind.the-variants.BothAbsent, declared.Kind.the-variants.BothPresent, declared.Reached.Reached, declared.Reached.the-variants.Failed}
+use Rattle.filter.specs.{declared.Reached.the-variants.End, declared.Reached.the-variants.Split, inner.Scan.Right, inner.Scan.stepOf, inner.Scan.None, inner.Scan.Live}
+use Rattle.filter.specs.inner.Scan.{Passed, Resolved}
 use Rattle.filter.specs.declared.Answer.the-variants as answer
 use Rattle.filter.specs.declared.Verdict as code
 use Rattle.filter.specs.declared.Verdict.the-variants as verdict
-use Rattle.filter.specs.declared.Ending.{Ending}
 use Rattle.filter.specs.declared.Ending.the-variants as ending
 use Rattle.filter.specs.declared.Kind as kind
-use Rattle.filter.specs.declared.Kind.the-variants.{Equality, Disequality, BothAbsent, BothPresent}
-use Rattle.filter.specs.declared.Reached.{Reached}
-use Rattle.filter.specs.declared.Reached.the-variants.{Failed, End, Split}
 use Rattle.filter.specs.declared.entry.Step.the-variants as step
-use Rattle.filter.specs.Scan.{Right, stepOf, None, Live, Passed, Resolved}
 
 -- the ending of paper 02, #102, or the number and the item of paper 01 for each answer
 abbrev pub means : Answer → FilterAnswer

@@ -1,16 +1,7 @@
 -- What is known of the first part of a list of nogoods for all assignments drawn from some sets, and stays known as the sets shrink and the list grows.
--- No reader has to believe this: it stands between proved functions.
-use mathlib.Core.Path.{_≡_}
-use mathlib.Core.Bool.{false}
-use mathlib.Core.List.{List, _++_, List·Memᴰ}
-use Prim.Native.Nat.{ℕ, _^_, _<_}
-use lib.Dec.{T}
-use lib.ListN.{length}
-use Rattle.model.specs.Lists.{at}
-use Rattle.model.specs.ValueSets.{has, anyEmpty}
-use Rattle.model.specs.Problem.{assignments}
-use Rattle.model.specs.Nogood.{Entry, equality, obeys, filtered, Entails}
-use Rattle.model.specs.Pruning.{Inside}
+use Rattle.model.specs.Kit.{_≡_, false, List, _++_, List·Memᴰ, ℕ, _^_, _<_, T, length}
+use Rattle.model.specs.{Lists.at, ValueSets.has, ValueSets.anyEmpty, ValueSets.Inside, Problem.assignments, Nogood.Entry, Nogood.equality, Nogood.obeys, Nogood.filtered}
+use Rattle.model.specs.Nogood.{Entails}
 
 -- every equality of the entries holds and every disequality too: what comes after them decides
 abbrev pub Vacuous : List ℕ → List Entry → Type 0

@@ -6,7 +6,7 @@ ghost use lib.ListN.{set};
 ghost use Rattle.model.specs.Lists.{at};
 ghost use Rattle.model.specs.ValueSets.{onlyMask};
 ghost use Rattle.model.specs.Nogood.{equality, disequality};
-ghost use Rattle.filter.specs.Scan.{Stepped, Changed};
+ghost use Rattle.filter.specs.inner.Scan.{Stepped, Changed};
 use model::ValueSet;
 
 // What one entry comes to.

@@ -6,7 +6,7 @@ ghost use Prim.Native.Nat.{ℕ, _≤_, _<_, _^_};
 ghost use lib.ListN.{length, take, drop};
 ghost use Rattle.model.specs.Lists.{at};
 ghost use Rattle.model.specs.Nogood.{kindOf, entries, entryOf, entryOk, firstWrong, filterVerdict};
-ghost use Rattle.filter.specs.Scan.{Stepped, Right, Resolved};
+ghost use Rattle.filter.specs.inner.Scan.{Stepped, Right, Resolved};
 ghost use Rattle.filter.specs.Lists.{Ready, PassResult, AtSplit, ScanResult, Loaded, Listed, Applied, zeros, kindAs, verdictIs};
 ghost use Rattle.filter.specs.FilterCalls.{CallFilter};
 use entry::Step;
@@ -101,7 +101,8 @@ fn right(n: usize, x: u8, equal: u8, not_equal: u8) -> bool
 // Passes the entries from a start, until the result is known.
 fn pass(sets: &mut [u16; 16], index: &[u8], equal: &[u8], not_equal: &[u8], start: usize) -> Reached
     requires { ⌜ ((n : ℕ) × Ready n (now sets) (now index) (now equal) (now «not_equal») start) ⌝ }
-    ensures { λ r. ⌜ ((n : ℕ) → Ready n (now (sets .entry)) (now (index .entry)) (now (equal .entry)) (now («not_equal» .entry)) start → PassResult n (now (sets .entry)) (now (index .entry)) (now (equal .entry)) (now («not_equal» .entry)) start (now (sets .exit)) r) ⌝ }
+    ensures { λ r. ⌜ ((n : ℕ) → Ready n (now (sets .entry)) (now (index .entry)) (now (equal .entry)) (now («not_equal» .entry)) start → PassResult n
+        (now (sets .entry)) (now (index .entry)) (now (equal .entry)) (now («not_equal» .entry)) start (now (sets .exit)) r) ⌝ }
 {
     let mut i = start;
     while i < index.len() {
@@ -123,7 +124,8 @@ fn pass(sets: &mut [u16; 16], index: &[u8], equal: &[u8], not_equal: &[u8], star
 // the same is asked there. True where every assignment from the sets left obeys all entries from here on.
 fn resolve(sets: &mut [u16; 16], index: &[u8], equal: &[u8], not_equal: &[u8], k: usize) -> bool
     requires { ⌜ ((n : ℕ) × AtSplit n (now sets) (now index) (now equal) (now «not_equal») k) ⌝ }
-    ensures { λ r. ⌜ ((n : ℕ) → AtSplit n (now (sets .entry)) (now (index .entry)) (now (equal .entry)) (now («not_equal» .entry)) k → Resolved r n (now (sets .entry)) (drop k (entries (now (index .entry)) (now (equal .entry)) (now («not_equal» .entry)))) (now (sets .exit))) ⌝ }
+    ensures { λ r. ⌜ ((n : ℕ) → AtSplit n (now (sets .entry)) (now (index .entry)) (now (equal .entry)) (now («not_equal» .entry)) k → Resolved r n
+        (now (sets .entry)) (drop k (entries (now (index .entry)) (now (equal .entry)) (now («not_equal» .entry)))) (now (sets .exit))) ⌝ }
 {
     let x = index[k] as usize;
     let mut ahead = *sets;
@@ -151,7 +153,8 @@ fn resolve(sets: &mut [u16; 16], index: &[u8], equal: &[u8], not_equal: &[u8], k
 // The exact filter on sixteen sets.
 fn propagate(sets: &mut [u16; 16], index: &[u8], equal: &[u8], not_equal: &[u8]) -> Ending
     requires { ⌜ ((n : ℕ) × Ready n (now sets) (now index) (now equal) (now «not_equal») 0) ⌝ }
-    ensures { λ r. ⌜ ((n : ℕ) → Ready n (now (sets .entry)) (now (index .entry)) (now (equal .entry)) (now («not_equal» .entry)) 0 → ScanResult r n (now (sets .entry)) (entries (now (index .entry)) (now (equal .entry)) (now («not_equal» .entry))) (now (sets .exit))) ⌝ }
+    ensures { λ r. ⌜ ((n : ℕ) → Ready n (now (sets .entry)) (now (index .entry)) (now (equal .entry)) (now («not_equal» .entry)) 0 → ScanResult r n
+        (now (sets .entry)) (entries (now (index .entry)) (now (equal .entry)) (now («not_equal» .entry))) (now (sets .exit))) ⌝ }
 {
     let reached = pass(sets, index, equal, not_equal, 0);
     match reached {

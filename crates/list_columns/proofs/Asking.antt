@@ -1,17 +1,8 @@
 -- The questions as the code puts them, and what their answers say. Assumes nothing.
-use mathlib.Core.Path.{_≡_, sym, ap, ap₂, _∙_, subst}
-use mathlib.Core.Bool.{Bool, true, false}
-use mathlib.Core.List.{List}
-use Prim.Native.Nat.{ℕ, _+_, _*_, _/_, _%_, _≤_, _<_}
-use native.Mathlib.Nat.{div-add-mod', mul-le-mul, mul-le-mul-right}
-use native.Mathlib.Omega.{arith}
-use lib.ListN.{length, getD}
-use lib.Dec.{T, leb, ltb, eqb, ltb→lt, lt→ltb}
-use borrow.Author.Count.{below-more}
-use borrow.Author.Tests.{leb-true, eqb-true, lt-leb, le-leb, eq-eqb}
-use Rattle.model.specs.Lists.{both, all}
-use Rattle.model.specs.Sheet.{«word»}
-use Rattle.model.specs.Verdict.{Verdict, accepted, refused, ask, isAccepted}
+use Rattle.model.specs.Kit.{_≡_, sym, ap, ap₂, _∙_, subst, Bool, true, false, List, ℕ, _+_, _*_, _/_, _%_, _≤_, _<_, mul-le-mul, mul-le-mul-right, arith, length, getD, T, leb, ltb}
+use Rattle.model.specs.Kit.{eqb, ltb→lt, lt→ltb, below-more, leb-true, eqb-true, lt-leb, le-leb, eq-eqb}
+use native.Mathlib.Nat.{div-add-mod'}
+use Rattle.model.specs.{Lists.both, Lists.all, Sheet.«word», Verdict.Verdict, Verdict.accepted, Verdict.refused, Verdict.ask, Verdict.isAccepted}
 use Rattle.model.proofs.Lists.{all-i, all-e, of-T, T-of, T-ext, not-of, mem-getD, place-of, both-i, both-l, both-r}
 use Rattle.model.proofs.Accepted.{asked}
 use Rattle.list_columns.specs.Columns.{variables, plans, body, wholeRows, smallValues, bytesVerdict, isStore, rowsVerdict}

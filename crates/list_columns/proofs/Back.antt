@@ -1,27 +1,15 @@
 -- The claims of paper 02, #103. Assumes nothing.
-use mathlib.Core.Path.{_≡_, refl, sym, ap, ap₂, _∙_, subst}
-use mathlib.Core.Bool.{Bool, true, false}
-use mathlib.Core.List.{List, [], _∷_, _++_, map}
-use Prim.Native.Nat.{ℕ, _+_, _*_, _/_, _%_, _≤_, _<_}
+use Rattle.model.specs.Kit.{_≡_, refl, sym, ap, ap₂, _∙_, subst, Bool, true, false, List, [], _∷_, _++_, map, ℕ, _+_, _*_, _/_, _%_, _≤_, _<_, arith, T, leb, ltb, ltb→lt, length}
+use Rattle.model.specs.Kit.{take, getD, length-append, length-drop, take-append-drop, length-take-le, getD-take, leb-true, leb-false}
 use native.Mathlib.Nat.{mul-comm, mul-mod-left, mul-div-cancel}
-use native.Mathlib.Omega.{arith}
-use lib.Dec.{T, leb, ltb, ltb→lt}
-use lib.ListN.{length, take, getD, length-append, length-drop, take-append-drop}
-use lib.Seq.{length-take-le, getD-take}
-use borrow.Author.Tests.{leb-true, leb-false}
-use Rattle.model.specs.Lists.{all, flat, upFrom, below, at}
-use Rattle.model.specs.Bytes.{twoBytes}
-use Rattle.model.specs.Sheet.{«word»}
-use Rattle.model.specs.Run.{listedPlans}
-use Rattle.model.specs.Room.{rowsIn}
-use Rattle.model.specs.Verdict.{accepted, refused}
-use Rattle.model.proofs.Lists.{of-T, T-of, all-e, map-ext, below-e, at-out, mem-at}
-use Rattle.model.proofs.Room.{Wide, length-listed, listed-wide, length-flat, cut-flat, flat-cut}
-use Rattle.list_columns.specs.Columns.{transposed, heading, columnsOf, variables, plans, body, columnsIn, rowsOf, smallValues, bytesVerdict, columnsVerdict, isStore, rowsVerdict}
-use Rattle.list_columns.specs.Claims.{RowsBack, StoreBack, Store, StoresOnly, StoreTest}
+use Rattle.model.specs.{Lists.all, Lists.flat, Lists.upFrom, Lists.below, Lists.at, Bytes.twoBytes, Sheet.«word», Run.listedPlans, Room.rowsIn, Verdict.accepted, Verdict.refused}
+use Rattle.model.proofs.{Lists.of-T, Lists.T-of, Lists.all-e, Lists.map-ext, Lists.below-e, Lists.at-out, Lists.mem-at, Room.Wide, Room.length-listed, Room.listed-wide}
+use Rattle.model.proofs.Room.{length-flat, cut-flat, flat-cut}
+use Rattle.list_columns.specs.Columns.{transposed, heading, columnsOf, variables, plans, body, columnsIn, rowsOf, smallValues, bytesVerdict, columnsVerdict, isStore}
+use Rattle.list_columns.specs.{Columns.rowsVerdict, Claims.RowsBack, Claims.StoreBack, Claims.Store, Claims.StoresOnly, Claims.StoreTest}
 use Rattle.list_columns.proofs.Asking.{cells, Passed, passed, passes, store-e, store-i, no-store, asked-23, refusal-is, accepted-store}
-use Rattle.list_columns.proofs.Cells.{heading-length}
-use Rattle.list_columns.proofs.Transposing.{map-places, length-transposed, transposed-wide, twice, small-transposed}
+use Rattle.list_columns.proofs.{Cells.heading-length, Transposing.map-places, Transposing.length-transposed, Transposing.transposed-wide, Transposing.twice}
+use Rattle.list_columns.proofs.Transposing.{small-transposed}
 
 -- ---- 23
 pub store-test : StoreTest
@@ -233,4 +221,5 @@ store-back s room back bytes accept fits = (verdict, store)
 
     verdict : bytesVerdict n (flat rs) (8 + length (flat rs)) back ≡ accepted
     verdict =
-        fine n k (flat rs) (8 + length (flat rs)) back (p .rows .some) (p .rows .most) many size (small-transposed k columns narrow (ap smallValues joined ∙ p .small)) (omega (arith, size, mul-comm n k, w .size))
+        fine n k (flat rs) (8 + length (flat rs)) back (p .rows .some) (p .rows .most) many size (small-transposed k columns narrow (ap smallValues joined ∙ p .small))
+        (omega (arith, size, mul-comm n k, w .size))

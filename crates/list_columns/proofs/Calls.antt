@@ -1,17 +1,10 @@
 -- What callers of `to_columns` and `to_rows` hold (specs/Calls). Assumes nothing.
-use mathlib.Core.Path.{_≡_, refl, ap, ap₂, _∙_, subst}
-use mathlib.Core.List.{List, _++_}
-use Prim.Native.Nat.{ℕ}
-use native.Mathlib.Omega.{arith}
-use lib.ListN.{length, take, drop}
+use Rattle.model.specs.Kit.{_≡_, refl, ap, ap₂, _∙_, subst, List, _++_, ℕ, arith, length, take, drop}
 use lib.Seq.{take-append-seam, drop-append-seam}
-use Rattle.model.specs.Verdict.{Verdict, accepted, refused}
-use Rattle.model.specs.Room.{wrote, outcomeOf, roomAfter}
-use Rattle.list_columns.specs.Columns.{columnsOf, rowsOf, variables, columnsVerdict, rowsVerdict}
-use Rattle.list_columns.specs.Meaning.{means}
-use Rattle.list_columns.specs.declared.Answer.{Answer}
-use Rattle.list_columns.specs.declared.Answer.the-variants.{Written, Refused}
-use Rattle.list_columns.specs.Calls.{CallColumns, CallRows, Wrote, Rows-back-calls, Store-back-calls}
+use Rattle.model.specs.{Verdict.Verdict, Verdict.accepted, Verdict.refused, Room.wrote, Room.outcomeOf, Room.roomAfter}
+use Rattle.list_columns.specs.{Columns.columnsOf, Columns.rowsOf, Columns.variables, Columns.columnsVerdict, Columns.rowsVerdict, Meaning.means, declared.Answer.Answer}
+use Rattle.list_columns.specs.{declared.Answer.the-variants.Written, declared.Answer.the-variants.Refused, Calls.CallColumns, Calls.CallRows, Calls.Wrote}
+use Rattle.list_columns.specs.Calls.{Rows-back-calls, Store-back-calls}
 use Rattle.list_columns.proofs.Back.{rows-back, store-back}
 
 is-written : (r : Answer) (k : ℕ) → means r ≡ wrote k → r ≡ Written k
@@ -27,7 +20,8 @@ text-front accepted text room k after e w = (
 text-front (refused number item) text room k after e w = absurd (let z : _≡_ {A = ℕ} 0 1 = cc in omega arith)
 
 -- an accepted call wrote its text
-accepted-wrote : (v : Verdict) (text text′ room : List ℕ) (r : Answer) (after : List ℕ) → means r ≡ outcomeOf v text → after ≡ roomAfter v text room → v ≡ accepted → text ≡ text′ → Wrote text′ room r after
+accepted-wrote : (v : Verdict) (text text′ room : List ℕ) (r : Answer) (after : List ℕ) → means r ≡ outcomeOf v text → after ≡ roomAfter v text room → v ≡ accepted → text ≡ text′
+    → Wrote text′ room r after
 accepted-wrote v text text′ room r after e w a q = subst (λ (t : List ℕ). Wrote t room r after) q record {
   answer = is-written r (length text) (e ∙ ap (λ (u : Verdict). outcomeOf u text) a);
   front = ap (take (length text)) written ∙ take-append-seam text (drop (length text) room);

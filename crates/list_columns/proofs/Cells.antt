@@ -1,20 +1,9 @@
 -- Numbers put one after another, and a buffer by its indexes. Assumes nothing.
-use mathlib.Core.Path.{_≡_, refl, sym, ap, ap₂, _∙_, subst}
-use mathlib.Core.Bool.{Bool, true, false}
-use mathlib.Core.List.{List, [], _∷_, _++_, List·Memᴰ·head}
-use Prim.Native.Nat.{ℕ, zero, suc, _+_, _*_, _-_, _/_, _%_, _≤_, _<_}
-use native.Mathlib.Nat.{zero-mul, mul-zero, suc-mul, div-add-mod', mod-lt, div-lt-iff-lt-mul}
-use native.Mathlib.Omega.{arith}
-use lib.Dec.{ltb}
-use lib.ListN.{length, take, drop, getD, set, length-set, length-append, length-drop, take-append-drop}
-use lib.Seq.{length-take-le, getD-drop}
-use borrow.Author.Tests.{ltb-true, ltb-false}
-use Rattle.model.specs.Lists.{flat, at}
-use Rattle.model.specs.Run.{listedPlans}
-use Rattle.model.proofs.Lists.{at-ext, at-append, at-skip, at-take, getD-below}
-use Rattle.model.proofs.Room.{Wide, wide-tail, length-listed, length-flat}
-use Rattle.model.specs.Bytes.{twoBytes}
-use Rattle.model.specs.Written.{placed, Written}
+use Rattle.model.specs.Kit.{_≡_, refl, sym, ap, ap₂, _∙_, subst, Bool, true, false, List, [], _∷_, _++_, List·Memᴰ·head, ℕ, zero, suc, _+_, _*_, _-_, _/_, _%_, _≤_, _<_, suc-mul}
+use Rattle.model.specs.Kit.{arith, ltb, length, take, drop, getD, set, length-set, length-append, length-drop, take-append-drop, length-take-le, getD-drop, ltb-true, ltb-false}
+use native.Mathlib.Nat.{zero-mul, mul-zero, div-add-mod', mod-lt, div-lt-iff-lt-mul}
+use Rattle.model.specs.{Lists.flat, Lists.at, Run.listedPlans, Bytes.twoBytes, Written.placed, Written.Written}
+use Rattle.model.proofs.{Lists.at-ext, Lists.at-append, Lists.at-skip, Lists.at-take, Lists.getD-below, Room.Wide, Room.wide-tail, Room.length-listed, Room.length-flat}
 use Rattle.model.proofs.Written.{written-byte, written-then}
 use Rattle.list_columns.specs.Columns.{column, transposed, heading}
 use Rattle.list_columns.proofs.Transposing.{at-column, length-transposed, transposed-wide}
@@ -29,7 +18,8 @@ pub heading-length : (n k : ℕ) → length (heading n k) ≡ 8
 unfolding heading
 heading-length n k = refl
 
-pub put-four : {d : List ℕ} {e : List ℕ} {r : ℕ} {f : List ℕ} {s : ℕ} {g : List ℕ} {t : ℕ} {h : List ℕ} {u : ℕ} (n k : ℕ) → 8 ≤ length d → Written d 0 (twoBytes n) e r → Written e r (twoBytes k) f s → Written f s (twoBytes 8) g t → Written g t (twoBytes (8 + n * k)) h u → Written d 0 (heading n k) h u
+pub put-four : {d : List ℕ} {e : List ℕ} {r : ℕ} {f : List ℕ} {s : ℕ} {g : List ℕ} {t : ℕ} {h : List ℕ} {u : ℕ} (n k : ℕ) → 8 ≤ length d → Written d 0 (twoBytes n) e r → Written e r
+    (twoBytes k) f s → Written f s (twoBytes 8) g t → Written g t (twoBytes (8 + n * k)) h u → Written d 0 (heading n k) h u
 unfolding heading
 put-four {d} n k fits w₁ w₂ w₃ w₄ =
     written-then (omega (arith, w₁ .ends, w₂ .ends, w₃ .ends)) (written-then (omega (arith, w₁ .ends, w₂ .ends)) (written-then (omega (arith, w₁ .ends)) w₁ w₂) w₃) w₄
@@ -39,7 +29,8 @@ at-drop : (n : ℕ) (l : List ℕ) (i : ℕ) → at (drop n l) i ≡ at l (n + i
 unfolding at
 at-drop n l i = getD-drop n l i 0
 
-pub placed-by : (d e : List ℕ) (start : ℕ) (t : List ℕ) → start + length t ≤ length d → length e ≡ length d → ((j : ℕ) → j < length t → at e (start + j) ≡ at t j) → ((j : ℕ) → j < start → at e j ≡ at d j) → ((j : ℕ) → start + length t ≤ j → at e j ≡ at d j) → e ≡ placed d start t
+pub placed-by : (d e : List ℕ) (start : ℕ) (t : List ℕ) → start + length t ≤ length d → length e ≡ length d → ((j : ℕ) → j < length t → at e (start + j) ≡ at t j) →
+    ((j : ℕ) → j < start → at e j ≡ at d j) → ((j : ℕ) → start + length t ≤ j → at e j ≡ at d j) → e ≡ placed d start t
 unfolding placed
 placed-by d e start t fits same text before after = sym (take-append-drop n e) ∙ ap₂ (λ (x y : List ℕ). x ++ y) front back
   where
@@ -112,7 +103,9 @@ module _ (width height : ℕ) (b : List ℕ) where
       ∙ listed-at width height b i x l h
 
   -- a buffer that holds each cell, and is as it came elsewhere, holds the columns
-  pub turned-placed : (d e : List ℕ) (start : ℕ) → start + width * height ≤ length d → length e ≡ length d → ((x i : ℕ) → x < width → i < height → at e (start + (x * height + i)) ≡ at b (i * width + x)) → ((j : ℕ) → j < start → at e j ≡ at d j) → ((j : ℕ) → start + width * height ≤ j → at e j ≡ at d j) → e ≡ placed d start turned
+  pub turned-placed : (d e : List ℕ) (start : ℕ) → start + width * height ≤ length d → length e ≡ length d →
+      ((x i : ℕ) → x < width → i < height → at e (start + (x * height + i)) ≡ at b (i * width + x)) → ((j : ℕ) → j < start → at e j ≡ at d j) →
+      ((j : ℕ) → start + width * height ≤ j → at e j ≡ at d j) → e ≡ placed d start turned
   turned-placed d e start fits same cell before after =
       placed-by d e start turned (omega (arith, turned-length)) same each before (λ j h. after j (omega (arith, turned-length)))
     where

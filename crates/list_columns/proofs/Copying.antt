@@ -1,18 +1,10 @@
 -- Cells copied one by one, and a variable's cells after another's. Assumes nothing.
-use mathlib.Core.Path.{_≡_, refl, sym, ap, _∙_}
-use mathlib.Core.Bool.{Bool, true, false}
-use mathlib.Core.List.{List}
-use Prim.Native.Nat.{ℕ, _+_, _*_, _≤_, _<_}
-use native.Mathlib.Nat.{suc-mul, mul-one, mul-le-mul-right}
-use native.Mathlib.Omega.{arith}
-use borrow.Author.Count.{below-more}
-use borrow.Author.Tests.{leb-true, leb-false}
-use lib.Dec.{leb}
-use lib.ListN.{length, set}
-use Rattle.model.specs.Lists.{at}
+use Rattle.model.specs.Kit.{_≡_, refl, sym, ap, _∙_, Bool, true, false, List, ℕ, _+_, _*_, _≤_, _<_, suc-mul, mul-le-mul-right, arith, below-more, leb-true, leb-false, leb, length}
+use Rattle.model.specs.Kit.{set}
+use native.Mathlib.Nat.{mul-one}
+use Rattle.model.specs.{Lists.at, Written.placed}
 use Rattle.model.proofs.Lists.{at-set, at-set-other}
-use Rattle.model.specs.Written.{placed}
-use Rattle.list_columns.specs.Steps.{Inside, Copied}
+use Rattle.list_columns.specs.inner.Steps.{Inside, Copied}
 use Rattle.list_columns.proofs.Cells.{turned, turned-placed}
 
 -- ---- one cell more
@@ -22,7 +14,8 @@ later step i j h l = omega (arith, suc-mul i step, mul-le-mul-right step l)
 pub copied-none : (d : List ℕ) (start step : ℕ) (cells : List ℕ) (from stride : ℕ) → Copied d start step cells from stride 0 d
 copied-none d start step cells from stride = record { put = λ i h. absurd (omega arith); kept = λ j h. refl }
 
-pub copied-turn : {d : List ℕ} {start step : ℕ} {cells : List ℕ} {from stride i : ℕ} {e : List ℕ} → 1 ≤ step → start + i * step < length e → Copied d start step cells from stride i e → Copied d start step cells from stride (i + 1) (set e (start + i * step) (at cells (from + i * stride)))
+pub copied-turn : {d : List ℕ} {start step : ℕ} {cells : List ℕ} {from stride i : ℕ} {e : List ℕ} → 1 ≤ step → start + i * step < length e → Copied d start step cells from stride i e
+    → Copied d start step cells from stride (i + 1) (set e (start + i * step) (at cells (from + i * stride)))
 copied-turn {d} {start} {step} {cells} {from} {stride} {i} {e} some fits w = record { put = put; kept = kept }
   where
     v : ℕ
@@ -48,7 +41,9 @@ module _ (P Q : ℕ → ℕ → ℕ) (plans : ℕ) (cells : List ℕ) (start end
   pub put-none : Put 0 d
   put-none = record { same = refl; done = λ y i h l. absurd (omega arith); before = λ j h. refl; after = λ j h. refl }
 
-  pub put-turn : {e : List ℕ} {first step from stride : ℕ} {f : List ℕ} (x : ℕ) → ((i : ℕ) → P x i ≡ first + i * step) → ((i : ℕ) → Q x i ≡ from + i * stride) → ((i : ℕ) → i < plans → (start ≤ P x i) × (P x i < end)) → ((y i j : ℕ) → y < x → i < plans → j < plans → P y i ≡ P x j → ⊥) → Put x e → length f ≡ length e → Copied e first step cells from stride plans f → Put (x + 1) f
+  pub put-turn : {e : List ℕ} {first step from stride : ℕ} {f : List ℕ} (x : ℕ) → ((i : ℕ) → P x i ≡ first + i * step) → ((i : ℕ) → Q x i ≡ from + i * stride) →
+      ((i : ℕ) → i < plans → (start ≤ P x i) × (P x i < end)) → ((y i j : ℕ) → y < x → i < plans → j < plans → P y i ≡ P x j → ⊥) → Put x e → length f ≡ length e
+      → Copied e first step cells from stride plans f → Put (x + 1) f
   put-turn {e} {first} {step} {from} {stride} {f} x p q inside apart w len c = record { same = len ∙ w .same; done = done; before = before; after = after }
     where
       done : (y i : ℕ) → y < x + 1 → i < plans → at f (P y i) ≡ at cells (Q y i)
@@ -89,7 +84,8 @@ module _ (start : ℕ) (b : List ℕ) (variables plans : ℕ) (d : List ℕ) (wh
   pub column-inside : (x : ℕ) → x < variables → Inside (length b) x variables plans
   column-inside x h i l = omega (arith, within plans variables i x l h)
 
-  pub column-turn : {e f : List ℕ} (x : ℕ) → x < variables → length f ≡ length e → Copied e (start + x * plans) 1 b x variables plans f → ColumnsPut start b variables plans d x e → ColumnsPut start b variables plans d (x + 1) f
+  pub column-turn : {e f : List ℕ} (x : ℕ) → x < variables → length f ≡ length e → Copied e (start + x * plans) 1 b x variables plans f → ColumnsPut start b variables plans d x e
+      → ColumnsPut start b variables plans d (x + 1) f
   column-turn x h len c w =
       put-turn _ _ plans b start (start + variables * plans) d x (λ i. omega (arith, mul-one i)) (λ i. omega arith)
       (λ i l. (omega arith, omega (arith, within variables plans x i h l)))

@@ -1,12 +1,6 @@
 -- Small stores by computation. Assumes nothing.
-use mathlib.Core.Path.{_≡_, refl}
-use mathlib.Core.List.{List, [], _∷_}
-use Prim.Native.Nat.{ℕ}
-use Rattle.model.specs.Lists.{all, flat, below, upFrom, at}
-use Rattle.model.specs.Run.{listedPlans}
-use Rattle.model.specs.Sheet.{«word»}
-use Rattle.model.specs.Verdict.{accepted, refused}
-use Rattle.model.specs.Room.{rowsIn}
+use Rattle.model.specs.Kit.{_≡_, refl, List, [], _∷_, ℕ}
+use Rattle.model.specs.{Lists.all, Lists.flat, Lists.below, Lists.upFrom, Lists.at, Run.listedPlans, Sheet.«word», Verdict.accepted, Verdict.refused, Room.rowsIn}
 use Rattle.list_columns.specs.Columns.{column, transposed, heading, columnsOf, columnsIn, rowsOf, wholeRows, smallValues, bytesVerdict, columnsVerdict, isStore, rowsVerdict}
 
 -- sheet A's plans 0 1, 0 2, 1 2

@@ -1,21 +1,13 @@
 -- A whole store and all rows of a store, as the code writes them. Assumes nothing.
-use mathlib.Core.Path.{_≡_, refl, sym, ap, ap₂, _∙_, subst}
-use mathlib.Core.Bool.{Bool, true, false}
-use mathlib.Core.List.{List}
-use Prim.Native.Nat.{ℕ, _+_, _*_, _-_, _/_, _≤_, _<_}
+use Rattle.model.specs.Kit.{_≡_, refl, sym, ap, ap₂, _∙_, subst, Bool, true, false, List, ℕ, _+_, _*_, _-_, _/_, _≤_, _<_, arith, length, take, drop, length-append, length-drop}
+use Rattle.model.specs.Kit.{take-all}
 use native.Mathlib.Nat.{mul-comm, zero-add}
-use native.Mathlib.Omega.{arith}
-use lib.ListN.{length, take, drop, length-append, length-drop}
-use lib.Seq.{take-all}
-use Rattle.model.specs.Verdict.{accepted, refused}
-use Rattle.model.specs.Room.{rowsIn, wrote, refusal, outcomeOf, roomAfter, numbered}
-use Rattle.model.proofs.Lists.{T-of}
-use Rattle.model.proofs.Room.{refused-out, wrote-out}
-use Rattle.model.specs.Written.{placed, Written, Fronted}
-use Rattle.model.proofs.Written.{written-then, fronted}
+use Rattle.model.specs.{Verdict.accepted, Verdict.refused, Room.rowsIn, Room.wrote, Room.refusal, Room.outcomeOf, Room.roomAfter, Room.numbered, Written.placed, Written.Written}
+use Rattle.model.specs.Written.{Fronted}
+use Rattle.model.proofs.{Lists.T-of, Room.refused-out, Room.wrote-out, Written.written-then, Written.fronted}
 use Rattle.list_columns.specs.Columns.{heading, columnsOf, variables, plans, body, columnsIn, rowsOf, bytesVerdict, columnsVerdict, isStore, rowsVerdict}
-use Rattle.list_columns.proofs.Cells.{heading-length, turned, turned-length}
-use Rattle.list_columns.proofs.Asking.{Passed, passed, cells, few-bytes, refusal-is, store-e, asked-23, accepted-store}
+use Rattle.list_columns.proofs.{Cells.heading-length, Cells.turned, Cells.turned-length, Asking.Passed, Asking.passed, Asking.cells, Asking.few-bytes, Asking.refusal-is}
+use Rattle.list_columns.proofs.Asking.{store-e, asked-23, accepted-store}
 
 -- ---- rows to columns
 pub heading-fits : {n : ℕ} {b : List ℕ} {room : ℕ} → Passed n b (8 + length b) room → (8 ≤ room) × (n < 65536) × (length b / n < 65536) × (8 + n * (length b / n) < 65536)
@@ -26,7 +18,8 @@ heading-fits {n} {b} {room} p =
 pub columns-fit : {n : ℕ} {b : List ℕ} {room : ℕ} → Passed n b (8 + length b) room → (at k : ℕ) → at ≡ 0 + length (heading n k) → (length b / n * n ≤ length b) × (at + n * (length b / n) ≤ room)
 columns-fit {n} {b} {room} p at k h = (omega (arith, cells (p .rows)), omega (arith, heading-length n k, mul-comm n (length b / n), cells (p .rows), p .fits))
 
-pub store-fronted : {d e : List ℕ} {at : ℕ} {f : List ℕ} (n : ℕ) (b : List ℕ) → length b / n * n ≡ length b → at ≤ length d → Written d 0 (heading n (length b / n)) e at → f ≡ placed e at (turned n (length b / n) b) → Fronted d (columnsOf n b) f (at + length b)
+pub store-fronted : {d e : List ℕ} {at : ℕ} {f : List ℕ} (n : ℕ) (b : List ℕ) → length b / n * n ≡ length b → at ≤ length d → Written d 0 (heading n (length b / n)) e at → f ≡ placed e at
+    (turned n (length b / n) b) → Fronted d (columnsOf n b) f (at + length b)
 unfolding columnsOf rowsIn
 store-fronted {d} {e} {at} {f} n b whole fits v w =
     let t = turned n (length b / n) b in
@@ -49,7 +42,8 @@ module _ (s : List ℕ) (is : isStore s ≡ true) (b : List ℕ) (p q : ℕ) (eb
       ∙ ap (λ (k : ℕ). bytesVerdict (variables s) (body s) k (length d)) (zero-add (length (body s)))
       ∙ sym (asked-23 s (length d) true is)
 
-  pub rows-refused : (k : ℕ) → (k ≡ 0 → ⊥) → numbered k ≡ bytesVerdict p b (0 + length b) (length d) → (refusal k 0 ≡ outcomeOf (rowsVerdict s (length d)) (rowsOf s)) × (d ≡ roomAfter (rowsVerdict s (length d)) (rowsOf s) d)
+  pub rows-refused : (k : ℕ) → (k ≡ 0 → ⊥) → numbered k ≡ bytesVerdict p b (0 + length b) (length d) → (refusal k 0 ≡ outcomeOf (rowsVerdict s (length d)) (rowsOf s)) ×
+      (d ≡ roomAfter (rowsVerdict s (length d)) (rowsOf s) d)
   rows-refused k h e = refused-out k (rowsVerdict s (length d)) (rowsOf s) d h (e ∙ verdict-is)
 
   size : length b ≡ p * q
@@ -65,7 +59,8 @@ module _ (s : List ℕ) (is : isStore s ≡ true) (b : List ℕ) (p q : ℕ) (eb
   unfolding rowsOf columnsIn
   rows-are = ap₂ (λ (x : ℕ) (c : List ℕ). turned q x c) ep eb ∙ ap (λ (x : ℕ). turned x (variables s) (body s)) eq
 
-  pub rows-wrote : (e : List ℕ) → bytesVerdict p b (0 + length b) (length d) ≡ accepted → e ≡ placed d 0 (turned q p b) → (wrote (length b) ≡ outcomeOf (rowsVerdict s (length d)) (rowsOf s)) × (e ≡ roomAfter (rowsVerdict s (length d)) (rowsOf s) d)
+  pub rows-wrote : (e : List ℕ) → bytesVerdict p b (0 + length b) (length d) ≡ accepted → e ≡ placed d 0 (turned q p b) → (wrote (length b) ≡ outcomeOf (rowsVerdict s (length d)) (rowsOf s)) ×
+      (e ≡ roomAfter (rowsVerdict s (length d)) (rowsOf s) d)
   rows-wrote e a w =
       let n : length (turned q p b) ≡ length b = turned-length q p b ∙ mul-comm q p ∙ sym size in
       let v : Written d 0 (turned q p b) e (length b) = record { bytes = w; ends = sym n ∙ sym (zero-add (length (turned q p b))) } in

@@ -1,15 +1,10 @@
 -- Columns of rows, and columns of columns. Assumes nothing.
-use mathlib.Core.Path.{_≡_, refl, sym, ap, _∙_, subst}
-use mathlib.Core.Bool.{true}
-use mathlib.Core.List.{List, [], _∷_, map, List·Memᴰ, Memᴰ·of-map}
-use Prim.Native.Nat.{ℕ, zero, suc, _<_}
-use native.Mathlib.Nat.{not-suc-le-zero, le-of-suc-le-suc}
-use lib.Dec.{T, ltb}
-use lib.ListN.{length, getD, length-map}
+use Rattle.model.specs.Kit.{_≡_, refl, sym, ap, _∙_, subst, true, List, [], _∷_, map, List·Memᴰ, Memᴰ·of-map, ℕ, zero, suc, _<_, not-suc-le-zero, le-of-suc-le-suc, T, ltb, length}
+use Rattle.model.specs.Kit.{getD, length-map}
 use Rattle.model.specs.Lists.{flat, upFrom, below, at}
-use Rattle.model.proofs.Lists.{map-ext, map-shift, length-below, below-e, mem-at, mem-getD, flat-i, flat-e, all-i, all-e, of-T, T-of}
-use Rattle.list_columns.specs.Columns.{column, transposed, smallValues}
+use Rattle.model.proofs.Lists.{map-ext, map-shift, length-below, below-e, mem-at, mem-getD, flat-i, flat-e, all-i, all-e, of-T, T-of, map-map}
 use Rattle.model.proofs.Room.{Wide}
+use Rattle.list_columns.specs.Columns.{column, transposed, smallValues}
 
 -- ---- lists by their places
 pub map-places : {A : Type 0} (l : List A) (d : A) → map (λ j. getD l j d) (below (length l)) ≡ l
@@ -22,10 +17,6 @@ unfolding column at
 at-column [] x j h = absurd (not-suc-le-zero h)
 at-column (r ∷ rows) x zero h = refl
 at-column (r ∷ rows) x (suc j) h = at-column rows x j (le-of-suc-le-suc h)
-
-map-map : {A B C : Type 0} (f : B → C) (g : A → B) (l : List A) → map f (map g l) ≡ map (λ x. f (g x)) l
-map-map f g [] = refl
-map-map {C} f g (x ∷ l) = ap (λ (r : List C). f (g x) ∷ r) (map-map f g l)
 
 -- ---- columns
 pub length-transposed : (n : ℕ) (rows : List (List ℕ)) → length (transposed n rows) ≡ n

@@ -1,15 +1,8 @@
 -- Calls of `to_columns` and `to_rows`: what each was lent, what it answered, and the room at the end. Each is the function's contract. And paper 02,
 -- #103, of what a caller of both holds. proofs/Calls has the theorems.
-use mathlib.Core.Path.{_≡_}
-use mathlib.Core.List.{List}
-use Prim.Native.Nat.{ℕ, _≤_}
-use lib.ListN.{length, take, drop}
-use lib.Dec.{T, ltb}
-use Rattle.model.specs.Lists.{all}
-use Rattle.model.specs.Room.{outcomeOf, roomAfter}
-use Rattle.list_columns.specs.Columns.{columnsOf, rowsOf, variables, columnsVerdict, rowsVerdict}
-use Rattle.list_columns.specs.Meaning.{means}
-use Rattle.list_columns.specs.declared.Answer.{Answer}
+use Rattle.model.specs.Kit.{_≡_, List, ℕ, _≤_, length, take, drop, T, ltb}
+use Rattle.model.specs.{Lists.all, Room.outcomeOf, Room.roomAfter}
+use Rattle.list_columns.specs.{Columns.columnsOf, Columns.rowsOf, Columns.variables, Columns.columnsVerdict, Columns.rowsVerdict, Meaning.means, declared.Answer.Answer}
 use Rattle.list_columns.specs.declared.Answer.the-variants.{Written}
 
 abbrev pub CallColumns : ℕ → List ℕ → List ℕ → Answer → List ℕ → Type 0

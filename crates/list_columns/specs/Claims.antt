@@ -1,14 +1,7 @@
 -- The claims of paper 02, #103: rows to columns to rows gives the rows; an accepted store to rows and back gives the store; 23 is given
 -- exactly to what is no store.
-use mathlib.Core.Path.{_≡_}
-use mathlib.Core.Bool.{true}
-use mathlib.Core.List.{List}
-use Prim.Native.Nat.{ℕ, _+_, _*_, _≤_}
-use lib.ListN.{length}
-use lib.Dec.{T, ltb}
-use Rattle.model.specs.Lists.{all}
-use Rattle.model.specs.Sheet.{«word»}
-use Rattle.model.specs.Verdict.{accepted, refused}
+use Rattle.model.specs.Kit.{_≡_, true, List, ℕ, _+_, _*_, _≤_, length, T, ltb}
+use Rattle.model.specs.{Lists.all, Sheet.«word», Verdict.accepted, Verdict.refused}
 use Rattle.list_columns.specs.Columns.{columnsOf, rowsOf, variables, plans, columnsVerdict, isStore, rowsVerdict}
 
 -- room and back are the lengths of the room lent to the first call and to the second

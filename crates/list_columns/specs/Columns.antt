@@ -1,16 +1,8 @@
 -- Plans stored by window (paper 02, #103): the store of some rows, the rows of a store, and the questions put to both. A variable is the
 -- paper's place, a row a plan.
-use mathlib.Core.Bool.{Bool}
-use mathlib.Core.List.{List, _++_, map}
-use Prim.Native.Nat.{ℕ, _+_, _*_, _/_, _%_}
-use lib.ListN.{length, drop}
-use lib.Dec.{leb, ltb, eqb}
-use Rattle.model.specs.Lists.{both, all, flat, below, at}
-use Rattle.model.specs.Bytes.{twoBytes}
-use Rattle.model.specs.Run.{listedPlans}
-use Rattle.model.specs.Sheet.{«word»}
-use Rattle.model.specs.Room.{rowsIn}
-use Rattle.model.specs.Verdict.{Verdict, accepted, ask}
+use Rattle.model.specs.Kit.{Bool, List, _++_, map, ℕ, _+_, _*_, _/_, _%_, length, drop, leb, ltb, eqb}
+use Rattle.model.specs.{Lists.both, Lists.all, Lists.flat, Lists.below, Lists.at, Bytes.twoBytes, Run.listedPlans, Sheet.«word», Room.rowsIn, Verdict.Verdict, Verdict.accepted}
+use Rattle.model.specs.Verdict.{ask}
 
 -- ---- rows and columns
 -- the value at x of every row

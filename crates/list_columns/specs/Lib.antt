@@ -3,4 +3,4 @@ pub mod Columns
 pub mod Claims
 pub mod Meaning
 pub mod Calls
-pub mod Steps
+pub mod inner

@@ -9,7 +9,7 @@ ghost use Rattle.model.specs.Room.{numbered};
 ghost use Rattle.model.specs.Bytes.{twoBytes};
 ghost use Rattle.model.specs.Written.{placed, Written};
 ghost use Rattle.list_columns.specs.Columns.{transposed, heading, smallValues, bytesVerdict, isStore};
-ghost use Rattle.list_columns.specs.Steps.{Inside, Copied};
+ghost use Rattle.list_columns.specs.inner.Steps.{Inside, Copied};
 ghost use Rattle.list_columns.specs.Calls.{CallColumns, CallRows};
 
 pub enum Answer {

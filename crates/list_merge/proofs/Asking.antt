@@ -1,25 +1,14 @@
 -- The questions as the code puts them. Assumes nothing.
-use mathlib.Core.Path.{_≡_, refl, sym, ap, ap₂, _∙_, subst}
-use mathlib.Core.Bool.{Bool, true, false}
-use mathlib.Core.List.{List, [], _∷_, _++_}
-use Prim.Native.Nat.{ℕ, _+_, _/_, _%_, _≤_, _<_}
+use Rattle.model.specs.Kit.{_≡_, refl, sym, ap, ap₂, _∙_, subst, Bool, true, false, List, [], _∷_, _++_, ℕ, _+_, _/_, _%_, _≤_, _<_, arith, leb, ltb, eqb, leb→le, eqb→eq, length}
+use Rattle.model.specs.Kit.{take, length-append, lt-leb, ne-eqb, le-leb, eq-eqb, leb-true, leb-false, ltb-false}
 use native.Mathlib.Nat.{div-add-mod'}
-use native.Mathlib.Omega.{arith}
-use lib.Dec.{leb, ltb, eqb, leb→le, eqb→eq}
-use lib.ListN.{length, take, length-append}
-use borrow.Author.Tests.{lt-leb, ne-eqb, le-leb, eq-eqb, leb-true, leb-false, ltb-false}
-use Rattle.model.specs.Lists.{both, all, flat, same}
-use Rattle.model.specs.Verdict.{Verdict, accepted, refused, ask}
-use Rattle.model.specs.Room.{Outcome, rowsIn, wrote, refusal, outcomeOf, roomAfter}
-use Rattle.model.proofs.Lists.{T-of, both-l, both-r}
-use Rattle.order.specs.Order.{settlingOrder, settlesAll, orderVerdict}
-use Rattle.order.specs.Settled.{Ordered}
+use Rattle.model.specs.{Lists.both, Lists.all, Lists.flat, Lists.same, Verdict.Verdict, Verdict.accepted, Verdict.refused, Verdict.ask, Room.Outcome, Room.rowsIn, Room.wrote}
+use Rattle.model.specs.Room.{refusal, outcomeOf, roomAfter}
+use Rattle.model.proofs.{Lists.T-of, Lists.both-l, Lists.both-r, Lists.both-no-l, Lists.both-no-r, Lists.both-yes, Room.flat-cut, Room.refused-out, Room.wrote-out, Written.fronted}
+use Rattle.order.specs.{Order.settlingOrder, Order.settlesAll, Order.orderVerdict, inner.Settled.Ordered, Reordered.earlierBy}
 use Rattle.order.proofs.Placing.{settling-of}
-use Rattle.model.proofs.Room.{flat-cut, refused-out, wrote-out, both-no-l, both-no-r, both-yes}
-use Rattle.model.proofs.Written.{fronted}
-use Rattle.order.specs.Reordered.{earlierBy}
 use Rattle.list_merge.specs.Merge.{ascends, insert, union, mergedBy, merged, wholeLists, orderedVerdict, mergeVerdict}
-use Rattle.list_merge.specs.Inner.{Rests, Sorts, Walked}
+use Rattle.list_merge.specs.inner.Inner.{Rests, Sorts, Walked}
 
 -- ---- 25 to 27
 module _ (n : ℕ) (order a b d : List ℕ) where
@@ -44,7 +33,8 @@ module _ (n : ℕ) (order a b d : List ℕ) where
   pub no-27 : ascends order (rowsIn n a) ≡ true → ascends order (rowsIn n b) ≡ true → leb (length (mergedBy n order a b)) (length d) ≡ false → Refused 27
   no-27 e f g = refused-out 27 (orderedVerdict n order a b (length d)) (mergedBy n order a b) d (λ z. omega arith) (verdict true true false e f g)
 
-  pub wrote-all : ascends order (rowsIn n a) ≡ true → ascends order (rowsIn n b) ≡ true → leb (length (mergedBy n order a b)) (length d) ≡ true → (d′ after : List ℕ) (o : Outcome) → d′ ≡ d → Walked true d′ (mergedBy n order a b) after o →
+  pub wrote-all : ascends order (rowsIn n a) ≡ true → ascends order (rowsIn n b) ≡ true → leb (length (mergedBy n order a b)) (length d) ≡ true → (d′ after : List ℕ) (o : Outcome) → d′ ≡ d
+      → Walked true d′ (mergedBy n order a b) after o →
       (o ≡ outcomeOf (orderedVerdict n order a b (length d)) (mergedBy n order a b)) × (after ≡ roomAfter (orderedVerdict n order a b (length d)) (mergedBy n order a b) d)
   wrote-all e f g d′ after o z w′ =
       let w : Walked true d (mergedBy n order a b) after o = subst (λ (l : List ℕ). Walked true l (mergedBy n order a b) after o) z w′ in
@@ -58,7 +48,8 @@ unfolding insert flat
 insert-length order r [] = omega (arith, length-append r [])
 insert-length order r (s ∷ rows) = go (insert-length order r rows) (same r s) (earlierBy order r s)
   where
-    go : length (flat (insert order r rows)) ≤ length r + length (flat rows) → (p q : Bool) → length {A = ℕ} (flat (elim p [ true ↦ s ∷ rows | false ↦ elim q [ true ↦ r ∷ s ∷ rows | false ↦ s ∷ insert order r rows ] ])) ≤ length r + length (s ++ flat rows)
+    go : length (flat (insert order r rows)) ≤ length r + length (flat rows) → (p q : Bool) → length {A = ℕ}
+        (flat (elim p [ true ↦ s ∷ rows | false ↦ elim q [ true ↦ r ∷ s ∷ rows | false ↦ s ∷ insert order r rows ] ])) ≤ length r + length (s ++ flat rows)
     go ih true q = omega arith
     go ih false true = omega (arith, length-append r (s ++ flat rows))
     go ih false false = omega (arith, length-append s (flat (insert order r rows)), length-append s (flat rows))
@@ -75,7 +66,14 @@ rows-bytes n a e = flat-cut n (length a / n) a (omega (arith, div-add-mod' (leng
 pub fits-both : (n : ℕ) (order a b : List ℕ) → Sorts n order a b → (room : ℕ) → ltb room (length a + length b) ≡ false → true ≡ leb (length (mergedBy n order a b)) room
 unfolding mergedBy
 fits-both n order a b s room h =
-    sym (le-leb _ room (omega (arith, union-length order (rowsIn n a) (rowsIn n b), ap length (rows-bytes n a (s .rests .first)), ap length (rows-bytes n b (s .rests .second)), ltb-false room (length a + length b) h)))
+    sym (le-leb _ room (omega (
+      arith,
+      union-length order (rowsIn n a) (rowsIn n b),
+      ap length (rows-bytes n a (s .rests .first)),
+      ap length (rows-bytes n b (s .rests .second)),
+      ltb-false room
+          (length a + length b) h,
+    )))
 
 -- ---- what a count tells
 module _ (writes : Bool) (d text after : List ℕ) (o : Outcome) (w : Walked writes d text after o) where
@@ -138,7 +136,8 @@ module _ (n : ℕ) (pairs a b d : List ℕ) where
   pub no-24 : (o : Outcome) → wholeLists n a b ≡ false → o ≡ refusal 24 0 → (o ≡ outcomeOf verdict-is (merged n pairs a b)) × (d ≡ roomAfter verdict-is (merged n pairs a b) d)
   unfolding mergeVerdict
   no-24 o e s =
-      let r = refused-out 24 verdict-is (merged n pairs a b) d (λ z. omega arith) (sym (ap (λ (t : Bool). ask t 24 0 (orderVerdict n pairs (orderedVerdict n (settlingOrder n pairs) a b (length d)))) e)) in
+      let r = refused-out 24 verdict-is (merged n pairs a b) d (λ z. omega arith) (sym (ap
+      (λ (t : Bool). ask t 24 0 (orderVerdict n pairs (orderedVerdict n (settlingOrder n pairs) a b (length d)))) e)) in
       (s ∙ r .0, r .1)
 
   module _ (yes : wholeLists n a b ≡ true) {old new : List ℕ} {number : ℕ} (q : Ordered n pairs old new number) where

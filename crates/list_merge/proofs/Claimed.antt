@@ -1,26 +1,15 @@
 -- The claims of paper 02, #106. Assumes nothing.
-use mathlib.Core.Path.{_≡_, refl, sym, ap, _∙_, subst}
-use mathlib.Core.Logic.{_⊎_, inl, inr, ⊎-elim}
-use mathlib.Core.List.{List, [], _∷_, map, List·Memᴰ, List·Memᴰ·head, List·Memᴰ·not-nil}
-use Prim.Native.Nat.{ℕ, _≤_}
-use native.Mathlib.Omega.{arith}
-use lib.Dec.{T}
-use Rattle.model.specs.Lists.{flat, below, rowsAscend}
-use Rattle.model.specs.Room.{rowsIn}
-use Rattle.model.specs.Verdict.{Verdict, accepted, isAccepted}
-use Rattle.model.proofs.Lists.{T-of, of-T, earlier-asym, Sorted, sorted-ext}
-use Rattle.model.proofs.Accepted.{asked}
-use Rattle.model.proofs.Room.{Wide, wide-tail, rows-wide, rows-none, rows-back}
-use Rattle.order.specs.Order.{settlingOrder, orderVerdict, Ordering}
-use Rattle.order.specs.Reordered.{read}
-use Rattle.order.proofs.Order.{order-passed}
-use Rattle.order.proofs.Order as O
-use Rattle.list_merge.specs.Inner.{Places}
-use Rattle.list_merge.specs.Merge.{ascends, union, mergedBy, merged, wholeLists, orderedVerdict, mergeVerdict}
+use Rattle.model.specs.Kit.{_≡_, refl, sym, ap, _∙_, subst, _⊎_, inl, inr, ⊎-elim, List, [], _∷_, map, List·Memᴰ, List·Memᴰ·head, List·Memᴰ·not-nil, ℕ, _≤_, arith, T}
+use Rattle.model.specs.{Lists.flat, Lists.below, Lists.rowsAscend, Room.rowsIn, Verdict.Verdict, Verdict.accepted, Verdict.isAccepted}
+use Rattle.model.proofs.{Lists.T-of, Lists.of-T, Lists.earlier-asym, Lists.Sorted, Lists.sorted-ext, Accepted.asked, Room.Wide, Room.wide-tail, Room.rows-wide, Room.rows-none}
+use Rattle.model.proofs.Room.{rows-back}
+use Rattle.order.specs.{Order.settlingOrder, Order.orderVerdict, Order.Ordering, Reordered.read}
+use Rattle.order.proofs.{Order.order-passed, LeadersBy.read-below}
+use Rattle.list_merge.specs.{inner.Inner.Places, Merge.ascends, Merge.union, Merge.mergedBy, Merge.merged, Merge.wholeLists, Merge.orderedVerdict, Merge.mergeVerdict}
 use Rattle.list_merge.specs.Claims.{Holds, Ascends, Itself, Empty, Swapped, Nothing-lent}
-use Rattle.list_merge.proofs.Reading.{Earlier, read-below, ascends-none, sorted-of, ascends-of}
-use Rattle.list_merge.proofs.Union.{union-e, union-i, union-wide, union-sorted}
-use Rattle.list_merge.proofs.Asking.{rows-bytes, Whole, whole-e}
+use Rattle.list_merge.proofs.{Reading.Earlier, Reading.ascends-none, Reading.sorted-of, Reading.ascends-of, Union.union-e, Union.union-i, Union.union-wide}
+use Rattle.list_merge.proofs.{Union.union-sorted, Asking.rows-bytes, Asking.Whole, Asking.whole-e}
+use Rattle.order.proofs.Order as O
 
 -- the merged bytes as rows are the union
 pub merged-rows : (n : ℕ) (order a b : List ℕ) → 1 ≤ n → rowsIn n (mergedBy n order a b) ≡ union order (rowsIn n a) (rowsIn n b)
@@ -93,7 +82,8 @@ module _ (n : ℕ) (pairs a b : List ℕ) (k : Accepted n pairs a b) where
   order = settlingOrder n pairs
 
   -- lists of rows that ascend in the order and have the same rows are equal
-  same-rows : (rows others : List (List ℕ)) → Sorted (Earlier order) rows → Sorted (Earlier order) others → ((r : List ℕ) → List·Memᴰ r rows → List·Memᴰ r others) → ((r : List ℕ) → List·Memᴰ r others → List·Memᴰ r rows) → rows ≡ others
+  same-rows : (rows others : List (List ℕ)) → Sorted (Earlier order) rows → Sorted (Earlier order) others → ((r : List ℕ) → List·Memᴰ r rows → List·Memᴰ r others) →
+      ((r : List ℕ) → List·Memᴰ r others → List·Memᴰ r rows) → rows ≡ others
   same-rows rows others = sorted-ext (Earlier order) (λ x y. earlier-asym (read order x) (read order y)) rows others
 
   first-sorted : Sorted (Earlier order) (rowsIn n a)
@@ -112,7 +102,8 @@ module _ (n : ℕ) (pairs a b : List ℕ) (k : Accepted n pairs a b) where
 
   union-none : union order [] (rowsIn n a) ≡ rowsIn n a
   union-none =
-      same-rows (union order [] (rowsIn n a)) (rowsIn n a) (union-sorted n order (k .places) [] (rowsIn n a) (λ r m. absurd (List·Memᴰ·not-nil m)) (rows-wide n a) (sorted-of order [] (T-of _ (ascends-none order)))) first-sorted
+      same-rows (union order [] (rowsIn n a)) (rowsIn n a) (union-sorted n order (k .places) [] (rowsIn n a) (λ r m. absurd (List·Memᴰ·not-nil m)) (rows-wide n a)
+      (sorted-of order [] (T-of _ (ascends-none order)))) first-sorted
       (λ r m. ⊎-elim {C = List·Memᴰ r (rowsIn n a)} (λ q. absurd (List·Memᴰ·not-nil q)) (λ q. q) (union-e order [] (rowsIn n a) r m)) (λ r m. union-i order [] (rowsIn n a) r (inr m))
 
   union-swapped : union order (rowsIn n b) (rowsIn n a) ≡ union order (rowsIn n a) (rowsIn n b)

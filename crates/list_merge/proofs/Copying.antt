@@ -1,11 +1,7 @@
 -- A row put down four bytes at a time, the last four over the ones before. Assumes nothing.
-use mathlib.Core.Path.{_≡_, refl, sym, ap, ap₂, _∙_}
-use mathlib.Core.List.{List, _++_, append-assoc}
-use Prim.Native.Nat.{ℕ, _+_, _-_, _≤_, _<_}
-use native.Mathlib.Numerals.{add-one}
-use native.Mathlib.Omega.{arith}
-use lib.ListN.{length, take, drop, getD, set, length-append, length-drop}
-use lib.Seq.{length-take-le, take-all, take-add, take-at, drop-at, drop-drop, getD-take, getD-drop, paste, paste-zero, paste-suc}
+use Rattle.model.specs.Kit.{_≡_, refl, sym, ap, ap₂, _∙_, List, _++_, append-assoc, ℕ, _+_, _-_, _≤_, _<_, add-one, arith, length, take, drop, getD, set, length-append}
+use Rattle.model.specs.Kit.{length-drop, length-take-le, take-all, getD-take, getD-drop}
+use lib.Seq.{take-add, take-at, drop-at, drop-drop, paste, paste-zero, paste-suc}
 use Rattle.model.specs.Written.{placed, Written}
 use Rattle.model.proofs.Written.{length-placed, placed-then, written-paste}
 
@@ -60,9 +56,11 @@ row-put d at row o p q m k fits long em small eo ep ek ez =
     let lw : length w ≡ 4 = length-take-le 4 (drop m row) (omega (arith, length-drop m row)) in
     let fu : at + length u ≤ length d = omega arith in
     let e₁ : p ≡ placed d at (take 8 row) =
-    ep ∙ ap₂ (λ (x : List ℕ) (y : ℕ). placed x y (take 4 (drop 4 row))) eo (ap (λ (y : ℕ). at + y) (sym lt)) ∙ placed-then d at (take 4 row) (omega arith) (take 4 (drop 4 row)) ∙ ap (placed d at) (sym (take-add 4 4 row)) in
+    ep ∙ ap₂ (λ (x : List ℕ) (y : ℕ). placed x y (take 4 (drop 4 row))) eo (ap (λ (y : ℕ). at + y) (sym lt)) ∙ placed-then d at (take 4 row) (omega arith) (take 4 (drop 4 row)) ∙ ap (placed d at)
+    (sym (take-add 4 4 row)) in
     let e₂ : p ≡ placed (placed d at u) (at + length u) v =
     e₁ ∙ ap (λ (y : ℕ). placed d at (take y row)) {x = 8} {y = m + (8 - m)} (omega arith) ∙ ap (placed d at) (take-add m (8 - m) row) ∙ sym (placed-then d at u fu v) in
     let e₃ : q ≡ placed d at (u ++ w) =
-    ez ∙ ap₂ (λ (x : List ℕ) (y : ℕ). placed x y w) e₂ (ek ∙ ap (λ (y : ℕ). at + y) (sym lu)) ∙ placed-over (placed d at u) (at + length u) v w (omega (arith, length-placed d at u fu)) (omega arith) ∙ placed-then d at u fu w in
+    ez ∙ ap₂ (λ (x : List ℕ) (y : ℕ). placed x y w) e₂ (ek ∙ ap (λ (y : ℕ). at + y) (sym lu)) ∙ placed-over (placed d at u) (at + length u) v w (omega (arith, length-placed d at u fu))
+    (omega arith) ∙ placed-then d at u fu w in
     record { bytes = e₃ ∙ ap (placed d at) (sym (take-add m 4 row) ∙ take-all (m + 4) row (omega arith)); ends = refl }

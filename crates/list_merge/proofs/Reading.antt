@@ -1,20 +1,13 @@
 -- The reading order of rows, in any order of their places. Assumes nothing.
-use mathlib.Core.Path.{_≡_, refl, sym, ap, ap₂, _∙_, subst}
-use mathlib.Core.Bool.{Bool, true, false}
-use mathlib.Core.Logic.{⊎-elim}
-use mathlib.Core.List.{List, [], _∷_, map, List·Memᴰ, List·Memᴰ·head, List·Memᴰ·tail, List·Memᴰ·not-nil}
-use Prim.Native.Nat.{ℕ, suc, _+_, _≤_, _<_}
-use native.Mathlib.Numerals.{add-one}
-use native.Mathlib.Omega.{arith}
-use lib.Dec.{T, eqb, ltb}
-use lib.ListN.{length, drop, getD, drop-of-length-le}
+use Rattle.model.specs.Kit.{_≡_, refl, sym, ap, ap₂, _∙_, subst, Bool, true, false, ⊎-elim, List, [], _∷_, map, List·Memᴰ, List·Memᴰ·head, List·Memᴰ·tail, List·Memᴰ·not-nil, ℕ}
+use Rattle.model.specs.Kit.{suc, _+_, _≤_, _<_, add-one, arith, T, eqb, ltb, length, drop, getD, ltb-true, ltb-false, eq-eqb}
+use lib.ListN.{drop-of-length-le}
 use lib.Seq.{drop-cons}
-use borrow.Author.Tests.{ltb-true, ltb-false, eq-eqb}
 use Rattle.model.specs.Lists.{at, below, earlier, rowsAscend}
 use Rattle.model.proofs.Lists.{T-of, of-T, not-of, earlier-lt, earlier-e, earlier-trans, at-map, at-mem, at-ext, at-below, length-below, Sorted}
-use Rattle.list_merge.specs.Merge.{ascends}
-use Rattle.list_merge.specs.Inner.{Places, ByPlace, Kind}
+use Rattle.list_merge.specs.{Merge.ascends, inner.Inner.Places, inner.Inner.ByPlace, inner.Inner.Kind}
 use Rattle.order.specs.Reordered.{read, earlierBy}
+use Rattle.order.proofs.LeadersBy.{read-below}
 
 -- ---- rows as they are
 pub earlier-gt : (x y : ℕ) (l m : List ℕ) → y < x → earlier (x ∷ l) (y ∷ m) ≡ false
@@ -67,11 +60,6 @@ rows-equal n order p a b ea eb s t =
     read-inj n order p a b ea eb (earlier-total (read order a) (read order b) (length-read order a ∙ sym (length-read order b)) s t)
 
 -- ---- by place
-pub read-below : (n : ℕ) (r : List ℕ) → length r ≡ n → read (below n) r ≡ r
-unfolding read
-read-below n r e =
-    at-ext (map (at r) (below n)) r (length-below (at r) n ∙ sym e) (λ i h. at-below (at r) n i (omega (arith, length-below (at r) n)))
-
 pub plain-way : (n : ℕ) (order : List ℕ) → ByPlace n order → (a b : List ℕ) → n ≡ length a → n ≡ length b → earlier a b ≡ earlierBy order a b
 plain-way n order p a b ea eb =
     sym (ap (λ (o : List ℕ). earlierBy o a b) (p .order-is) ∙ ap₂ earlier (read-below n a (sym ea)) (read-below n b (sym eb)))
@@ -84,7 +72,8 @@ in-place n order some most e h =
       words = λ q.
           record {
             some = some;
-            order-is = at-ext order (below n) (e ∙ sym (ap length (map-id (below n)) ∙ length-below (λ (x : ℕ). x) n)) (λ i l. h i l ∙ sym (ap (λ (o : List ℕ). at o i) (map-id (below n)) ∙ at-below (λ (x : ℕ). x) n i (omega arith)));
+            order-is = at-ext order (below n) (e ∙ sym (ap length (map-id (below n)) ∙ length-below (λ (x : ℕ). x) n))
+                (λ i l. h i l ∙ sym (ap (λ (o : List ℕ). at o i) (map-id (below n)) ∙ at-below (λ (x : ℕ). x) n i (omega arith)));
           };
     }
   where
@@ -169,7 +158,8 @@ sorted-of order (x ∷ y ∷ rows) t = go (sorted-of order (y ∷ rows)) (earlie
     first h k z (List·Memᴰ·head q) = subst (λ (w : List ℕ). Earlier order x w) (sym q) h
     first h k z (List·Memᴰ·tail m) = earlier-trans (read order x) (read order y) (read order z) h (k z m)
 
-    go : (T (ascends order (y ∷ rows)) → Sorted (Earlier order) (y ∷ rows)) → (b : Bool) → earlierBy order x y ≡ b → T (elim b [ true ↦ ascends order (y ∷ rows) | false ↦ false ]) → Sorted (Earlier order) (x ∷ y ∷ rows)
+    go : (T (ascends order (y ∷ rows)) → Sorted (Earlier order) (y ∷ rows)) → (b : Bool) → earlierBy order x y ≡ b → T (elim b [ true ↦ ascends order (y ∷ rows) | false ↦ false ]) → Sorted
+        (Earlier order) (x ∷ y ∷ rows)
     go ih true e t = let s = ih t in (first (T-of (earlierBy order x y) e) (s .0), s)
     go ih false e t = absurd t
 

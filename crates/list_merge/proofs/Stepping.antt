@@ -1,26 +1,17 @@
 -- The next row of two lists, and what is left of them after it. Assumes nothing.
-use mathlib.Core.Path.{_≡_, refl, sym, ap, ap₂, _∙_, subst}
-use mathlib.Core.Bool.{Bool, true, false, not}
-use mathlib.Core.Logic.{_⊎_, inl, inr}
-use mathlib.Core.List.{List, [], _∷_, _++_, List·Memᴰ, List·Memᴰ·head, List·Memᴰ·tail, List·Memᴰ·not-nil}
-use Prim.Native.Nat.{ℕ, _+_, _-_, _%_, _≤_, _<_}
-use native.Mathlib.Nat.{le-antisymm, mod-eq-of-lt, mod-eq-sub-mod}
-use native.Mathlib.Omega.{arith}
-use lib.Dec.{T, eqb, leb, ltb}
-use lib.ListN.{length, take, drop, length-drop}
-use lib.Seq.{length-take-le, take-nil}
-use borrow.Author.Tests.{eqb-true, eqb-false, eq-eqb, ne-eqb, leb-true, leb-false, ltb-true, ltb-false, lt-ltb, le-ltb}
-use Rattle.model.specs.Lists.{choose, both, either, flat, same}
-use Rattle.model.specs.Room.{rowsIn}
-use Rattle.model.proofs.Lists.{T-of, of-T, not-of, of-not, same-eq, same-refl, earlier-asym, earlier-trans, Sorted}
+use Rattle.model.specs.Kit.{_≡_, refl, sym, ap, ap₂, _∙_, subst, Bool, true, false, not, _⊎_, inl, inr, List, [], _∷_, _++_, List·Memᴰ, List·Memᴰ·head, List·Memᴰ·tail}
+use Rattle.model.specs.Kit.{List·Memᴰ·not-nil, ℕ, _+_, _-_, _%_, _≤_, _<_, mod-eq-of-lt, arith, T, eqb, leb, ltb, length, take, drop, length-drop, length-take-le, eqb-true}
+use Rattle.model.specs.Kit.{eqb-false, eq-eqb, ne-eqb, leb-true, leb-false, ltb-true, ltb-false, lt-ltb, le-ltb}
+use native.Mathlib.Nat.{le-antisymm, mod-eq-sub-mod}
+use lib.Seq.{take-nil}
+use Rattle.model.specs.{Lists.choose, Lists.both, Lists.either, Lists.flat, Lists.same, Room.rowsIn}
+use Rattle.model.proofs.Lists.{T-of, of-T, not-of, of-not, same-eq, same-refl, earlier-asym, earlier-trans, Sorted, length-none}
 use Rattle.model.proofs.Room.{Wide, wide-tail, rows-wide, rows-none, rows-cons}
-use Rattle.list_merge.specs.Merge.{ascends, union, mergedBy, fromFirst, nextRow}
-use Rattle.list_merge.specs.Inner.{Places, wayOf, Rests, Sorts, ofFirst, taken}
+use Rattle.list_merge.specs.{Merge.ascends, Merge.union, Merge.mergedBy, Merge.fromFirst, Merge.nextRow, inner.Inner.Places, inner.Inner.wayOf, inner.Inner.Rests}
+use Rattle.list_merge.specs.{inner.Inner.Sorts, inner.Inner.ofFirst, inner.Inner.taken, declared.Way.Way, declared.Way.the-variants.Before, declared.Way.the-variants.Same}
+use Rattle.list_merge.specs.declared.Way.the-variants.{After}
 use Rattle.order.specs.Reordered.{read, earlierBy}
-use Rattle.list_merge.specs.declared.Way.{Way}
-use Rattle.list_merge.specs.declared.Way.the-variants.{Before, Same, After}
-use Rattle.list_merge.proofs.Reading.{rows-equal, Earlier, sorted-of, ascends-of}
-use Rattle.list_merge.proofs.Union.{union-step}
+use Rattle.list_merge.proofs.{Reading.rows-equal, Reading.Earlier, Reading.sorted-of, Reading.ascends-of, Union.union-step}
 
 -- ---- ways
 pub way-before : (p q : Bool) → p ≡ true → Before ≡ wayOf p q
@@ -84,10 +75,6 @@ front-length n a e h = sym (length-take-le n a (some-row n a e h))
 
 pub drop-whole : (n : ℕ) (a : List ℕ) → n ≤ length a → length a % n ≡ 0 → length (drop n a) % n ≡ 0
 drop-whole n a h e = ap (λ (k : ℕ). k % n) (length-drop n a) ∙ sym (mod-eq-sub-mod h) ∙ e
-
-pub empty : (a : List ℕ) → length a ≡ 0 → a ≡ []
-empty [] e = refl
-empty (x ∷ a) e = absurd (omega arith)
 
 -- ---- which list is next
 module _ (n : ℕ) (order a b : List ℕ) where
@@ -225,7 +212,8 @@ gone-none : (n : ℕ) (a : List ℕ) (i : ℕ) → length a % n ≡ 0 → i ≡ 
 gone-none n a i e q = subst (λ (k : ℕ). Gone n a k (rowsIn n a)) (sym q) (record { fits = omega arith; rest = refl; whole = e })
 
 module _ (n : ℕ) (order a b : List ℕ) (d : Sorts n order a b) where
-  made : (row : List ℕ) (i j : ℕ) (xs ys : List (List ℕ)) → length row ≡ n → Gone n a i xs → Gone n b j ys → 0 < i + j → union order (rowsIn n a) (rowsIn n b) ≡ row ∷ union order xs ys → Sorted (Earlier order) xs → Sorted (Earlier order) ys → Step n order a b row i j
+  made : (row : List ℕ) (i j : ℕ) (xs ys : List (List ℕ)) → length row ≡ n → Gone n a i xs → Gone n b j ys → 0 < i + j → union order (rowsIn n a) (rowsIn n b) ≡ row ∷ union order xs ys → Sorted
+      (Earlier order) xs → Sorted (Earlier order) ys → Step n order a b row i j
   unfolding mergedBy flat
   made row i j xs ys w g h l u s t =
       record {
@@ -301,7 +289,7 @@ module _ (n : ℕ) (order a b : List ℕ) (d : Sorts n order a b) where
       only-first : length b ≡ 0 → Step n order a b row i j
       only-first hb =
           let q : row ≡ take n a = first-is (second-empty n order a b hb) in
-          let ha : length a ≡ 0 → ⊥ = λ z. full (ap length (q ∙ ap (take n) (empty a z) ∙ take-nil n)) in
+          let ha : length a ≡ 0 → ⊥ = λ z. full (ap length (q ∙ ap (take n) (length-none a z) ∙ take-nil n)) in
           let iz : i ≡ n = whole-a ha q in
           let jz : j ≡ 0 = ej ∙ sym (taken-none n b row hb) in
           made row i j xs (rowsIn n b) (ap length q ∙ length-take-le n a (some-a ha)) (gone-row n a i (some-a ha) (r .first) iz) (gone-none n b j (r .second) jz) (omega (arith, iz, r .some))
@@ -314,23 +302,27 @@ module _ (n : ℕ) (order a b : List ℕ) (d : Sorts n order a b) where
           let iz : i ≡ 0 = ei ∙ sym (taken-none n a row ha) in
           let jz : j ≡ n = whole-b hb q in
           made row i j (rowsIn n a) ys (ap length q ∙ length-take-le n b (some-b hb)) (gone-none n a i (r .first) iz) (gone-row n b j (some-b hb) (r .second) jz) (omega (arith, jz, r .some))
-          (ap₂ (union order) (none-a ha) (rows-b hb) ∙ u-right n order (r .places) (take n b) ys (wide-b hb) (sorted-b hb) ∙ ap₂ (λ (x : List ℕ) (l : List (List ℕ)). x ∷ union order l ys) (sym q) (sym (none-a ha)))
+          (ap₂ (union order) (none-a ha) (rows-b hb) ∙ u-right n order (r .places) (take n b) ys (wide-b hb) (sorted-b hb) ∙ ap₂ (λ (x : List ℕ) (l : List (List ℕ)). x ∷ union order l ys) (sym q)
+          (sym (none-a ha)))
           (sorted-of order (rowsIn n a) (d .first)) (sorted-b hb .1)
 
-      by-order : (hb : length b ≡ 0 → ⊥) (ha : length a ≡ 0 → ⊥) (t : Bool) → earlierBy order (take n b) (take n a) ≡ t → (u : Bool) → earlierBy order (take n a) (take n b) ≡ u → Step n order a b row i j
+      by-order : (hb : length b ≡ 0 → ⊥) (ha : length a ≡ 0 → ⊥) (t : Bool) → earlierBy order (take n b) (take n a) ≡ t → (u : Bool) → earlierBy order (take n a) (take n b) ≡ u
+          → Step n order a b row i j
       by-order hb ha true q u v =
           let k : row ≡ take n b = second-is (by-rows n order a b hb ha ∙ ap not q) in
           let iz : i ≡ 0 = ei ∙ sym (taken-no n a row ha (λ z. not-itself order (take n b) (take n a) q (sym k ∙ sym z))) in
           let jz : j ≡ n = whole-b hb k in
           made row i j (rowsIn n a) ys (ap length k ∙ length-take-le n b (some-b hb)) (gone-none n a i (r .first) iz) (gone-row n b j (some-b hb) (r .second) jz) (omega (arith, jz, r .some))
-          (ap₂ (union order) (rows-a ha) (rows-b hb) ∙ u-second n order (r .places) (take n a) (take n b) xs ys (wide-a ha) (wide-b hb) (sorted-a ha) (sorted-b hb) (T-of _ q) ∙ ap₂ (λ (x : List ℕ) (l : List (List ℕ)). x ∷ union order l ys) (sym k) (sym (rows-a ha)))
+          (ap₂ (union order) (rows-a ha) (rows-b hb) ∙ u-second n order (r .places) (take n a) (take n b) xs ys (wide-a ha) (wide-b hb) (sorted-a ha) (sorted-b hb) (T-of _ q) ∙ ap₂
+          (λ (x : List ℕ) (l : List (List ℕ)). x ∷ union order l ys) (sym k) (sym (rows-a ha)))
           (sorted-of order (rowsIn n a) (d .first)) (sorted-b hb .1)
       by-order hb ha false q true v =
           let k : row ≡ take n a = first-is (by-rows n order a b hb ha ∙ ap not q) in
           let iz : i ≡ n = whole-a ha k in
           let jz : j ≡ 0 = ej ∙ sym (taken-no n b row hb (λ z. not-itself order (take n a) (take n b) v (sym k ∙ sym z))) in
           made row i j xs (rowsIn n b) (ap length k ∙ length-take-le n a (some-a ha)) (gone-row n a i (some-a ha) (r .first) iz) (gone-none n b j (r .second) jz) (omega (arith, iz, r .some))
-          (ap₂ (union order) (rows-a ha) (rows-b hb) ∙ u-first n order (r .places) (take n a) (take n b) xs ys (wide-a ha) (wide-b hb) (sorted-a ha) (sorted-b hb) (T-of _ v) ∙ ap₂ (λ (x : List ℕ) (l : List (List ℕ)). x ∷ union order xs l) (sym k) (sym (rows-b hb)))
+          (ap₂ (union order) (rows-a ha) (rows-b hb) ∙ u-first n order (r .places) (take n a) (take n b) xs ys (wide-a ha) (wide-b hb) (sorted-a ha) (sorted-b hb) (T-of _ v) ∙ ap₂
+          (λ (x : List ℕ) (l : List (List ℕ)). x ∷ union order xs l) (sym k) (sym (rows-b hb)))
           (sorted-a ha .1) (sorted-of order (rowsIn n b) (d .second))
       by-order hb ha false q false v =
           let k : row ≡ take n a = first-is (by-rows n order a b hb ha ∙ ap not q) in
@@ -340,7 +332,8 @@ module _ (n : ℕ) (order a b : List ℕ) (d : Sorts n order a b) where
           let iz : i ≡ n = whole-a ha k in
           let jz : j ≡ n = whole-b hb (k ∙ z) in
           made row i j xs ys (ap length k ∙ la) (gone-row n a i (some-a ha) (r .first) iz) (gone-row n b j (some-b hb) (r .second) jz) (omega (arith, iz, r .some))
-          (ap₂ (union order) (rows-a ha) (rows-b hb) ∙ u-both n order (r .places) (take n a) (take n b) xs ys (wide-a ha) (wide-b hb) (sorted-a ha) (sorted-b hb) z ∙ ap (λ (x : List ℕ). x ∷ union order xs ys) (sym k))
+          (ap₂ (union order) (rows-a ha) (rows-b hb) ∙ u-both n order (r .places) (take n a) (take n b) xs ys (wide-a ha) (wide-b hb) (sorted-a ha) (sorted-b hb) z ∙ ap
+          (λ (x : List ℕ). x ∷ union order xs ys) (sym k))
           (sorted-a ha .1) (sorted-b hb .1)
 
       cases : (t : Bool) → eqb (length b) 0 ≡ t → (u : Bool) → eqb (length a) 0 ≡ u → Step n order a b row i j
@@ -358,7 +351,8 @@ module _ (n : ℕ) (order a b : List ℕ) (d : Sorts n order a b) where
 
       cases : (t : Bool) → eqb (length b) 0 ≡ t → (u : Bool) → eqb (length a) 0 ≡ u → flat (union order (rowsIn n a) (rowsIn n b)) ≡ []
       cases true q true v =
-          ap₂ (λ (x y : List (List ℕ)). flat (union order x y)) (rows-none n a (r .some) (omega (arith, r .some, eqb-true (length a) 0 v))) (rows-none n b (r .some) (omega (arith, r .some, eqb-true (length b) 0 q)))
+          ap₂ (λ (x y : List (List ℕ)). flat (union order x y)) (rows-none n a (r .some) (omega (arith, r .some, eqb-true (length a) 0 v)))
+          (rows-none n b (r .some) (omega (arith, r .some, eqb-true (length b) 0 q)))
       cases true q false v =
           absurd (omega (arith, r .some, z, ap length (e ∙ sym (next-first n order a b (second-empty n order a b (eqb-true (length b) 0 q)))), front-length n a (r .first) (eqb-false (length a) 0 v)))
       cases false q u v = absurd (fronts (fromFirst n order a b) refl (eqb-false (length b) 0 q))

@@ -1,37 +1,48 @@
 -- What each function of the crate shows at its branches and turns. Assumes nothing.
-use mathlib.Core.Path.{_≡_, refl, sym, ap, ap₂, _∙_, subst}
-use mathlib.Core.Bool.{Bool, true, false, not}
-use mathlib.Core.List.{List, _∷_, _++_, append-assoc, append-nil}
-use Prim.Native.Nat.{ℕ, _+_, _-_, _%_, _≤_, _<_}
-use native.Mathlib.Omega.{arith}
-use lib.Dec.{leb, eqb}
-use lib.ListN.{length, take, drop, length-drop, length-append}
-use lib.Seq.{length-take-le, take-all, take-nil}
-use borrow.Author.Tests.{leb-true, leb-false, eq-eqb, ne-eqb, eqb-true, eqb-false}
-use Rattle.model.specs.Room.{rowsIn}
-use Rattle.model.proofs.Room.{rows-none, rows-cons}
-use Rattle.list_merge.specs.Merge.{ascends, mergedBy, fromFirst, nextRow}
-use Rattle.order.specs.Reordered.{earlierBy}
-use Rattle.model.specs.Lists.{choose}
-use Rattle.list_merge.specs.Inner.{wayOf, Rests, Sorts, stands, ofFirst, Fronts, takenFirst, takenSecond, taken}
-use Rattle.list_merge.specs.declared.Way.{Way}
+use Rattle.model.specs.Kit.{_≡_, refl, sym, ap, ap₂, _∙_, subst, Bool, true, false, not, List, _∷_, _++_, append-assoc, append-nil, ℕ, _+_, _-_, _%_, _≤_, _<_, arith, leb, eqb}
+use Rattle.model.specs.Kit.{length, take, drop, length-drop, length-append, length-take-le, take-all, leb-true, leb-false, eq-eqb, ne-eqb, eqb-true, eqb-false}
+use lib.Seq.{take-nil}
+use Rattle.model.specs.{Room.rowsIn, Lists.choose}
+use Rattle.model.proofs.{Room.rows-none, Room.rows-cons, Lists.length-none}
+use Rattle.list_merge.specs.{Merge.ascends, Merge.mergedBy, Merge.fromFirst, Merge.nextRow, inner.Inner.wayOf, inner.Inner.Rests, inner.Inner.Sorts, inner.Inner.stands}
+use Rattle.list_merge.specs.{inner.Inner.ofFirst, inner.Inner.Fronts, inner.Inner.takenFirst, inner.Inner.takenSecond, inner.Inner.taken, declared.Way.Way}
 use Rattle.list_merge.specs.declared.Way.the-variants.{Before, Same, After}
-use Rattle.list_merge.proofs.Reading.{rows-equal, ascends-yes, ascends-no, ascends-none, ascends-one}
-use Rattle.list_merge.proofs.Stepping.{before-way, after-way, same-way, second-empty, first-empty, by-rows, next-first, next-second, empty, some-row, drop-whole, taken-none, taken-yes, taken-no, not-itself, Step, stepped, ended}
+use Rattle.order.specs.Reordered.{earlierBy}
+use Rattle.list_merge.proofs.{Reading.rows-equal, Reading.ascends-yes, Reading.ascends-no, Reading.ascends-none, Reading.ascends-one, Stepping.before-way}
+use Rattle.list_merge.proofs.Stepping.{after-way, same-way, second-empty, first-empty, by-rows, next-first, next-second, some-row, drop-whole, taken-none, taken-yes}
+use Rattle.list_merge.proofs.Stepping.{taken-no, not-itself, Step, stepped, ended}
 
 -- ---- stand
 module _ (n : ℕ) (order a b : List ℕ) where
   pub stand-after : length b ≡ 0 → After ≡ stands n order a b
   unfolding stands
-  stand-after e = sym (ap (λ (t : Bool). elim t [ true ↦ After | false ↦ elim (eqb (length a) 0) [ true ↦ Before | false ↦ wayOf (earlierBy order (take n b) (take n a)) (earlierBy order (take n a) (take n b)) ] ]) (eq-eqb (length b) 0 e))
+  stand-after e = sym (ap (λ (t : Bool). elim t [
+    | true ↦ After
+    | false ↦ elim (eqb (length a) 0)
+        [ true ↦ Before | false ↦ wayOf (earlierBy order (take n b) (take n a)) (earlierBy order (take n a) (take n b)) ]
+  ]) (eq-eqb (length b) 0 e))
 
   pub stand-before : (length b ≡ 0 → ⊥) → length a ≡ 0 → Before ≡ stands n order a b
   unfolding stands
-  stand-before h e = sym (ap₂ (λ (t u : Bool). elim t [ true ↦ After | false ↦ elim u [ true ↦ Before | false ↦ wayOf (earlierBy order (take n b) (take n a)) (earlierBy order (take n a) (take n b)) ] ]) (ne-eqb (length b) 0 h) (eq-eqb (length a) 0 e))
+  stand-before h e = sym (ap₂ (λ (t u : Bool). elim t [
+    | true ↦ After
+    | false ↦ elim u [
+      | true ↦ Before
+      | false ↦ wayOf (earlierBy order (take n b) (take n a))
+          (earlierBy order (take n a) (take n b))
+    ]
+  ]) (ne-eqb (length b) 0 h) (eq-eqb (length a) 0 e))
 
   pub stand-rows : (length b ≡ 0 → ⊥) → (length a ≡ 0 → ⊥) → wayOf (earlierBy order (take n b) (take n a)) (earlierBy order (take n a) (take n b)) ≡ stands n order a b
   unfolding stands
-  stand-rows h k = sym (ap₂ (λ (t u : Bool). elim t [ true ↦ After | false ↦ elim u [ true ↦ Before | false ↦ wayOf (earlierBy order (take n b) (take n a)) (earlierBy order (take n a) (take n b)) ] ]) (ne-eqb (length b) 0 h) (ne-eqb (length a) 0 k))
+  stand-rows h k = sym (ap₂ (λ (t u : Bool). elim t [
+    | true ↦ After
+    | false ↦ elim u [
+      | true ↦ Before
+      | false ↦ wayOf (earlierBy order (take n b) (take n a))
+          (earlierBy order (take n a) (take n b))
+    ]
+  ]) (ne-eqb (length b) 0 h) (ne-eqb (length a) 0 k))
 
 -- what is known by how the second's next row stands to the first's
 module _ (n : ℕ) (order a b : List ℕ) (d : Rests n order a b) (w : Way) (e : w ≡ stands n order a b) where
@@ -42,7 +53,8 @@ module _ (n : ℕ) (order a b : List ℕ) (d : Rests n order a b) (w : Way) (e :
   unfolding stands
   split P none only later sooner equal = subst P (sym e) (go (eqb (length b) 0) refl (eqb (length a) 0) refl (earlierBy order (take n b) (take n a)) refl (earlierBy order (take n a) (take n b)) refl)
     where
-      go : (t : Bool) → eqb (length b) 0 ≡ t → (u : Bool) → eqb (length a) 0 ≡ u → (p : Bool) → earlierBy order (take n b) (take n a) ≡ p → (q : Bool) → earlierBy order (take n a) (take n b) ≡ q → P (elim t [ true ↦ After | false ↦ elim u [ true ↦ Before | false ↦ wayOf p q ] ])
+      go : (t : Bool) → eqb (length b) 0 ≡ t → (u : Bool) → eqb (length a) 0 ≡ u → (p : Bool) → earlierBy order (take n b) (take n a) ≡ p → (q : Bool) → earlierBy order (take n a) (take n b) ≡ q
+          → P (elim t [ true ↦ After | false ↦ elim u [ true ↦ Before | false ↦ wayOf p q ] ])
       go true f u g p i q j = none (eqb-true (length b) 0 f)
       go false f true g p i q j = only (eqb-false (length b) 0 f) (eqb-true (length a) 0 g)
       go false f false g true i q j = later (eqb-false (length b) 0 f) (eqb-false (length a) 0 g) i
@@ -51,7 +63,8 @@ module _ (n : ℕ) (order a b : List ℕ) (d : Rests n order a b) (w : Way) (e :
 
   chosen : ofFirst w ≡ fromFirst n order a b
   chosen =
-      split (λ (v : Way). ofFirst v ≡ fromFirst n order a b) (λ hb. sym (second-empty n order a b hb)) (λ hb ha. sym (first-empty n order a b hb ha)) (λ hb ha q. sym (by-rows n order a b hb ha ∙ ap not q))
+      split (λ (v : Way). ofFirst v ≡ fromFirst n order a b) (λ hb. sym (second-empty n order a b hb)) (λ hb ha. sym (first-empty n order a b hb ha))
+      (λ hb ha q. sym (by-rows n order a b hb ha ∙ ap not q))
       (λ hb ha q z. sym (by-rows n order a b hb ha ∙ ap not q)) (λ hb ha q z. sym (by-rows n order a b hb ha ∙ ap not q))
 
   pub next-is : take n (choose (ofFirst w) a b) ≡ nextRow n order a b
@@ -74,7 +87,7 @@ module _ (n : ℕ) (order a b : List ℕ) (d : Rests n order a b) (w : Way) (e :
     is-second q = next-second n order a b q ∙ sym k
 
     some-first : take n a ≡ row → length a ≡ 0 → ⊥
-    some-first q z = full (sym (ap length q) ∙ ap (λ (l : List ℕ). length (take n l)) (empty a z) ∙ ap length (take-nil n))
+    some-first q z = full (sym (ap length q) ∙ ap (λ (l : List ℕ). length (take n l)) (length-none a z) ∙ ap length (take-nil n))
 
     pub first-taken : takenFirst n w ≡ taken n a row
     first-taken =
@@ -90,7 +103,8 @@ module _ (n : ℕ) (order a b : List ℕ) (d : Rests n order a b) (w : Way) (e :
         (λ hb ha q v. taken-no n b row hb (λ z. not-itself order (take n a) (take n b) v (is-first (by-rows n order a b hb ha ∙ ap not q) ∙ sym z)))
         (λ hb ha q v.
         taken-yes n b row hb
-        (sym (rows-equal n order (d .places) (take n a) (take n b) (length-take-le n a (some-row n a (d .first) ha)) (length-take-le n b (some-row n b (d .second) hb)) v q) ∙ is-first (by-rows n order a b hb ha ∙ ap not q)))
+        (sym (rows-equal n order (d .places) (take n a) (take n b) (length-take-le n a (some-row n a (d .first) ha)) (length-take-le n b (some-row n b (d .second) hb)) v q) ∙ is-first
+        (by-rows n order a b hb ha ∙ ap not q)))
 
 -- ---- parts
 pub part-is : (a : List ℕ) (i : ℕ) → take (length a - i) (drop i a) ≡ drop i a
@@ -130,10 +144,12 @@ module _ (n : ℕ) (order a after : List ℕ) (some : 1 ≤ n) (e : length a % n
         ∙ ap (ascends order) (sym one)
 
     pub equal-rows : w ≡ Same → ascends order (rowsIn n a) ≡ false
-    equal-rows z = ap (ascends order) two ∙ ascends-no order (take n a) (take n after) (rowsIn n (drop n after)) (same-way (earlierBy order (take n a) (take n after)) (earlierBy order (take n after) (take n a)) (sym z ∙ f) .0)
+    equal-rows z = ap (ascends order) two ∙ ascends-no order (take n a) (take n after) (rowsIn n (drop n after))
+        (same-way (earlierBy order (take n a) (take n after)) (earlierBy order (take n after) (take n a)) (sym z ∙ f) .0)
 
     pub falls : w ≡ After → ascends order (rowsIn n a) ≡ false
-    falls z = ap (ascends order) two ∙ ascends-no order (take n a) (take n after) (rowsIn n (drop n after)) (after-way (earlierBy order (take n a) (take n after)) (earlierBy order (take n after) (take n a)) (sym z ∙ f))
+    falls z = ap (ascends order) two ∙ ascends-no order (take n a) (take n after) (rowsIn n (drop n after))
+        (after-way (earlierBy order (take n a) (take n after)) (earlierBy order (take n after) (take n a)) (sym z ∙ f))
 
 -- at most one row
 pub last-row : (n : ℕ) (order a : List ℕ) → 1 ≤ n → length a % n ≡ 0 → length a ≤ n → ascends order (rowsIn n a) ≡ true
@@ -154,7 +170,8 @@ module _ (n : ℕ) (order a b : List ℕ) (d : Sorts n order a b) (row : List �
   row-width = step .width
 
   pub row-fits : length (mergedBy n order a b) ≡ n + length (mergedBy n order (drop (taken n a row) a) (drop (taken n b row) b))
-  row-fits = ap length (step .text) ∙ length-append row (mergedBy n order (drop (taken n a row) a) (drop (taken n b row) b)) ∙ ap (λ (k : ℕ). k + length (mergedBy n order (drop (taken n a row) a) (drop (taken n b row) b))) (step .width)
+  row-fits = ap length (step .text) ∙ length-append row (mergedBy n order (drop (taken n a row) a) (drop (taken n b row) b)) ∙ ap
+      (λ (k : ℕ). k + length (mergedBy n order (drop (taken n a row) a) (drop (taken n b row) b))) (step .width)
 
   module _ (i j : ℕ) (ei : i ≡ taken n a row) (ej : j ≡ taken n b row) where
     turn : Step n order a b row i j
@@ -181,7 +198,8 @@ module _ (n : ℕ) (order a b : List ℕ) (d : Sorts n order a b) (row : List �
       text-is t = append-assoc t row (mergedBy n order a′ b′) ∙ sym (ap (λ (x : List ℕ). t ++ x) text)
 
 -- a row fits where the whole does
-pub room-for : (n : ℕ) (order a b : List ℕ) → Sorts n order a b → (row : List ℕ) → row ≡ nextRow n order a b → (length row ≡ 0 → ⊥) → (t all : List ℕ) (at size : ℕ) → at ≡ length t → t ++ mergedBy n order a b ≡ all → length all ≤ size → at + length row ≤ size
+pub room-for : (n : ℕ) (order a b : List ℕ) → Sorts n order a b → (row : List ℕ) → row ≡ nextRow n order a b → (length row ≡ 0 → ⊥) → (t all : List ℕ) (at size : ℕ) → at ≡ length t
+    → t ++ mergedBy n order a b ≡ all → length all ≤ size → at + length row ≤ size
 room-for n order a b d row e full t all at size h q l =
     omega (arith, ap length q, length-append t (mergedBy n order a b), row-fits n order a b d row e full, row-width n order a b d row e full)
 

@@ -1,16 +1,10 @@
 -- The union of two ascending lists of rows: its members, its order, and its first row. Assumes nothing.
-use mathlib.Core.Path.{_≡_, refl, sym, _∙_, subst}
-use mathlib.Core.Bool.{Bool, true, false}
-use mathlib.Core.Logic.{_⊎_, inl, inr, ⊎-elim}
-use mathlib.Core.List.{List, [], _∷_, List·Memᴰ, List·Memᴰ·head, List·Memᴰ·tail, List·Memᴰ·not-nil}
-use Prim.Native.Nat.{ℕ}
-use lib.Dec.{T}
-use lib.ListN.{length}
+use Rattle.model.specs.Kit.{_≡_, refl, sym, _∙_, subst, Bool, true, false, _⊎_, inl, inr, ⊎-elim, List, [], _∷_, List·Memᴰ, List·Memᴰ·head, List·Memᴰ·tail, List·Memᴰ·not-nil, ℕ, T}
+use Rattle.model.specs.Kit.{length}
 use Rattle.model.specs.Lists.{same}
-use Rattle.model.proofs.Lists.{T-of, of-not, same-eq, same-refl, earlier-asym, earlier-trans, Sorted, sorted-ext}
-use Rattle.model.proofs.Room.{Wide, wide-tail}
-use Rattle.list_merge.specs.Merge.{insert, union}
-use Rattle.list_merge.specs.Inner.{Places}
+use Rattle.model.proofs.{Lists.T-of, Lists.of-not, Lists.same-eq, Lists.same-refl, Lists.earlier-asym, Lists.earlier-trans, Lists.Sorted, Lists.sorted-ext, Room.Wide}
+use Rattle.model.proofs.Room.{wide-tail}
+use Rattle.list_merge.specs.{Merge.insert, Merge.union, inner.Inner.Places}
 use Rattle.order.specs.Reordered.{read, earlierBy}
 use Rattle.list_merge.proofs.Reading.{rows-equal, Earlier}
 
@@ -21,7 +15,8 @@ insert-e order r [] z (List·Memᴰ·head e) = inl e
 insert-e order r [] z (List·Memᴰ·tail m) = inr m
 insert-e order r (s ∷ rows) z m = go (insert-e order r rows z) (same r s) (earlierBy order r s) m
   where
-    go : (List·Memᴰ z (insert order r rows) → (z ≡ r) ⊎ List·Memᴰ z rows) → (b c : Bool) → List·Memᴰ z (elim b [ true ↦ s ∷ rows | false ↦ elim c [ true ↦ r ∷ s ∷ rows | false ↦ s ∷ insert order r rows ] ]) → (z ≡ r) ⊎ List·Memᴰ z (s ∷ rows)
+    go : (List·Memᴰ z (insert order r rows) → (z ≡ r) ⊎ List·Memᴰ z rows) → (b c : Bool) → List·Memᴰ z
+        (elim b [ true ↦ s ∷ rows | false ↦ elim c [ true ↦ r ∷ s ∷ rows | false ↦ s ∷ insert order r rows ] ]) → (z ≡ r) ⊎ List·Memᴰ z (s ∷ rows)
     go ih true c m = inr m
     go ih false true (List·Memᴰ·head e) = inl e
     go ih false true (List·Memᴰ·tail m) = inr m
@@ -34,7 +29,8 @@ insert-i order r [] z (inl e) = List·Memᴰ·head e
 insert-i order r [] z (inr m) = absurd (List·Memᴰ·not-nil m)
 insert-i order r (s ∷ rows) z h = go (insert-i order r rows z) (same r s) refl (earlierBy order r s) h
   where
-    go : ((z ≡ r) ⊎ List·Memᴰ z rows → List·Memᴰ z (insert order r rows)) → (b : Bool) → same r s ≡ b → (c : Bool) → (z ≡ r) ⊎ List·Memᴰ z (s ∷ rows) → List·Memᴰ z (elim b [ true ↦ s ∷ rows | false ↦ elim c [ true ↦ r ∷ s ∷ rows | false ↦ s ∷ insert order r rows ] ])
+    go : ((z ≡ r) ⊎ List·Memᴰ z rows → List·Memᴰ z (insert order r rows)) → (b : Bool) → same r s ≡ b → (c : Bool) → (z ≡ r) ⊎ List·Memᴰ z (s ∷ rows) → List·Memᴰ z
+        (elim b [ true ↦ s ∷ rows | false ↦ elim c [ true ↦ r ∷ s ∷ rows | false ↦ s ∷ insert order r rows ] ])
     go ih true e c (inl q) = List·Memᴰ·head (q ∙ same-eq r s (T-of (same r s) e))
     go ih true e c (inr m) = m
     go ih false e true (inl q) = List·Memᴰ·head q
@@ -81,7 +77,8 @@ module _ (n : ℕ) (order : List ℕ) (p : Places n order) where
       first h z (List·Memᴰ·head q) = subst (λ (y : List ℕ). Earlier order r y) (sym q) h
       first h z (List·Memᴰ·tail m) = earlier-trans (read order r) (read order x) (read order z) h (s .0 z m)
 
-      go : Sorted (Earlier order) (insert order r rows) → (b : Bool) → same r x ≡ b → (c : Bool) → earlierBy order r x ≡ c → Sorted (Earlier order) (elim b [ true ↦ x ∷ rows | false ↦ elim c [ true ↦ r ∷ x ∷ rows | false ↦ x ∷ insert order r rows ] ])
+      go : Sorted (Earlier order) (insert order r rows) → (b : Bool) → same r x ≡ b → (c : Bool) → earlierBy order r x ≡ c → Sorted (Earlier order)
+          (elim b [ true ↦ x ∷ rows | false ↦ elim c [ true ↦ r ∷ x ∷ rows | false ↦ x ∷ insert order r rows ] ])
       go ih true e c f = s
       go ih false e true f = (first (T-of (earlierBy order r x) f), s)
       go ih false e false f =

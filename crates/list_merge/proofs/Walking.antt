@@ -1,17 +1,8 @@
 -- The walk through the merged list: what is known at its turns. Assumes nothing.
-use mathlib.Core.Path.{_≡_, refl, sym, ap, _∙_, subst}
-use mathlib.Core.Bool.{Bool, true, false}
-use mathlib.Core.Logic.{_⊎_, ⊎-elim}
-use mathlib.Core.List.{List, [], _++_}
-use Prim.Native.Nat.{ℕ, _+_, _-_, _≤_, _<_}
-use native.Mathlib.Omega.{arith}
-use lib.Dec.{T}
-use lib.ListN.{length, drop, length-append}
-use Rattle.model.specs.Room.{wrote, refusal}
-use Rattle.model.specs.Written.{Written}
+use Rattle.model.specs.Kit.{_≡_, refl, sym, ap, _∙_, subst, Bool, true, false, _⊎_, ⊎-elim, List, [], _++_, ℕ, _+_, _-_, _≤_, _<_, arith, T, length, drop, length-append}
+use Rattle.model.specs.{Room.wrote, Room.refusal, Written.Written}
 use Rattle.model.proofs.Written.{written-none, written-then, written-length}
-use Rattle.list_merge.specs.Merge.{mergedBy, nextRow}
-use Rattle.list_merge.specs.Inner.{Sorts, taken, Walked}
+use Rattle.list_merge.specs.{Merge.mergedBy, Merge.nextRow, inner.Inner.Sorts, inner.Inner.taken, inner.Inner.Walked}
 use Rattle.list_merge.proofs.Turning.{row-width, row-fits, sorts, text-is, room-for, at-end}
 
 -- what is left of the lists, and what stands in the buffer d, which is `out` now

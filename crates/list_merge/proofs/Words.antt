@@ -1,19 +1,13 @@
 -- Rows compared by words of four bytes. Assumes nothing.
-use mathlib.Core.Path.{_≡_, refl, sym, ap, ap₂, _∙_}
-use mathlib.Core.Bool.{Bool, true, false}
-use mathlib.Core.List.{List, _∷_}
-use Prim.Native.Nat.{ℕ, zero, suc, _+_, _*_, _≤_, _<_}
+use Rattle.model.specs.Kit.{_≡_, refl, sym, ap, ap₂, _∙_, Bool, true, false, List, _∷_, ℕ, zero, suc, _+_, _*_, _≤_, _<_, add-one, arith, ltb, length, drop, getD, below-more}
+use Rattle.model.specs.Kit.{ltb-true, ltb-false}
 use native.Mathlib.Nat.{le-antisymm}
-use native.Mathlib.Numerals.{add-one}
-use native.Mathlib.Omega.{arith}
-use lib.Dec.{ltb}
-use lib.ListN.{length, drop, getD, drop-of-length-le}
+use lib.ListN.{drop-of-length-le}
 use lib.Seq.{drop-cons}
-use borrow.Author.Count.{below-none, below-more}
-use borrow.Author.Tests.{ltb-true, ltb-false}
+use borrow.Author.Count.{below-none}
 use Rattle.model.specs.Lists.{earlier}
 use Rattle.model.proofs.Lists.{T-of, of-T, not-of, earlier-lt, earlier-asym}
-use Rattle.list_merge.specs.Inner.{wayOf, eightOf, wordOf, Number, Long, Decides}
+use Rattle.list_merge.specs.inner.Inner.{wayOf, eightOf, wordOf, Number, Long, Decides}
 use Rattle.list_merge.proofs.Reading.{earlier-same}
 
 -- two rows compared from a place on
@@ -107,8 +101,10 @@ module _ (a b : List ℕ) where
   unfolding eightOf
   eight-same sa sb e =
       let tail : List ℕ → ℕ → ℕ → ℕ = λ (l : List ℕ) (i u : ℕ). getD l i 0 + u * 256 in
-      let p₀ = peel (getD a 0 0) (getD b 0 0) (tail a 1 (tail a 2 (tail a 3 (tail a 4 (tail a 5 (tail a 6 (getD a 7 0))))))) (tail b 1 (tail b 2 (tail b 3 (tail b 4 (tail b 5 (tail b 6 (getD b 7 0))))))) (sa 0) (sb 0) (omega arith) in
-      let p₁ = peel (getD a 1 0) (getD b 1 0) (tail a 2 (tail a 3 (tail a 4 (tail a 5 (tail a 6 (getD a 7 0)))))) (tail b 2 (tail b 3 (tail b 4 (tail b 5 (tail b 6 (getD b 7 0)))))) (sa 1) (sb 1) (p₀ .1) in
+      let p₀ = peel (getD a 0 0) (getD b 0 0) (tail a 1 (tail a 2 (tail a 3 (tail a 4 (tail a 5 (tail a 6 (getD a 7 0)))))))
+      (tail b 1 (tail b 2 (tail b 3 (tail b 4 (tail b 5 (tail b 6 (getD b 7 0))))))) (sa 0) (sb 0) (omega arith) in
+      let p₁ = peel (getD a 1 0) (getD b 1 0) (tail a 2 (tail a 3 (tail a 4 (tail a 5 (tail a 6 (getD a 7 0)))))) (tail b 2 (tail b 3 (tail b 4 (tail b 5 (tail b 6 (getD b 7 0)))))) (sa 1) (sb 1)
+      (p₀ .1) in
       let p₂ = peel (getD a 2 0) (getD b 2 0) (tail a 3 (tail a 4 (tail a 5 (tail a 6 (getD a 7 0))))) (tail b 3 (tail b 4 (tail b 5 (tail b 6 (getD b 7 0))))) (sa 2) (sb 2) (p₁ .1) in
       let p₃ = peel (getD a 3 0) (getD b 3 0) (tail a 4 (tail a 5 (tail a 6 (getD a 7 0)))) (tail b 4 (tail b 5 (tail b 6 (getD b 7 0)))) (sa 3) (sb 3) (p₂ .1) in
       let p₄ = peel (getD a 4 0) (getD b 4 0) (tail a 5 (tail a 6 (getD a 7 0))) (tail b 5 (tail b 6 (getD b 7 0))) (sa 4) (sb 4) (p₃ .1) in
@@ -134,6 +130,7 @@ module _ (a b : List ℕ) where
 pub words-way : (n : ℕ) (a b : List ℕ) → Long n a b → (r x y : ℕ) → Decides n a b r → Number a (wordOf a r) x → Number b (wordOf b r) y → wayOf (ltb x y) (ltb y x) ≡ wayOf (earlier a b) (earlier b a)
 words-way n a b l r x y d p q = ap₂ wayOf (one a b x y (l .first) (l .second) (d .before) (d .last) p q) (one b a y x (l .second) (l .first) (λ i h. sym (d .before i h)) (λ z. d .last (sym z)) q p)
   where
-    one : (a b : List ℕ) (x y : ℕ) → length a ≡ n → length b ≡ n → ((i : ℕ) → i < r → getD a i 0 ≡ getD b i 0) → (wordOf a r ≡ wordOf b r → r + 4 ≡ n) → Number a (wordOf a r) x → Number b (wordOf b r) y → ltb x y ≡ earlier a b
+    one : (a b : List ℕ) (x y : ℕ) → length a ≡ n → length b ≡ n → ((i : ℕ) → i < r → getD a i 0 ≡ getD b i 0) → (wordOf a r ≡ wordOf b r → r + 4 ≡ n) → Number a (wordOf a r) x → Number b
+        (wordOf b r) y → ltb x y ≡ earlier a b
     one a b x y ea eb h last p q =
         ap₂ ltb (p .is) (q .is) ∙ sym (word-way a b (p .bytes) (q .bytes) n r ea eb (d .fits) last) ∙ sym (agree a b r h (omega (arith, d .fits)) (omega (arith, d .fits)))

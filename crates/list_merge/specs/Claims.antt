@@ -1,13 +1,7 @@
 -- The claims of paper 02, #106, as statements about the definitions; proofs/Claimed has the proofs. That the merge of two runs' lists has the plans of
 -- either, promises says of what callers hold.
-use mathlib.Core.Path.{_≡_}
-use mathlib.Core.Logic.{_⊎_, _↔_}
-use mathlib.Core.List.{List, [], List·Memᴰ}
-use Prim.Native.Nat.{ℕ}
-use lib.Dec.{T}
-use Rattle.model.specs.Lists.{below, rowsAscend}
-use Rattle.model.specs.Verdict.{accepted}
-use Rattle.model.specs.Room.{rowsIn}
+use Rattle.model.specs.Kit.{_≡_, _⊎_, _↔_, List, [], List·Memᴰ, ℕ, T}
+use Rattle.model.specs.{Lists.below, Lists.rowsAscend, Verdict.accepted, Room.rowsIn}
 use Rattle.order.specs.Order.{settlingOrder}
 use Rattle.list_merge.specs.Merge.{ascends, mergedBy, merged, mergeVerdict}
 

@@ -1,15 +1,8 @@
 -- One list from two (paper 02, #106): the rows of either list, ascending, each once, and the questions put to the two lists.
 -- Rows are compared in the settling order of the lent pairs (#108); without pairs that is by variable.
-use mathlib.Core.Bool.{Bool, true, false, not}
-use mathlib.Core.List.{List, [], _∷_, map}
-use Prim.Native.Nat.{ℕ, _%_}
-use lib.ListN.{length, take}
-use lib.Dec.{leb, eqb}
-use Rattle.model.specs.Lists.{choose, both, either, flat, same, rowsAscend}
-use Rattle.model.specs.Room.{rowsIn}
-use Rattle.model.specs.Verdict.{Verdict, accepted, ask}
-use Rattle.order.specs.Order.{settlingOrder, orderVerdict}
-use Rattle.order.specs.Reordered.{read, earlierBy}
+use Rattle.model.specs.Kit.{Bool, true, false, not, List, [], _∷_, map, ℕ, _%_, length, take, leb, eqb}
+use Rattle.model.specs.{Lists.choose, Lists.both, Lists.either, Lists.flat, Lists.same, Lists.rowsAscend, Room.rowsIn, Verdict.Verdict, Verdict.accepted, Verdict.ask}
+use Rattle.order.specs.{Order.settlingOrder, Order.orderVerdict, Reordered.read, Reordered.earlierBy}
 
 -- the rows, read in the order, ascend strictly
 unfoldable pub ascends : List ℕ → List (List ℕ) → Bool

@@ -13,7 +13,8 @@ ghost use Rattle.order.specs.Reordered.{earlierBy};
 ghost use Rattle.list_merge.specs.Merge.{ascends, mergedBy, fromFirst, nextRow, wholeLists, orderedVerdict};
 ghost use Rattle.list_merge.specs.Meaning.{means};
 ghost use Rattle.list_merge.specs.Calls.{CallMerge};
-ghost use Rattle.list_merge.specs.Inner.{Places, Kind, wayOf, Number, eightOf, wordOf, Long, Decides, Rests, Sorts, stands, takenFirst, takenSecond, Walked};
+ghost use Rattle.list_merge.specs.inner.Inner.{Places, Kind, wayOf, Number, eightOf, wordOf, Long, Decides, Rests, Sorts, stands, takenFirst};
+ghost use Rattle.list_merge.specs.inner.Inner.{takenSecond, Walked};
 
 pub enum Answer {
     Written(usize),
@@ -113,7 +114,8 @@ fn at_place(order: &[u8], i: usize, row: &[u8]) -> u64
 // Compares two rows in an order of their places, two places a turn.
 fn by_places(order: &[u8], a: &[u8], b: &[u8]) -> Way
     requires { ⌜ ((x : ℕ) → List·Memᴰ x (now order) → (x < length (now a)) × (x < length (now b))) ⌝ }
-    ensures { λ r. ⌜ r ≡ wayOf (earlierBy (now (order .entry)) (now (a .entry)) (now (b .entry))) (earlierBy (now (order .entry)) (now (b .entry)) (now (a .entry))) ⌝ }
+    ensures { λ r. ⌜ r ≡ wayOf (earlierBy (now (order .entry)) (now (a .entry)) (now (b .entry)))
+        (earlierBy (now (order .entry)) (now (b .entry)) (now (a .entry))) ⌝ }
 {
     let mut i = 0;
     while i + 1 < order.len() {
@@ -249,8 +251,10 @@ fn walk<'a>(
     out: &mut [u8],
     writes: bool,
 ) -> Answer
-    requires { ⌜ Sorts n (now order) (now first) (now second) × Kind n (now order) plain × (writes ≡ true → length (mergedBy n (now order) (now first) (now second)) ≤ length (now out)) ⌝ }
-    ensures { λ r. ⌜ Walked writes (now (out .entry)) (mergedBy n (now (order .entry)) (now (first .entry)) (now (second .entry))) (now (out .exit)) (means r) ⌝ }
+    requires { ⌜ Sorts n (now order) (now first) (now second) × Kind n (now order) plain ×
+        (writes ≡ true → length (mergedBy n (now order) (now first) (now second)) ≤ length (now out)) ⌝ }
+    ensures { λ r. ⌜ Walked writes (now (out .entry)) (mergedBy n (now (order .entry)) (now (first .entry)) (now (second .entry))) (now (out .exit))
+        (means r) ⌝ }
 {
     let mut a = first;
     let mut b = second;
@@ -296,7 +300,8 @@ fn fits<'a>(
     room: &mut [u8],
 ) -> bool
     requires { ⌜ Sorts n (now order) (now first) (now second) × Kind n (now order) plain ⌝ }
-    ensures { λ r. ⌜ (r ≡ leb (length (mergedBy n (now (order .entry)) (now (first .entry)) (now (second .entry)))) (length (now (room .entry)))) × (now (room .exit) ≡ now (room .entry)) ⌝ }
+    ensures { λ r. ⌜ (r ≡ leb (length (mergedBy n (now (order .entry)) (now (first .entry)) (now (second .entry)))) (length (now (room .entry)))) ×
+        (now (room .exit) ≡ now (room .entry)) ⌝ }
 {
     if !short(room.len(), first.len(), second.len()) {
         return true;
@@ -341,8 +346,10 @@ fn merge_by<'a>(
     room: &mut [u8],
 ) -> Answer
     requires { ⌜ Rests n (now order) (now first) (now second) × (length (now order) ≡ n) × (n ≤ 12) ⌝ }
-    ensures { λ r. ⌜ means r ≡ outcomeOf (orderedVerdict n (now (order .entry)) (now (first .entry)) (now (second .entry)) (length (now (room .entry)))) (mergedBy n (now (order .entry)) (now (first .entry)) (now (second .entry))) ⌝ }
-    ensures { λ _. ⌜ now (room .exit) ≡ roomAfter (orderedVerdict n (now (order .entry)) (now (first .entry)) (now (second .entry)) (length (now (room .entry)))) (mergedBy n (now (order .entry)) (now (first .entry)) (now (second .entry))) (now (room .entry)) ⌝ }
+    ensures { λ r. ⌜ means r ≡ outcomeOf (orderedVerdict n (now (order .entry)) (now (first .entry)) (now (second .entry)) (length (now (room .entry))))
+        (mergedBy n (now (order .entry)) (now (first .entry)) (now (second .entry))) ⌝ }
+    ensures { λ _. ⌜ now (room .exit) ≡ roomAfter (orderedVerdict n (now (order .entry)) (now (first .entry)) (now (second .entry))
+        (length (now (room .entry)))) (mergedBy n (now (order .entry)) (now (first .entry)) (now (second .entry))) (now (room .entry)) ⌝ }
 {
     let plain = by_place(n, order);
     if !ascend(n, plain, order, first) {

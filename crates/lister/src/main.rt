@@ -4,7 +4,7 @@
 ghost use mathlib.Core.Path.{_≡_};
 ghost use lib.ListN.{length};
 ghost use Rattle.io.specs.Counts.{Counts};
-ghost use Rattle.report.specs.Text.{room};
+ghost use Rattle.report.specs.inner.Text.{room};
 ghost use Rattle.export_report.specs.Report.{lengthTold};
 
 // Standard input: how many bytes stand at the front of the buffer, and whether a read failed after them.

@@ -46,9 +46,12 @@ module _ {M : Type 1} {𝓤 : URA M} {H : Heap 𝓤} {A : Atoms 𝓤} {K : Type 
         use1 W (‵ (fat q τ b (place (size τ) o k) (getD us k d)) ⊛ raw (all 𝓤 Element)) (takes 𝓤 H A W q τ b us k d o l) $ split ! $ frame ! $
         each ! (λ (u : Val). wand 𝓤 (H .at q τ b (place (size τ) o k) u) (mean 𝓤 H A (back (arr u)))) (λ u. assume {P = mean 𝓤 H A (back (arr u))} ! (‵ (fat q τ b (place (size τ) o k) u)) $
         -- [the element's cell with u; the way back to the row; the way back to the entry]
-        move ! (1 ∷ []) $ use1 W (raw (Element u)) (allE 𝓤 Element u) $ move ! (1 ∷ 0 ∷ []) $ use2 W (raw (elems 𝓤 H q τ b o (set us k u))) (apply∗ 𝓤 (H .at q τ b (place (size τ) o k) u) (elems 𝓤 H q τ b o (set us k u))) $
-        use1 W (‵ (fat q (tyArray τ (length (set us k u))) b o (arr u))) (W .laws .elems-at q τ b o (set us k u)) $ rewrite ! 0 (λ (m : ℕ). ‵ (fat q (tyArray τ m) b o (arr u))) (length-set us k u ∙ e) refl $
-        move ! (1 ∷ []) $ use1 W (raw (Entry (arr u))) (allE 𝓤 Entry (arr u)) $ move ! (1 ∷ 0 ∷ []) $ use2 W (back (arr u)) (apply∗ 𝓤 (H .at q (tyArray τ n) b o (arr u)) (mean 𝓤 H A (back (arr u)))) $ done !);
+        move ! (1 ∷ []) $ use1 W (raw (Element u)) (allE 𝓤 Element u) $ move ! (1 ∷ 0 ∷ []) $ use2 W (raw (elems 𝓤 H q τ b o (set us k u)))
+        (apply∗ 𝓤 (H .at q τ b (place (size τ) o k) u) (elems 𝓤 H q τ b o (set us k u))) $
+        use1 W (‵ (fat q (tyArray τ (length (set us k u))) b o (arr u))) (W .laws .elems-at q τ b o (set us k u)) $ rewrite ! 0 (λ (m : ℕ). ‵ (fat q (tyArray τ m) b o (arr u)))
+        (length-set us k u ∙ e) refl $
+        move ! (1 ∷ []) $ use1 W (raw (Entry (arr u))) (allE 𝓤 Entry (arr u)) $ move ! (1 ∷ 0 ∷ []) $ use2 W (back (arr u))
+        (apply∗ 𝓤 (H .at q (tyArray τ n) b o (arr u)) (mean 𝓤 H A (back (arr u)))) $ done !);
     same = ap (λ (ws : List Val). back (vstruct (ofList ws))) (set-getD us k d) ∙ p .same;
   }
     where

@@ -23,7 +23,52 @@ use prog.Wp.{Heap, Env, Calls, Loops}
 use ghost.Atoms.{Atoms, sem}
 use sound.WpLaws.{FmC}
 use contract.Monad.{fact, factI, fact-use}
-use types.Kit.{Given, Item, ‵, raw, given, some, later, _⊛_, _$_, Post, runs, lands, prop, Step, step, Seq, move, keep, drop, use0, use1, use2, use3, split, join, pick, learn, check, await, updating, now as at-once, show, by, suffices, _∵_, !, qed, fsplit, fjoin, done, fsplit3, fjoin3, feqL, feqI}
+use types.Kit.{
+  Given,
+  Item,
+  ‵,
+  raw,
+  given,
+  some,
+  later,
+  _⊛_,
+  _$_,
+  Post,
+  runs,
+  lands,
+  prop,
+  Step,
+  step,
+  Seq,
+  move,
+  keep,
+  drop,
+  use0,
+  use1,
+  use2,
+  use3,
+  split,
+  join,
+  pick,
+  learn,
+  check,
+  await,
+  updating,
+  now as at-once,
+  show,
+  by,
+  suffices,
+  _∵_,
+  !,
+  qed,
+  fsplit,
+  fjoin,
+  done,
+  fsplit3,
+  fjoin3,
+  feqL,
+  feqI,
+}
 use types.Run.{Opds}
 use types.SemTy.{Body}
 use types.Share.{arr-parts}
@@ -135,9 +180,11 @@ module _ {M : Type 1} (𝓤 : URA M) (H : Heap 𝓤) (A : Atoms 𝓤) (W : Given
     pub look-goes : ent 𝓤 ⟦ held-ref x ⟧ (H .⇛ (ex 𝓤 (Handed tok-new own-look kept-look)))
     look-goes =
         qed W (‵ (held-ref x) ∷ []) ∵ updating ! $ fsplit ! $ fsplit3 ! $ feqL ! (λ _. open-ref ! tt (mem R) $ lft-new ! tt (λ α. move ! (1 ∷ []) $
-        use1 W (later (some (λ (δ : GName). ‵ (own-look (α, δ)) ⊛ ‵ (flent (α ∷ []) (partAt R fullShare x b o))))) (lends-shr 𝓤 H A W R (named 0) (α ∷ []) fullShare x b o) $ await ! tt $ pick ! (λ δ. split ! $
+        use1 W (later (some (λ (δ : GName). ‵ (own-look (α, δ)) ⊛ ‵ (flent (α ∷ []) (partAt R fullShare x b o))))) (lends-shr 𝓤 H A W R (named 0) (α ∷ []) fullShare x b o) $ await ! tt $ pick !
+        (λ δ. split ! $
         -- [the `&`; the lender's part; α; the open borrow; obs; auth]
-        move ! (4 ∷ 5 ∷ []) $ fjoin ! $ move ! (4 ∷ 0 ∷ []) $ fjoin ! $ move ! (2 ∷ 0 ∷ []) $ fjoin ! $ move ! (2 ∷ 1 ∷ []) $ join ! $ at-once ! $ show ! (Handed tok-new own-look kept-look) (α, δ) $ done !)))
+        move ! (4 ∷ 5 ∷ []) $ fjoin ! $ move ! (4 ∷ 0 ∷ []) $ fjoin ! $ move ! (2 ∷ 0 ∷ []) $ fjoin ! $ move ! (2 ∷ 1 ∷ []) $ join ! $ at-once ! $ show ! (Handed tok-new own-look kept-look)
+        (α, δ) $ done !)))
 
     pub look-back : (n : ℕ × GName) → ent 𝓤 (sep 𝓤 ⟦ kept-look n ⟧ (sep 𝓤 ⟦ tok-new n ⟧ ⟦ ftrue ⟧)) (H .⇛ (guard 𝓤 (Unit {0}) ⟦ held-ref x ⟧))
     look-back n =
@@ -214,7 +261,8 @@ module _ {M : Type 1} (𝓤 : URA M) (H : Heap 𝓤) (A : Atoms 𝓤) (W : Given
 
     pub view-back : (n : ℕ × GName) → ent 𝓤 (sep 𝓤 ⟦ kept-view n ⟧ (sep 𝓤 ⟦ tok-local n ⟧ ⟦ ftrue ⟧)) (H .⇛ (guard 𝓤 (Unit {0}) ⟦ lies-at x ⟧))
     view-back n =
-        qed W (‵ (kept-view n) ∷ ‵ (tok-local n) ∷ ‵ ftrue ∷ []) ∵ updating ! $ move ! (1 ∷ []) $ lft-end ! tt $ lent-back ! tt $ use1 W (‵ (lies-at x)) (id⊢ 𝓤 _) $ keep ! (0 ∷ []) $ at-once ! $ check ! tt $ done !
+        qed W (‵ (kept-view n) ∷ ‵ (tok-local n) ∷ ‵ ftrue ∷ []) ∵ updating ! $ move ! (1 ∷ []) $ lft-end ! tt $ lent-back ! tt $ use1 W (‵ (lies-at x)) (id⊢ 𝓤 _) $ keep !
+        (0 ∷ []) $ at-once ! $ check ! tt $ done !
 
     abbrev pub view : One 𝓤 H A
     view = record {
@@ -499,7 +547,8 @@ module _ {M : Type 1} (𝓤 : URA M) (H : Heap 𝓤) (A : Atoms 𝓤) (W : Given
     Head req n = ((‵ (L .toks n) ⊛ ‵ (L .owns n)) ⊛ raw req) ⊛ ‵ (L .kept n)
 
 -- ---- the call
-module _ {M : Type 1} {𝓤 : URA M} {H : Heap 𝓤} {A : Atoms 𝓤} {K : Type 0} {W : Given 𝓤 H A} {Γ : List (Item 𝓤)} {E : Env 𝓤 H} {C : Calls 𝓤 H} {Λ : Loops 𝓤 H} {q : Post 𝓤 H} {f : Name} {xs : List Operand} {d : Place} where
+module _ {M : Type 1} {𝓤 : URA M} {H : Heap 𝓤} {A : Atoms 𝓤} {K : Type 0} {W : Given 𝓤 H A} {Γ : List (Item 𝓤)} {E : Env 𝓤 H} {C : Calls 𝓤 H} {Λ : Loops 𝓤 H} {q : Post 𝓤 H} {f : Name}
+    {xs : List Operand} {d : Place} where
   calls-by : K → FmC 𝓤 H (W .laws) C → {rest : Code} (L : Loans 𝓤 H A) (vs : List Val) (R : RattleType) (mach : R .Denot → Val) → ((r : R .Denot) (v : Val) → Is R r (v ∷ []) → v ≡ mach r)
       → (req : SProp 𝓤) → ent 𝓤 (emp 𝓤) req → (Q : R .Denot → L .Last → SProp 𝓤) (Said : R .Denot → L .Last → Type 0) → ((r : R .Denot) (w : L .Last) → ent 𝓤 (Q r w) (fact 𝓤 (Said r w)))
       → ((n : L .Name) → ent 𝓤 (Asked 𝓤 H A W L req n) (C f vs (Left 𝓤 H A W L R Q n)))
@@ -534,8 +583,10 @@ module _ {M : Type 1} {𝓤 : URA M} {H : Heap 𝓤} {A : Atoms 𝓤} {K : Type 
       → ((n : L .Name) → Opds K W (Head 𝓤 H A W L req n ∷ Γ) E xs vs)
       → ((r : R .Denot) (w : L .Last) → Is R r (mach r ∷ []) → L .Fit w → Said r w × Also r w → Seq K W (‵ (L .after w) ∷ Γ) (lands C Λ E d (mach r) rest q))
       → Seq K W (‵ (L .held) ∷ Γ) (runs C Λ E (seq (call f xs d) rest) q)
-  calls-lent-two t fm L vs R mach tell req ok Said Also = calls-by t fm L vs R mach tell req ok (λ r w. sep 𝓤 (fact 𝓤 (Said r w)) (fact 𝓤 (Also r w))) (λ r w. Said r w × Also r w) (λ r w. both 𝓤 H A W (Said r w) (Also r w))
+  calls-lent-two t fm L vs R mach tell req ok Said Also = calls-by t fm L vs R mach tell req ok (λ r w. sep 𝓤 (fact 𝓤 (Said r w)) (fact 𝓤 (Also r w))) (λ r w. Said r w × Also r w)
+      (λ r w. both 𝓤 H A W (Said r w) (Also r w))
 
 -- ---- the end
-pub says-two : {M : Type 1} {𝓤 : URA M} {H : Heap 𝓤} {A : Atoms 𝓤} {K : Type 0} {W : Given 𝓤 H A} {Γ : List (Item 𝓤)} → K → {φ ψ : Type 0} {P : SProp 𝓤} → φ → ψ → Step K W Γ (prop P) Γ (prop (sep 𝓤 P (sep 𝓤 (fact 𝓤 φ) (fact 𝓤 ψ))))
+pub says-two : {M : Type 1} {𝓤 : URA M} {H : Heap 𝓤} {A : Atoms 𝓤} {K : Type 0} {W : Given 𝓤 H A} {Γ : List (Item 𝓤)} → K → {φ ψ : Type 0} {P : SProp 𝓤} → φ → ψ → Step K W Γ (prop P) Γ
+    (prop (sep 𝓤 P (sep 𝓤 (fact 𝓤 φ) (fact 𝓤 ψ))))
 says-two {𝓤 = 𝓤} t {φ} {ψ} {P} x y = step (λ s. suffices t (sep 𝓤 (sep 𝓤 P (fact 𝓤 φ)) (fact 𝓤 ψ)) (assoc∗ 𝓤 P (fact 𝓤 φ) (fact 𝓤 ψ)) $ says t y $ says t x $ s)

@@ -63,7 +63,8 @@ module _ {M : Type 1} (𝓤 : URA M) (H : Heap 𝓤) (A : Atoms 𝓤) (W : Given
 
       pub zeros-in : (l : ℕ) → ent 𝓤 ⟦ fat fullShare (tyArray (tyInt w) n) l 0 zeros-val ⟧ ⟦ mem Row .lies (replicate n 0) l 0 ⟧
       zeros-in l =
-          qed W (‵ (fat fullShare (tyArray (tyInt w) n) l 0 zeros-val) ∷ []) ∵ use1 W (‵ (cellAt fullShare (Row .mir) (zeros-val ∷ []) l 0)) (W .laws .at-raw fullShare (tyArray (tyInt w) n) l 0 zeros-val) $
+          qed W (‵ (fat fullShare (tyArray (tyInt w) n) l 0 zeros-val) ∷ []) ∵ use1 W (‵ (cellAt fullShare (Row .mir) (zeros-val ∷ []) l 0))
+          (W .laws .at-raw fullShare (tyArray (tyInt w) n) l 0 zeros-val) $
           owned ! Row (Is Row) (array-makes 𝓤 H A W (UInt w) (uint-makes 𝓤 H A W w) n) (replicate n 0) (zeros-val ∷ []) zeros-is $ move ! (1 ∷ 0 ∷ []) $
           use2 W (‵ (mem Row .lies (replicate n 0) l 0)) (lies-in Row (replicate n 0) (zeros-val ∷ []) l 0) $ done !
 

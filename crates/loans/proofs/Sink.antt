@@ -23,10 +23,9 @@ use denote.Builtin.{u8}
 use denote.Ref.{RefT}
 use denote.Slice.{sliceTy, sliceVal, MutSlice, slice-vals, mut-slice-tells}
 use denote.Struct.Steps.{spelt}
-use Rattle.loans.specs.Slices.{SameSlice}
-use Rattle.loans.proofs.Locals.{lies-in, lies-out}
+use Rattle.loans.specs.inner.Slices.{SameSlice}
+use Rattle.loans.proofs.{Locals.lies-in, Locals.lies-out, Loans.Loans, Loans.at-sl}
 use Rattle.loans.proofs.Loans as loan
-use Rattle.loans.proofs.Loans.{Loans, at-sl}
 use Rattle.loans.proofs.Thin as thin
 
 -- the slice's type in a local

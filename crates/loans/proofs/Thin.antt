@@ -91,7 +91,8 @@ module _ {M : Type 1} (𝓤 : URA M) (H : Heap 𝓤) (A : Atoms 𝓤) (W : Given
       pub sub-goes : ent 𝓤 ⟦ held-sub x ⟧ (H .⇛ (ex 𝓤 (Handed 𝓤 H A W tok-sub own-sub kept-sub)))
       sub-goes =
           qed W (‵ (held-sub x) ∷ []) ∵ updating ! $ fsplit ! $ fsplit ! $ lft-new ! tt (λ ν. move ! (1 ∷ 2 ∷ []) $
-          use2 W (later (some (λ (δ : GName). ‵ (own-sub (ν, δ)) ⊛ ‵ (LentAgain R κ (ν ∷ κ′) q γ b o δ x)))) (lends-again 𝓤 H A W R (named 0) κ (ν ∷ κ′) q γ b o (named 0) x) $ await ! tt $ pick ! (λ δ. split ! $
+          use2 W (later (some (λ (δ : GName). ‵ (own-sub (ν, δ)) ⊛ ‵ (LentAgain R κ (ν ∷ κ′) q γ b o δ x)))) (lends-again 𝓤 H A W R (named 0) κ (ν ∷ κ′) q γ b o (named 0) x) $ await ! tt $ pick !
+          (λ δ. split ! $
           -- [the new reference; what is kept; ν; κ′]
           move ! (2 ∷ 3 ∷ []) $ use2 W (‵ (flft (ν ∷ κ′) p) ⊛ ‵ (whole-again ν)) (below ν) $ split ! $
           move ! (3 ∷ 1 ∷ []) $ fjoin ! $ move ! (1 ∷ 2 ∷ []) $ join ! $ at-once ! $ show ! (Handed 𝓤 H A W tok-sub own-sub kept-sub) (ν, δ) $ done !))
@@ -100,7 +101,8 @@ module _ {M : Type 1} (𝓤 : URA M) (H : Heap 𝓤) (A : Atoms 𝓤) (W : Given
       sub-back n y =
           qed W (‵ (kept-sub n) ∷ ‵ (tok-sub n) ∷ ‵ (fres (n .1) (R .coded .code y)) ∷ []) ∵ updating ! $ fsplit ! $ move ! (2 ∷ 1 ∷ []) $
           use2 W (later (‵ (fdead (n .0 ∷ κ′)) ⊛ ‵ (flft κ′ p))) (ends (n .0)) $ await ! tt $ split ! $ move ! (0 ∷ 2 ∷ 3 ∷ []) $
-          use3 W (later (‵ (at-ref R κ b o γ y) ⊛ ‵ (flft κ q))) (comes-back 𝓤 H A W R (named 0) κ (n .0 ∷ κ′) q γ b o (n .1) x y) $ await ! tt $ split ! $ fjoin ! $ fjoin ! $ at-once ! $ check ! tt $ done !
+          use3 W (later (‵ (at-ref R κ b o γ y) ⊛ ‵ (flft κ q))) (comes-back 𝓤 H A W R (named 0) κ (n .0 ∷ κ′) q γ b o (n .1) x y) $ await ! tt $ split ! $ fjoin ! $ fjoin ! $ at-once ! $ check !
+          tt $ done !
 
       abbrev pub sub : One 𝓤 H A
       sub = record {

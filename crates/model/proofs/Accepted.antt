@@ -1,17 +1,10 @@
 -- What the questions show: the problem that an accepted sheet states is well formed. Assumes nothing.
-use mathlib.Core.Path.{_≡_, refl, sym, ap, _∙_, subst}
-use mathlib.Core.Bool.{Bool, true, false, not}
-use mathlib.Core.List.{List, [], _∷_, List·Memᴰ, List·Memᴰ·not-nil, List·Memᴰ·cases-cons, Memᴰ·of-map}
-use mathlib.Core.Logic.{⊎-elim}
-use Prim.Native.Nat.{ℕ, zero, suc, _+_, _*_, _^_, _≤_, _<_}
-use native.Mathlib.Omega.{arith}
-use lib.Dec.{T, T-not, leb, ltb, eqb, leb→le, ltb→lt, eqb→eq}
-use lib.ListN.{length}
-use borrow.Author.Tests.{eq-eqb}
-use Rattle.model.specs.Lists.{all, both, below, at, ascending, rowsAscend}
-use Rattle.model.specs.Problem.{Problem, Constraint, respects}
-use Rattle.model.specs.Verdict.{Verdict, ask, isAccepted}
-use Rattle.model.specs.Sheet.{Header, word, words, headerOf, headerVerdict, offsetsFit, setsVerdict, scopeAt, rowsAt, afterAt, constraintVerdict, constraintsVerdict, constraintsFrom, tableAt, problemOf, permutesPairs, tablesFit, formVerdict, symmetriesVerdict, verdictOf}
+use Rattle.model.specs.Kit.{_≡_, refl, sym, ap, _∙_, subst, Bool, true, false, not, List, [], _∷_, List·Memᴰ, List·Memᴰ·not-nil, List·Memᴰ·cases-cons, Memᴰ·of-map, ⊎-elim, ℕ}
+use Rattle.model.specs.Kit.{zero, suc, _+_, _*_, _^_, _≤_, _<_, arith, T, T-not, leb, ltb, eqb, leb→le, ltb→lt, eqb→eq, length, eq-eqb}
+use Rattle.model.specs.{Lists.all, Lists.both, Lists.below, Lists.at, Lists.ascending, Lists.rowsAscend, Problem.Problem, Problem.Constraint, Problem.respects}
+use Rattle.model.specs.{Verdict.Verdict, Verdict.accepted, Verdict.refused, Verdict.ask, Verdict.isAccepted, Sheet.Header, Sheet.word, Sheet.words, Sheet.headerOf}
+use Rattle.model.specs.Sheet.{headerVerdict, offsetsFit, setsVerdict, scopeAt, rowsAt, afterAt, constraintVerdict, constraintsVerdict, constraintsFrom, tableAt, problemOf}
+use Rattle.model.specs.{Sheet.permutesPairs, Sheet.tablesFit, Sheet.formVerdict, Sheet.symmetriesVerdict, Sheet.verdictOf, Search.nodes, Search.nodesBelow}
 use Rattle.model.specs.WellFormed.{WellFormed, GoodConstraint, Respected}
 use Rattle.model.proofs.Lists.{both-l, both-r, T-of, all-e, below-i, length-below, at-below}
 
@@ -93,7 +86,7 @@ unfolding problemOf
 symmetries-are b = length-below (tableAt b (headerOf b)) (headerOf b .symmetries)
 
 -- question 8
-positive : (s : ℕ) → T (not (eqb s 0)) → 0 < s
+pub positive : (s : ℕ) → T (not (eqb s 0)) → 0 < s
 positive zero t = absurd (T-not (eqb 0 0) t (T-of (eqb 0 0) (eq-eqb 0 0 refl)))
 positive (suc s) t = omega arith
 
@@ -107,7 +100,8 @@ sets-e b h (y ∷ ys) v t =
     let r = asked (both narrow some) 8 y (setsVerdict b h ys v) t in
     let ih = sets-e b h ys v (r .1) in (
       λ x m. ⊎-elim {C = (word b (16 + 2 * x) < 2 ^ h .values) × (0 < word b (16 + 2 * x))}
-          (λ e. subst (λ (z : ℕ). (word b (16 + 2 * z) < 2 ^ h .values) × (0 < word b (16 + 2 * z))) (sym e) (ltb→lt (word b (16 + 2 * y)) (2 ^ h .values) (both-l narrow some (r .0)), positive (word b (16 + 2 * y)) (both-r narrow some (r .0))))
+          (λ e. subst (λ (z : ℕ). (word b (16 + 2 * z) < 2 ^ h .values) × (0 < word b (16 + 2 * z))) (sym e)
+          (ltb→lt (word b (16 + 2 * y)) (2 ^ h .values) (both-l narrow some (r .0)), positive (word b (16 + 2 * y)) (both-r narrow some (r .0))))
           (ih .0 x) (List·Memᴰ·cases-cons m),
       ih .1,
     )
@@ -154,7 +148,8 @@ module _ (p : Problem) (b : List ℕ) (h : Header) (en : h .variables ≡ p .var
       record {
         some = omega arith;
         few = omega arith;
-        inside = λ x m. subst (λ (n : ℕ). x < n) en (ltb→lt x (h .variables) (all-e (λ x. ltb x (h .variables)) (scopeAt b o) (both-l (all (λ x. ltb x (h .variables)) (scopeAt b o)) (ascending (scopeAt b o)) s) x m));
+        inside = λ x m. subst (λ (n : ℕ). x < n) en (ltb→lt x (h .variables) (all-e (λ x. ltb x (h .variables)) (scopeAt b o)
+            (both-l (all (λ x. ltb x (h .variables)) (scopeAt b o)) (ascending (scopeAt b o)) s) x m));
         ordered = both-r (all (λ x. ltb x (h .variables)) (scopeAt b o)) (ascending (scopeAt b o)) s;
         sized = sizes;
         valued = λ l m v k. subst (λ (d : ℕ). v < d) ed (ltb→lt v (h .values) (all-e (λ w. ltb w (h .values)) l (all-e (all (λ w. ltb w (h .values))) (rowsAt b o) r l m) v k));
@@ -174,7 +169,8 @@ symmetries-e p i [] t g m = absurd (List·Memᴰ·not-nil m)
 symmetries-e p i (f ∷ gs) t g m =
     let q1 = asked (permutesPairs p f) 15 i _ t in
     let q2 = asked (respects p f) 16 i (symmetriesVerdict p (suc i) gs) (q1 .1) in
-    ⊎-elim {C = T (permutesPairs p g) × T (respects p g)} (λ e. subst (λ (l : List ℕ). T (permutesPairs p l) × T (respects p l)) (sym e) (q1 .0, q2 .0)) (symmetries-e p (suc i) gs (q2 .1) g) (List·Memᴰ·cases-cons m)
+    ⊎-elim {C = T (permutesPairs p g) × T (respects p g)} (λ e. subst (λ (l : List ℕ). T (permutesPairs p l) × T (respects p l)) (sym e) (q1 .0, q2 .0)) (symmetries-e p (suc i) gs (q2 .1) g)
+    (List·Memᴰ·cases-cons m)
 
 -- ---- the whole sheet
 pub record Passed (b : List ℕ) : Type 0 where
@@ -221,3 +217,14 @@ passed b t =
 
 pub well-formed : (b : List ℕ) → T (isAccepted (verdictOf b)) → WellFormed (problemOf b)
 well-formed b t = passed b t .well
+
+pub accepted-is : (v : Verdict) → T (isAccepted v) → v ≡ accepted
+accepted-is accepted t = refl
+accepted-is (refused number item) t = absurd t
+
+pub is-accepted : (v : Verdict) → v ≡ accepted → T (isAccepted v)
+is-accepted v e = subst (λ (w : Verdict). T (isAccepted w)) (sym e) tt
+
+pub no-nodes : nodes (problemOf []) ≡ []
+unfolding nodes nodesBelow problemOf headerOf «word» at
+no-nodes = refl

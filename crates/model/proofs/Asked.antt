@@ -1,25 +1,27 @@
 -- The questions to a sheet that has the header and the constraints of an accepted one, and tables of its own. Assumes nothing.
-use mathlib.Core.Path.{_≡_, refl, sym, ap, ap₂, _∙_, subst}
-use mathlib.Core.Bool.{Bool, true, not}
-use mathlib.Core.List.{List, [], _∷_, _++_, map, List·Memᴰ, List·Memᴰ·head, List·Memᴰ·tail}
-use Prim.Native.Nat.{ℕ, zero, suc, _+_, _*_, _^_, _≤_, _<_}
-use native.Mathlib.Omega.{arith}
-use lib.Dec.{T, leb, ltb, eqb, leb→le, not-T, eqb→eq}
-use lib.ListN.{length}
-use borrow.Author.Tests.{eq-eqb, le-leb, lt-ltb}
-use Rattle.model.specs.Lists.{all, any, both, at, keep, flat, below, same, ascending, rowsAscend}
-use Rattle.model.specs.Problem.{Problem, Constraint, pair, isPair, pairsAt, within, assignments, doubled, excluded, forbidden, respects, withSymmetries}
-use Rattle.model.specs.Verdict.{Verdict, accepted, ask, isAccepted}
-use Rattle.model.specs.Sheet.{Header, word, headerVerdict, scopeAt, rowsAt, afterAt, setsVerdict, constraintVerdict, constraintsVerdict, permutesPairs, symmetriesVerdict}
+use Rattle.model.specs.Kit.{_≡_, refl, sym, ap, ap₂, _∙_, subst, Bool, true, not, List, [], _∷_, _++_, map, List·Memᴰ, List·Memᴰ·head, List·Memᴰ·tail, ℕ, zero, suc, _+_, _*_}
+use Rattle.model.specs.Kit.{_^_, _≤_, _<_, arith, T, leb, ltb, eqb, leb→le, not-T, eqb→eq, length, eq-eqb, le-leb, lt-ltb}
+use Rattle.model.specs.{Lists.all, Lists.any, Lists.both, Lists.at, Lists.keep, Lists.flat, Lists.below, Lists.same, Lists.ascending, Lists.rowsAscend, Problem.Problem}
+use Rattle.model.specs.Problem.{Constraint, pair, isPair, pairsAt, within, assignments, doubled, excluded, forbidden, respects, withSymmetries}
+use Rattle.model.specs.{Verdict.Verdict, Verdict.accepted, Verdict.ask, Verdict.isAccepted, Sheet.Header, Sheet.word, Sheet.headerVerdict, Sheet.scopeAt, Sheet.rowsAt}
+use Rattle.model.specs.Sheet.{afterAt, setsVerdict, constraintVerdict, constraintsVerdict, permutesPairs, symmetriesVerdict}
 use Rattle.model.specs.WellFormed.{GoodSymmetry}
-use Rattle.model.proofs.Lists.{of-T, map-ext}
-use Rattle.model.proofs.Accepted.{HeaderPassed, asked}
-use Rattle.model.proofs.OneMore.{after-low, arity, count, after-agree, scope-agree, rows-agree, Agree}
+use Rattle.model.proofs.{Lists.of-T, Lists.map-ext, Accepted.HeaderPassed, Accepted.asked, OneMore.after-low, OneMore.arity, OneMore.count, OneMore.after-agree}
+use Rattle.model.proofs.OneMore.{scope-agree, rows-agree, Agree}
 
 -- ---- questions that are passed say what is asked after them
 -- the header with so many exchanges and bytes
 abbrev pub tablesHeader : Header → ℕ → ℕ → Header
-tablesHeader h tables size = record { variables = h .variables; values = h .values; constraints = h .constraints; symmetries = tables; first = h .first; second = h .second; third = h .third; size = size }
+tablesHeader h tables size = record {
+  variables = h .variables;
+  values = h .values;
+  constraints = h .constraints;
+  symmetries = tables;
+  first = h .first;
+  second = h .second;
+  third = h .third;
+  size = size;
+}
 
 -- where all but question 5 are passed
 pub header-but-five : (h : Header) (bytes : ℕ) (later : Verdict) → HeaderPassed (tablesHeader h 0 (h .size)) bytes → headerVerdict h bytes later ≡ ask (leb (h .symmetries) 16) 5 0 later
@@ -30,21 +32,37 @@ header-but-five h bytes later q =
     let e3 = ap₂ both (le-leb 1 (h .values) (q .one)) (le-leb (h .values) 16 (q .sixteen)) in
     let e4 = le-leb (h .constraints) 32 (q .constraints) in
     let e6 = eq-eqb (h .size) bytes (q .whole) in
-    let e7 = ap₂ both (eq-eqb (h .first) 16 (q .first)) (ap₂ both (eq-eqb (h .second) (16 + 2 * h .variables) (q .second)) (ap₂ both (le-leb (h .second) (h .third) (q .ordered)) (le-leb (h .third) (h .size) (q .third)))) in
+    let e7 = ap₂ both (eq-eqb (h .first) 16 (q .first)) (ap₂ both (eq-eqb (h .second) (16 + 2 * h .variables) (q .second))
+    (ap₂ both (le-leb (h .second) (h .third) (q .ordered)) (le-leb (h .third) (h .size) (q .third)))) in
     λ j. ask (e1 j) 1 0 (ask (e2 j) 2 0 (ask (e3 j) 3 0 (ask (e4 j) 4 0 (ask (leb (h .symmetries) 16) 5 0 (ask (e6 j) 6 0 (ask (e7 j) 7 0 later))))))
 
 pub header-passes : (h : Header) (bytes : ℕ) (later : Verdict) → HeaderPassed h bytes → headerVerdict h bytes later ≡ later
 header-passes h bytes later q =
-    header-but-five h bytes later record { long = q .long; some = q .some; few = q .few; one = q .one; sixteen = q .sixteen; constraints = q .constraints; symmetries = omega arith; whole = q .whole; first = q .first; second = q .second; ordered = q .ordered; third = q .third }
+    header-but-five h bytes later record {
+      long = q .long;
+      some = q .some;
+      few = q .few;
+      one = q .one;
+      sixteen = q .sixteen;
+      constraints = q .constraints;
+      symmetries = omega arith;
+      whole = q .whole;
+      first = q .first;
+      second = q .second;
+      ordered = q .ordered;
+      third = q .third;
+    }
     ∙ ap (λ (b : Bool). ask b 5 0 later) (le-leb (h .symmetries) 16 (q .symmetries))
 
-pub sets-pass : (c : List ℕ) (h : Header) (xs : List ℕ) (later : Verdict) → ((x : ℕ) → List·Memᴰ x xs → (word c (16 + 2 * x) < 2 ^ h .values) × (0 < word c (16 + 2 * x))) → setsVerdict c h xs later ≡ later
+pub sets-pass : (c : List ℕ) (h : Header) (xs : List ℕ) (later : Verdict) → ((x : ℕ) → List·Memᴰ x xs → (word c (16 + 2 * x) < 2 ^ h .values) × (0 < word c (16 + 2 * x)))
+    → setsVerdict c h xs later ≡ later
 unfolding setsVerdict
 sets-pass c h [] later k = refl
 sets-pass c h (x ∷ xs) later k =
     let s = word c (16 + 2 * x) in
     let q = k x (List·Memᴰ·head refl) in
-    let e : both (ltb s (2 ^ h .values)) (not (eqb s 0)) ≡ true = ap₂ both (lt-ltb s (2 ^ h .values) (q .0)) (of-T (not (eqb s 0)) (not-T (eqb s 0) (λ t. let z = eqb→eq s 0 t in let y = q .1 in omega arith))) in
+    let e : both (ltb s (2 ^ h .values)) (not (eqb s 0)) ≡ true = ap₂ both (lt-ltb s (2 ^ h .values) (q .0))
+    (of-T (not (eqb s 0)) (not-T (eqb s 0) (λ t. let z = eqb→eq s 0 t in let y = q .1 in omega arith))) in
     ap (λ (t : Bool). ask t 8 x (setsVerdict c h xs later)) e ∙ sets-pass c h xs later (λ y m. k y (List·Memᴰ·tail m))
 
 -- the questions to constraints that stand in both sheets alike
@@ -108,11 +126,13 @@ module _ (p : Problem) (gs : List (List ℕ)) where
 
   excluded-other : (c : Constraint) → excluded (withSymmetries p gs) c ≡ excluded p c
   unfolding excluded
-  excluded-other c = map-ext (pairsAt (withSymmetries p gs) (c .scope)) (pairsAt p (c .scope)) (keep (λ vs. not (any (same vs) (c .rows))) (assignments (map (at (p .initial)) (c .scope)))) (λ vs m. pairsAt-other (c .scope) vs)
+  excluded-other c = map-ext (pairsAt (withSymmetries p gs) (c .scope)) (pairsAt p (c .scope)) (keep (λ vs. not (any (same vs) (c .rows))) (assignments (map (at (p .initial)) (c .scope))))
+      (λ vs m. pairsAt-other (c .scope) vs)
 
   forbidden-other : forbidden (withSymmetries p gs) ≡ forbidden p
   unfolding forbidden doubled pair
-  forbidden-other = ap (λ (l : List (List (List ℕ))). flat (map (doubled p) (below (p .variables))) ++ flat l) (map-ext (excluded (withSymmetries p gs)) (excluded p) (p .constraints) (λ c m. excluded-other c))
+  forbidden-other = ap (λ (l : List (List (List ℕ))). flat (map (doubled p) (below (p .variables))) ++ flat l)
+      (map-ext (excluded (withSymmetries p gs)) (excluded p) (p .constraints) (λ c m. excluded-other c))
 
   pub good-other : (g : List ℕ) → GoodSymmetry p g → GoodSymmetry (withSymmetries p gs) g
   unfolding permutesPairs isPair

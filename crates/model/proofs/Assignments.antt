@@ -1,18 +1,10 @@
 -- Laws of the assignments drawn from sets: membership, order, one through each value. Assumes nothing.
-use mathlib.Core.Path.{_≡_, refl, sym, ap, _∙_, subst}
-use mathlib.Core.List.{List, [], _∷_, map, List·Memᴰ, List·Memᴰ·head, List·Memᴰ·not-nil, List·Memᴰ·eq-of-singleton, Memᴰ·map, Memᴰ·of-map}
-use Prim.Native.Nat.{ℕ, zero, suc, _^_, _<_}
-use native.Mathlib.Nat.{not-suc-le-zero, le-of-suc-le-suc}
-use native.Mathlib.Omega.{arith}
-use lib.Dec.{T}
-use lib.ListN.{length}
-use Rattle.model.specs.Lists.{at, earlier}
-use Rattle.model.specs.ValueSets.{has, members}
-use Rattle.model.specs.Problem.{assignments}
-use Rattle.model.specs.Claims.{Drawn}
-use Rattle.model.proofs.Lists.{of-not, flat-i, flat-e, Sorted, sorted-flat-map, earlier-lt, earlier-eq}
-use Rattle.model.proofs.Sets.{has-none, member, has-lt, members-i, members-e, members-sorted}
-use Rattle.model.specs.Pruning.{Inside}
+use Rattle.model.specs.Kit.{_≡_, refl, sym, ap, _∙_, subst, List, [], _∷_, map, List·Memᴰ, List·Memᴰ·head, List·Memᴰ·not-nil, Memᴰ·map, Memᴰ·of-map, ℕ, zero, suc, _^_, _<_}
+use Rattle.model.specs.Kit.{not-suc-le-zero, le-of-suc-le-suc, arith, T, length}
+use mathlib.Core.List.{List·Memᴰ·eq-of-singleton}
+use Rattle.model.specs.{Lists.at, Lists.earlier, ValueSets.has, ValueSets.members, ValueSets.Inside, Problem.assignments, Claims.Drawn}
+use Rattle.model.proofs.{Lists.of-not, Lists.flat-i, Lists.flat-e, Lists.Sorted, Lists.sorted-flat-map, Lists.earlier-lt, Lists.earlier-eq, Sets.has-none, Sets.member}
+use Rattle.model.proofs.Sets.{has-lt, members-i, members-e, members-sorted}
 
 -- ---- membership: one value of each set
 pub assign-i : (ds a : List ℕ) → length a ≡ length ds → ((x : ℕ) → x < length ds → List·Memᴰ (at a x) (members (at ds x))) → List·Memᴰ a (assignments ds)
@@ -42,7 +34,8 @@ assign-e (s ∷ ds) a m =
     P : List ℕ → Type 0
     P b = (length b ≡ suc (length ds)) × ((x : ℕ) → x < suc (length ds) → List·Memᴰ (at b x) (members (at (s ∷ ds) x)))
 
-    front : (v : ℕ) (b : List ℕ) → List·Memᴰ v (members s) → ((x : ℕ) → x < length ds → List·Memᴰ (at b x) (members (at ds x))) → (x : ℕ) → x < suc (length ds) → List·Memᴰ (at (v ∷ b) x) (members (at (s ∷ ds) x))
+    front : (v : ℕ) (b : List ℕ) → List·Memᴰ v (members s) → ((x : ℕ) → x < length ds → List·Memᴰ (at b x) (members (at ds x))) → (x : ℕ) → x < suc (length ds) → List·Memᴰ (at (v ∷ b) x)
+        (members (at (s ∷ ds) x))
     front v b i h zero l = i
     front v b i h (suc x) l = h x (le-of-suc-le-suc l)
 

@@ -1,19 +1,12 @@
 -- Every solution is reached from a leader by symmetries, one after another, and nothing else is. Assumes nothing.
-use mathlib.Core.Path.{_≡_, sym, ap, ap₂, _∙_, subst}
-use mathlib.Core.Logic.{_↔_, ∥∥₁-elim, _⊎_, inl, inr}
-use mathlib.Core.Bool.{Bool}
-use mathlib.Core.List.{List, [], _∷_, List·Memᴰ}
-use Prim.Native.Nat.{ℕ, zero, suc, _+_, _*_, _^_, _≤_, _<_}
-use native.Mathlib.Nat.{not-suc-le-zero, pow-suc, mul-le-mul-right}
-use native.Mathlib.Omega.{arith}
-use lib.Dec.{T, not-T, T-prop}
-use lib.ListN.{length}
-use Rattle.model.specs.Lists.{both, any, at, earlier}
-use Rattle.model.specs.Problem.{Problem, isSolution, assignments, takes}
-use Rattle.model.specs.WellFormed.{WellFormed}
+use Rattle.model.specs.Kit.{_≡_, sym, ap, ap₂, _∙_, subst, _↔_, _⊎_, inl, inr, Bool, List, [], _∷_, List·Memᴰ, ℕ, zero, suc, _+_, _*_, _^_, _≤_, _<_, not-suc-le-zero}
+use Rattle.model.specs.Kit.{mul-le-mul-right, arith, T, not-T, length}
+use mathlib.Core.Logic.{∥∥₁-elim}
+use native.Mathlib.Nat.{pow-suc}
+use lib.Dec.{T-prop}
+use Rattle.model.specs.{Lists.both, Lists.any, Lists.at, Lists.earlier, Problem.Problem, Problem.isSolution, Problem.assignments, Problem.takes, WellFormed.WellFormed}
 use Rattle.model.specs.Claims.{isLeader, leaders, Chain, here, step}
-use Rattle.model.proofs.Lists.{both-i, both-l, both-r, T-dec, stable, any-e, keep-i, keep-e, earlier-e}
-use Rattle.model.proofs.Tree.{solution-e}
+use Rattle.model.proofs.{Lists.both-i, Lists.both-l, Lists.both-r, Lists.T-dec, Lists.stable, Lists.any-e, Lists.keep-i, Lists.keep-e, Lists.earlier-e, Tree.solution-e}
 use Rattle.model.proofs.Leaders.{sol-small, sol-drawn}
 
 -- ---- a list as a number with base-16 digits: what reads earlier is smaller
@@ -78,7 +71,8 @@ module _ (p : Problem) (w : WellFormed p) (rows : List (List ℕ)) (listed : row
           let st : T (isSolution p t) = both-l (isSolution p t) (both (earlier t s) (takes p g t s)) (q .2) in
           let b : T (both (earlier t s) (takes p g t s)) = both-r (isSolution p t) (both (earlier t s) (takes p g t s)) (q .2) in
           let e : T (earlier t s) = both-l (earlier t s) (takes p g t s) b in
-          let lt : num t < num s = num-earlier t s (solution-e p t st .sized ∙ sym (solution-e p s sol .sized)) (λ i l. sol-small p w t st i (subst (λ (z : ℕ). i < z) (solution-e p t st .sized) l)) e in
+          let lt : num t < num s = num-earlier t s (solution-e p t st .sized ∙ sym (solution-e p s sol .sized))
+          (λ i l. sol-small p w t st i (subst (λ (z : ℕ). i < z) (solution-e p t st .sized) l)) e in
           let c = ih t (omega arith) st in
           (c .0, c .1, step t s g (c .2) (r .1) (both-r (earlier t s) (takes p g t s) b) sol e)
 

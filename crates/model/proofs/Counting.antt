@@ -1,16 +1,9 @@
 -- Numbers in lists: the place of one, lists without repeats, and the pigeonhole: a list without repeats is no longer than one that holds all of it. Assumes nothing.
-use mathlib.Core.Path.{_≡_, refl, sym, ap, _∙_, subst}
-use mathlib.Core.Bool.{Bool, true, false}
-use mathlib.Core.List.{List, [], _∷_, map, List·Memᴰ, List·Memᴰ·head, List·Memᴰ·tail, List·Memᴰ·not-nil, List·Memᴰ·cases-cons, Memᴰ·cast, Memᴰ·map, Memᴰ·of-map}
-use mathlib.Core.Logic.{_⊎_, inl, inr, ⊎-elim}
-use Prim.Native.Nat.{ℕ, zero, suc, _+_, _≤_, _<_}
-use native.Mathlib.Nat.{not-suc-le-zero, le-of-suc-le-suc, zero-lt-suc}
-use native.Mathlib.Omega.{arith}
-use lib.Dec.{T, eqb, eqb→eq, eqb-refl}
-use lib.ListN.{length, getD}
-use borrow.Author.Tests.{eqb-true, eqb-false}
-use Rattle.model.specs.Lists.{any, upFrom, below, at}
-use Rattle.model.specs.Sheet.{distinct}
+use Rattle.model.specs.Kit.{_≡_, refl, sym, ap, _∙_, subst, Bool, true, false, List, [], _∷_, map, List·Memᴰ, List·Memᴰ·head, List·Memᴰ·tail, List·Memᴰ·not-nil}
+use Rattle.model.specs.Kit.{List·Memᴰ·cases-cons, Memᴰ·cast, Memᴰ·map, Memᴰ·of-map, _⊎_, inl, inr, ⊎-elim, ℕ, zero, suc, _+_, _≤_, _<_, not-suc-le-zero, le-of-suc-le-suc}
+use Rattle.model.specs.Kit.{arith, T, eqb, eqb→eq, eqb-refl, length, getD, eqb-true, eqb-false}
+use native.Mathlib.Nat.{zero-lt-suc}
+use Rattle.model.specs.{Lists.any, Lists.upFrom, Lists.below, Lists.at, Sheet.distinct}
 use Rattle.model.proofs.Lists.{T-dec, any-e, any-i, upFrom-e, below-i, length-below, at-below, mem-at}
 
 -- ---- the place of a number in a list
@@ -117,7 +110,8 @@ repeat (x ∷ xs) h = go (repeat xs) (T-dec (any (eqb x) xs)) (T-dec (distinct x
 pub twice : (f : ℕ → ℕ) (k : ℕ) → ((i : ℕ) → f i < k) → (i : ℕ) × (j : ℕ) × (i < j) × (f i ≡ f j)
 twice f k h =
     let xs = map f (below (suc k)) in
-    let r = repeat xs (λ d. crowd (no-more xs (map (λ (i : ℕ). i) (below k)) d (λ x m. let q = Memᴰ·of-map f (below (suc k)) m in Memᴰ·map (λ (i : ℕ). i) (below-i k x (subst (λ (z : ℕ). z < k) (q .2) (h (q .0))))))) in
+    let r = repeat xs (λ d. crowd (no-more xs (map (λ (i : ℕ). i) (below k)) d (λ x m. let q = Memᴰ·of-map f (below (suc k)) m in Memᴰ·map (λ (i : ℕ). i)
+    (below-i k x (subst (λ (z : ℕ). z < k) (q .2) (h (q .0))))))) in
     let l : r .1 < suc k = subst (λ (z : ℕ). r .1 < z) (length-below f (suc k)) (r .3) in
     (r .0, r .1, r .2, sym (at-below f (suc k) (r .0) (omega (arith, r .2))) ∙ r .4 ∙ at-below f (suc k) (r .1) l)
   where

@@ -1,29 +1,16 @@
 -- What the filter leaves, what question 16 shows and what the sets at a prefix are (specs/Claims), proved of every sheet. Assumes nothing.
-use mathlib.Core.Path.{_≡_, refl, sym, ap, ap₂, _∙_, subst}
+use Rattle.model.specs.Kit.{_≡_, refl, sym, ap, ap₂, _∙_, subst, List, [], _∷_, _++_, List·Memᴰ, List·Memᴰ·head, List·Memᴰ·tail, append-assoc, ℕ, _^_, _<_, arith, T, length}
+use Rattle.model.specs.Kit.{take, drop, replicate, length-replicate}
 use mathlib.Core.Logic.{∥∥₁-elim}
-use mathlib.Core.List.{List, [], _∷_, _++_, List·Memᴰ, List·Memᴰ·head, List·Memᴰ·tail, append-assoc}
-use Prim.Native.Nat.{ℕ, _^_, _<_}
-use native.Mathlib.Omega.{arith}
-use lib.Dec.{T, T-prop}
-use lib.ListN.{length, take, drop, replicate, length-replicate}
+use lib.Dec.{T-prop}
 use lib.Seq.{take-at, drop-at}
-use Rattle.model.specs.Lists.{keep, flat, at, earlier}
-use Rattle.model.specs.ValueSets.{has}
-use Rattle.model.specs.Problem.{Problem, assignments}
-use Rattle.model.specs.Verdict.{Verdict, accepted, refused, isAccepted, refusal, answered, reply}
-use Rattle.model.specs.Sheet.{verdictOf, problemOf}
-use Rattle.model.specs.Nogood.{filtered}
-use Rattle.model.specs.Run.{written, listedPlans}
-use Rattle.model.specs.Claims.{Filter-keeps, Filter-empties, Symmetries-respect, Sets-largest, isLeader, leaders}
+use Rattle.model.specs.{Lists.keep, Lists.flat, Lists.at, Lists.earlier, ValueSets.has, Problem.Problem, Problem.assignments, Verdict.Verdict, Verdict.accepted}
+use Rattle.model.specs.{Verdict.refused, Verdict.isAccepted, Verdict.refusal, Verdict.answered, Verdict.reply, Sheet.verdictOf, Sheet.problemOf, Nogood.filtered, Run.written}
+use Rattle.model.specs.{Run.listedPlans, Claims.Filter-keeps, Claims.Filter-empties, Claims.Symmetries-respect, Claims.Sets-largest, Claims.isLeader, Claims.leaders}
 use Rattle.model.specs.WellFormed.{WellFormed, Respected}
-use Rattle.model.proofs.Lists.{not-of, keep-ext, at-ext, at-replicate}
-use Rattle.model.proofs.Sets.{has-none, mask-ext}
-use Rattle.model.proofs.Assignments.{drawn-i, drawn-e}
-use Rattle.model.proofs.Filter.{length-filtered, filtered-i, filtered-e, filtered-sets}
-use Rattle.model.proofs.Prune.{Sized}
-use Rattle.model.proofs.Consistent.{live-consistent, consistent-inside, dead-none, dead-empty}
-use Rattle.model.proofs.Tree.{planTest, well-sized}
-use Rattle.model.proofs.Accepted.{Passed, passed}
+use Rattle.model.proofs.{Lists.not-of, Lists.keep-ext, Lists.at-ext, Lists.at-replicate, Sets.has-none, Sets.mask-ext, Assignments.drawn-i, Assignments.drawn-e}
+use Rattle.model.proofs.{Filter.length-filtered, Filter.filtered-i, Filter.filtered-e, Filter.filtered-sets, Prune.Sized, Consistent.live-consistent}
+use Rattle.model.proofs.{Consistent.consistent-inside, Consistent.dead-none, Consistent.dead-empty, Tree.planTest, Tree.well-sized, Accepted.Passed, Accepted.passed}
 use Rattle.model.proofs.Leaders.{leader-is}
 
 -- ---- what a caller holds: the rows that the run listed
@@ -64,7 +51,8 @@ pub filter-empties : Filter-empties
 filter-empties ds es s none =
     at-ext (filtered ds es) (replicate (length ds) 0) (length-filtered ds es ∙ sym (length-replicate (length ds) 0))
     (λ x l. mask-ext 16 (at (filtered ds es) x) (at (replicate (length ds) 0) x) (filtered-sets ds es .1 x) (subst (λ (n : ℕ). n < 2 ^ 16) (sym (at-replicate (length ds) x)) (omega arith))
-    (λ v b. not-of (has (at (filtered ds es) x) v) (λ t. let r = filtered-e ds es x v t in none (r .0) (drawn-e ds (r .0) (r .1)) (r .2)) ∙ sym (ap (λ (n : ℕ). has n v) (at-replicate (length ds) x) ∙ has-none v)))
+    (λ v b. not-of (has (at (filtered ds es) x) v) (λ t. let r = filtered-e ds es x v t in none (r .0) (drawn-e ds (r .0) (r .1)) (r .2)) ∙ sym
+    (ap (λ (n : ℕ). has n v) (at-replicate (length ds) x) ∙ has-none v)))
 
 -- ---- question 16
 pub symmetries-respect : Symmetries-respect

@@ -1,21 +1,11 @@
 -- How the filter ends, in words; and lists that every assignment obeys. Assumes nothing.
-use mathlib.Core.Path.{_≡_, refl, sym, ap, ap₂, _∙_, subst}
-use mathlib.Core.Bool.{Bool, true, false}
-use mathlib.Core.Logic.{_↔_}
-use mathlib.Core.List.{List, List·Memᴰ}
-use Prim.Native.Nat.{ℕ, _^_, _<_}
-use native.Mathlib.Omega.{arith}
-use lib.Dec.{T}
-use lib.ListN.{length}
-use Rattle.model.specs.Lists.{at}
-use Rattle.model.specs.ValueSets.{has, anyEmpty}
-use Rattle.model.specs.Problem.{assignments}
-use Rattle.model.specs.Pruning.{Inside}
-use Rattle.model.specs.Nogood.{Entry, obeysFrom, obeys, obeying, used, filtered, failed, entailed, consistent, endingBy, someObeys, everyObeys, filterEnding, Entails, Fails, Failed-exactly, Entailed-exactly, Consistent-exactly}
+use Rattle.model.specs.Kit.{_≡_, refl, sym, ap, ap₂, _∙_, subst, Bool, true, false, _↔_, List, List·Memᴰ, ℕ, _^_, _<_, arith, T, length}
+use Rattle.model.specs.{Lists.at, ValueSets.has, ValueSets.anyEmpty, ValueSets.Inside, Problem.assignments, Nogood.Entry, Nogood.obeysFrom, Nogood.obeys, Nogood.obeying}
+use Rattle.model.specs.Nogood.{used, filtered, failed, entailed, consistent, endingBy, someObeys, everyObeys, filterEnding, Entails, Fails, Failed-exactly, Entailed-exactly}
+use Rattle.model.specs.Nogood.{Consistent-exactly}
 use Rattle.model.proofs.Lists.{T-of, of-T, not-of, of-not, T-ext, all-i, all-e, any-i, any-e, keep-ext}
-use Rattle.model.proofs.Sets.{inside-antisym, has-at-lt}
-use Rattle.model.proofs.Assignments.{assign-mono}
-use Rattle.model.proofs.Filter.{length-filtered, filtered-sets, filtered-i, filtered-e, filtered-inside, filtered-none}
+use Rattle.model.proofs.{Sets.inside-antisym, Sets.has-at-lt, Assignments.assign-mono, Filter.length-filtered, Filter.filtered-sets, Filter.filtered-i, Filter.filtered-e}
+use Rattle.model.proofs.Filter.{filtered-inside, filtered-none}
 
 -- ---- the two tests
 module _ (ds : List ℕ) (es : List Entry) where

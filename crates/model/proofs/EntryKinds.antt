@@ -1,15 +1,8 @@
 -- The four kinds of an entry of the three lists. Assumes nothing.
-use mathlib.Core.Path.{_≡_, refl, sym, ap₂}
-use mathlib.Core.Bool.{Bool, true, false}
-use mathlib.Core.Logic.{_⊎_, inl, inr}
-use Prim.Native.Nat.{ℕ, _<_}
-use native.Mathlib.Omega.{arith}
-use lib.Dec.{T, eqb, ltb, ltb→lt}
-use borrow.Author.Tests.{eqb-true, eqb-false, le-ltb}
-use Rattle.model.specs.Lists.{both, either}
-use Rattle.model.specs.Nogood.{equality, disequality, mark, Kind, isEquality, isDisequality, bothAbsent, bothPresent, kindBy, kindOf, entryIn, valueOk, CaseOf, Kind-holds, Kinds-apart, Same-question, Right-kinds}
-use Rattle.model.proofs.Lists.{both-l, both-r}
-use Rattle.model.proofs.Members.{either-no}
+use Rattle.model.specs.Kit.{_≡_, refl, sym, ap₂, Bool, true, false, _⊎_, inl, inr, ℕ, _<_, arith, T, eqb, ltb, ltb→lt, eqb-true, eqb-false, le-ltb}
+use Rattle.model.specs.{Lists.both, Lists.either, Nogood.equality, Nogood.disequality, Nogood.mark, Nogood.Kind, Nogood.isEquality, Nogood.isDisequality, Nogood.bothAbsent}
+use Rattle.model.specs.Nogood.{bothPresent, kindBy, kindOf, entryIn, valueOk, CaseOf, Kind-holds, Kinds-apart, Same-question, Right-kinds}
+use Rattle.model.proofs.{Lists.both-l, Lists.both-r, Members.either-no}
 
 pub kind-holds : Kind-holds
 kind-holds e u = go (eqb e mark) refl (eqb u mark) refl

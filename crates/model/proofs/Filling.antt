@@ -1,21 +1,9 @@
 -- Loops over the first numbers: each turn stores one number, or unites a set with one member more. Assumes nothing.
-use mathlib.Core.Path.{_≡_, refl, sym, ap, ap₂, _∙_, subst}
-use mathlib.Core.Bool.{Bool, true, false}
-use mathlib.Core.List.{List}
-use Prim.Native.Nat.{ℕ, _+_, _≤_, _<_}
-use native.Mathlib.Omega.{arith}
-use native.Mathlib.Decide.{ℕ-discrete}
-use lib.Dec.{T, eqb, ltb, eqb-refl}
-use lib.ListN.{length, set, length-set}
-use lib.Bits.{bitOr}
-use borrow.Author.Tests.{lt-ltb, le-ltb, ltb-true, ltb-false, ne-eqb}
-use Rattle.model.specs.Lists.{both, either, at}
-use Rattle.model.specs.ValueSets.{has, oneIf}
-use Rattle.model.specs.Filling.{Filled, Gathered}
-use Rattle.model.proofs.Lists.{of-T, both-l, at-set, at-set-other}
-use Rattle.model.proofs.Sets.{has-none}
-use Rattle.model.proofs.Masks.{has-or, has-oneIf}
-use Rattle.model.proofs.Members.{both-yes, both-no, either-no}
+use Rattle.model.specs.Kit.{_≡_, refl, sym, ap, ap₂, _∙_, subst, Bool, true, false, List, ℕ, _+_, _≤_, _<_, arith, ℕ-discrete, T, eqb, ltb, eqb-refl, length, set, length-set}
+use Rattle.model.specs.Kit.{bitOr, lt-ltb, le-ltb, ltb-true, ltb-false, ne-eqb}
+use Rattle.model.specs.{Lists.both, Lists.either, Lists.at, ValueSets.has, ValueSets.oneIf, inner.Filling.Filled, inner.Filling.Gathered}
+use Rattle.model.proofs.{Lists.of-T, Lists.both-l, Lists.at-set, Lists.at-set-other, Lists.both-true, Lists.both-false, Sets.has-none, Masks.has-or, Masks.has-oneIf}
+use Rattle.model.proofs.Members.{either-no}
 
 -- ---- numbers that are stored
 pub filled-begin : (slot : ℕ → ℕ) (P : ℕ → ℕ → Type 0) (l : List ℕ) → Filled slot P 0 l l
@@ -55,9 +43,10 @@ gathered-more f i s t g e = record { has-is = λ x. has-or s t x ∙ ap₂ eithe
     go : (x : ℕ) → Dec (x ≡ i) → either (both (ltb x i) (f x)) (both (f i) (eqb x i)) ≡ both (ltb x (i + 1)) (f x)
     go x (yes q) =
         subst (λ (z : ℕ). either (both (ltb z i) (f z)) (both (f i) (eqb z i)) ≡ both (ltb z (i + 1)) (f z)) (sym q)
-        (ap₂ (λ (c d : Bool). either (both c (f i)) (both (f i) d)) (le-ltb i i (omega arith)) (of-T (eqb i i) (eqb-refl i)) ∙ both-yes (f i) ∙ ap (λ (c : Bool). both c (f i)) (sym (lt-ltb i (i + 1) (omega arith))))
+        (ap₂ (λ (c d : Bool). either (both c (f i)) (both (f i) d)) (le-ltb i i (omega arith)) (of-T (eqb i i) (eqb-refl i)) ∙ both-true (f i) ∙ ap (λ (c : Bool). both c (f i))
+        (sym (lt-ltb i (i + 1) (omega arith))))
     go x (no n) =
-        ap (λ (c : Bool). either (both (ltb x i) (f x)) (both (f i) c)) (ne-eqb x i n) ∙ ap (either (both (ltb x i) (f x))) (both-no (f i)) ∙ either-no (both (ltb x i) (f x))
+        ap (λ (c : Bool). either (both (ltb x i) (f x)) (both (f i) c)) (ne-eqb x i n) ∙ ap (either (both (ltb x i) (f x))) (both-false (f i)) ∙ either-no (both (ltb x i) (f x))
         ∙ ap (λ (c : Bool). both c (f x)) (step (ltb x i) refl)
       where
         step : (c : Bool) → ltb x i ≡ c → ltb x i ≡ ltb x (i + 1)

@@ -1,19 +1,11 @@
 -- Laws of obeying and of the exact filter: what it keeps, inside, monotone, idempotent, nothing for empty lists. Assumes nothing.
-use mathlib.Core.Path.{_≡_, refl, sym, _∙_, subst}
-use mathlib.Core.Bool.{Bool, true, false, not}
-use mathlib.Core.List.{List, [], _∷_, _++_, List·Memᴰ}
-use Prim.Native.Nat.{ℕ, _^_, _≤_, _<_}
-use native.Mathlib.Omega.{arith}
-use lib.Dec.{T, eqb, eqb→eq, eqb-refl}
-use lib.ListN.{length, getD}
-use Rattle.model.specs.Lists.{both, any, at}
-use Rattle.model.specs.ValueSets.{anyEmpty, has, maskOf}
-use Rattle.model.specs.Problem.{assignments}
-use Rattle.model.specs.Nogood.{Entry, equality, disequality, is, obeysFrom, obeys, obeying, used, filtered}
+use Rattle.model.specs.Kit.{_≡_, refl, sym, _∙_, subst, Bool, true, false, not, List, [], _∷_, _++_, List·Memᴰ, ℕ, _^_, _≤_, _<_, arith, T, eqb, eqb→eq, eqb-refl, length}
+use Rattle.model.specs.Kit.{getD}
+use Rattle.model.specs.{Lists.both, Lists.any, Lists.at, ValueSets.anyEmpty, ValueSets.has, ValueSets.maskOf, ValueSets.Inside, Problem.assignments, Nogood.Entry}
+use Rattle.model.specs.{Nogood.equality, Nogood.disequality, Nogood.is, Nogood.obeysFrom, Nogood.obeys, Nogood.obeying, Nogood.used, Nogood.filtered, inner.Pruning.Sets}
 use Rattle.model.proofs.Lists.{of-not, both-i, both-l, both-r, keep-i, keep-e, any-i, any-e, at-tabulate, length-tabulate, getD-at, at-out}
-use Rattle.model.proofs.Sets.{empty-i, mask-i, mask-e, mask-lt, members-e, inside-antisym, has-at-lt}
-use Rattle.model.specs.Pruning.{Sets, Inside}
-use Rattle.model.proofs.Assignments.{drawn-through, assign-e, drawn-i, drawn-e, assign-mono}
+use Rattle.model.proofs.{Sets.empty-i, Sets.mask-i, Sets.mask-e, Sets.mask-lt, Sets.members-e, Sets.inside-antisym, Sets.has-at-lt, Assignments.drawn-through}
+use Rattle.model.proofs.Assignments.{assign-e, drawn-i, drawn-e, assign-mono}
 
 -- ---- obeying: the entries in front
 pub obeys-front : (h : Bool) (a : List ℕ) (es fs : List Entry) → T (obeysFrom h a (es ++ fs)) → T (obeysFrom h a es)
@@ -61,7 +53,8 @@ filtered-sets ds es = (length-filtered ds es, go)
       where
         pick : (b : Bool) → lib.Dec.ltb x (length ds) ≡ b → at (filtered ds es) x < 2 ^ 16
         pick true e = subst (λ (s : ℕ). s < 2 ^ 16) (sym (at-filtered ds es x (borrow.Author.Tests.ltb-true x (length ds) e))) (mask-lt 16 _)
-        pick false e = subst (λ (s : ℕ). s < 2 ^ 16) (sym (at-out (filtered ds es) x (subst (λ (n : ℕ). n ≤ x) (sym (length-filtered ds es)) (borrow.Author.Tests.ltb-false x (length ds) e)))) (omega arith)
+        pick false e = subst (λ (s : ℕ). s < 2 ^ 16) (sym (at-out (filtered ds es) x (subst (λ (n : ℕ). n ≤ x) (sym (length-filtered ds es)) (borrow.Author.Tests.ltb-false x (length ds) e))))
+            (omega arith)
 
 pub filtered-inside : (ds : List ℕ) (es : List Entry) → Inside (filtered ds es) ds
 filtered-inside ds es x v t =

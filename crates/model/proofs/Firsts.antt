@@ -1,18 +1,8 @@
 -- The first n of sixteen sets. Assumes nothing.
-use mathlib.Core.Path.{_≡_, refl, sym, _∙_, subst}
-use mathlib.Core.Bool.{Bool, true, false}
-use mathlib.Core.List.{List}
-use Prim.Native.Nat.{ℕ, _^_, _≤_, _<_}
-use native.Mathlib.Omega.{arith}
-use lib.Dec.{T, ltb}
-use lib.ListN.{length, take}
-use lib.Seq.{getD-take, length-take-le}
-use borrow.Author.Tests.{ltb-true, ltb-false}
-use Rattle.model.specs.Lists.{at}
-use Rattle.model.specs.ValueSets.{has, anyEmpty}
-use Rattle.model.proofs.Lists.{at-out, not-of}
-use Rattle.model.proofs.Sets.{has-at-lt, empty-i, empty-e}
-use Rattle.model.specs.Pruning.{Sets, Inside}
+use Rattle.model.specs.Kit.{_≡_, refl, sym, _∙_, subst, Bool, true, false, List, ℕ, _^_, _≤_, _<_, arith, T, ltb, length, take, getD-take, length-take-le, ltb-true}
+use Rattle.model.specs.Kit.{ltb-false}
+use Rattle.model.specs.{Lists.at, ValueSets.has, ValueSets.anyEmpty, ValueSets.Inside, inner.Pruning.Sets}
+use Rattle.model.proofs.{Lists.at-out, Lists.not-of, Sets.has-at-lt, Sets.empty-i, Sets.empty-e}
 
 module _ (n : ℕ) (ds : List ℕ) (s : Sets 16 ds) (h : n ≤ 16) where
   pub take-length : length (take n ds) ≡ n

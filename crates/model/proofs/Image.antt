@@ -1,16 +1,8 @@
 -- A symmetry takes every solution to one solution. Assumes nothing.
-use mathlib.Core.Path.{_≡_, sym, ap, _∙_, subst}
-use mathlib.Core.List.{List, List·Memᴰ, Memᴰ·cast}
-use Prim.Native.Nat.{ℕ, zero, suc, _+_, _-_, _<_}
-use native.Mathlib.Omega.{arith}
-use lib.Dec.{T}
-use lib.ListN.{length}
+use Rattle.model.specs.Kit.{_≡_, sym, ap, _∙_, subst, List, List·Memᴰ, Memᴰ·cast, ℕ, zero, suc, _+_, _-_, _<_, arith, T, length}
 use lib.Seq.{ext-getD}
-use Rattle.model.specs.Lists.{at}
-use Rattle.model.specs.Problem.{Problem, pair, takes, assignments, isSolution}
-use Rattle.model.specs.WellFormed.{WellFormed, Respected}
-use Rattle.model.proofs.Tree.{solution-e}
-use Rattle.model.proofs.Counting.{pos, pos-lt, pos-same, twice}
+use Rattle.model.specs.{Lists.at, Problem.Problem, Problem.pair, Problem.takes, Problem.assignments, Problem.isSolution, WellFormed.WellFormed, WellFormed.Respected}
+use Rattle.model.proofs.{Tree.solution-e, Counting.pos, Counting.pos-lt, Counting.pos-same, Counting.twice}
 use Rattle.model.proofs.Pairs as P
 use Rattle.model.proofs.Symmetry as S
 use Rattle.model.proofs.Leaders as H
@@ -81,7 +73,8 @@ module _ (p : Problem) (w : WellFormed p) (r : Respected p) (g : List ℕ) (m : 
       let start : Sol = (t, st) in
       let c = cycle start in
       let d = c .0 in
-      let e : s ≡ run start d .0 = one-image t s (run start d .0) tk (subst (λ (u : List ℕ). T (takes p g u (run start d .0))) (sym (c .1)) (run-takes start d)) (run start d .1) (solution-e p s ss .sized) (P.sol-lt p w s ss) in
+      let e : s ≡ run start d .0 = one-image t s (run start d .0) tk (subst (λ (u : List ℕ). T (takes p g u (run start d .0))) (sym (c .1)) (run-takes start d)) (run start d .1)
+      (solution-e p s ss .sized) (P.sol-lt p w s ss) in
       subst R (sym e) (run-all R h start q d)
 
   -- what a symmetry takes a solution to is a solution, if it is an assignment at all

@@ -1,24 +1,11 @@
 -- A solution obeys the nogoods of a symmetry exactly if the symmetry takes no solution that reads earlier to it. Assumes nothing.
-use mathlib.Core.Path.{_≡_, refl, sym, ap, ap₂, _∙_, subst}
-use mathlib.Core.Bool.{Bool, true, false, not}
-use mathlib.Core.List.{List, map, List·Memᴰ, Memᴰ·cast, Memᴰ·map, Memᴰ·of-map}
-use Prim.Native.Nat.{ℕ, _<_, _/_, _%_}
-use native.Mathlib.Nat.{lt-of-lt-of-le}
-use native.Mathlib.Omega.{arith}
-use lib.Dec.{T, T-not, not-T, ltb, eqb→eq, ltb→lt, lt→ltb}
-use lib.ListN.{getD}
-use borrow.Author.Tests.{eq-eqb}
-use Rattle.model.specs.Lists.{both, all, any, at, earlier}
-use Rattle.model.specs.ValueSets.{has, members}
-use Rattle.model.specs.Problem.{Problem, pair, isPair, pairsOf, within, takes, assignments, isSolution}
-use Rattle.model.specs.Nogood.{is, obeys}
-use Rattle.model.specs.Search.{nogoodsOf}
-use Rattle.model.specs.WellFormed.{WellFormed, GoodSymmetry, Respected}
-use Rattle.model.specs.Claims.{Leader, isLeader}
+use Rattle.model.specs.Kit.{_≡_, refl, sym, ap, ap₂, _∙_, subst, Bool, true, false, not, List, map, List·Memᴰ, Memᴰ·cast, Memᴰ·map, Memᴰ·of-map, ℕ, _<_, _/_, _%_}
+use Rattle.model.specs.Kit.{lt-of-lt-of-le, arith, T, T-not, not-T, ltb, eqb→eq, ltb→lt, lt→ltb, getD, eq-eqb}
+use Rattle.model.specs.{Lists.both, Lists.all, Lists.any, Lists.at, Lists.earlier, ValueSets.has, ValueSets.members, Problem.Problem, Problem.pair, Problem.isPair}
+use Rattle.model.specs.{Problem.pairsOf, Problem.within, Problem.takes, Problem.assignments, Problem.isSolution, Nogood.is, Nogood.obeys, Search.nogoodsOf}
+use Rattle.model.specs.{WellFormed.WellFormed, WellFormed.GoodSymmetry, WellFormed.Respected, Claims.Leader, Claims.isLeader}
 use Rattle.model.proofs.Lists.{not-any, both-i, both-l, both-r, T-ext, T-of, stable, any-i, any-e, keep-i, keep-e, getD-at}
-use Rattle.model.proofs.Sets.{members-i, members-e}
-use Rattle.model.proofs.Assignments.{drawn-i}
-use Rattle.model.proofs.Tree.{solution-e, well-sized}
+use Rattle.model.proofs.{Sets.members-i, Sets.members-e, Assignments.drawn-i, Tree.solution-e, Tree.well-sized}
 use Rattle.model.proofs.Pairs as P
 use Rattle.model.proofs.Symmetry as S
 use Rattle.model.proofs.Obey as O
@@ -120,7 +107,8 @@ module _ (p : Problem) (w : WellFormed p) (respected : Respected p) where
           let lj : j < p .variables = subst (λ (k : ℕ). j < k) (solution-e p s sol .sized) (f .1 .1) in
           let met : (x : ℕ) → x < p .variables → T (O.meets p g s x (at t x)) = λ x l. meets-i (at g (pair p x (at t x))) (takes-in p g t s tk (pair p x (at t x)) (P.pairs-i p t x l)) in
           O.obeys-e p g s h j (at t j) (f .1 .1) (λ i l. subst (λ (v : ℕ). T (O.meets p g s i v)) (f .1 .2 i l) (met i (omega arith)))
-          (keep-i (λ v. ltb v (at s j)) (members (at (p .initial) j)) (at t j) (members-i (at (p .initial) j) (at t j) (sol-small p w t st j lj) (solution-e p t st .drawn j lj)) (lt→ltb (at t j) (at s j) (f .1 .3)))
+          (keep-i (λ v. ltb v (at s j)) (members (at (p .initial) j)) (at t j) (members-i (at (p .initial) j) (at t j) (sol-small p w t st j lj) (solution-e p t st .drawn j lj))
+          (lt→ltb (at t j) (at s j) (f .1 .3)))
           (met j lj)
 
       -- and a broken nogood gives one: the preimage of s reads earlier
@@ -152,12 +140,15 @@ module _ (p : Problem) (w : WellFormed p) (respected : Respected p) where
           (λ h. not-T (any beaten (assignments (p .initial)))
           (λ a. let r = any-e beaten (assignments (p .initial)) a in
           let b = both-r (isSolution p (r .0)) (both (earlier (r .0) s) (takes p g (r .0) s)) (r .2) in
-          obeys-none h (r .0) (both-l (isSolution p (r .0)) (both (earlier (r .0) s) (takes p g (r .0) s)) (r .2)) (both-l (earlier (r .0) s) (takes p g (r .0) s) b) (both-r (earlier (r .0) s) (takes p g (r .0) s) b)))
+          obeys-none h (r .0) (both-l (isSolution p (r .0)) (both (earlier (r .0) s) (takes p g (r .0) s)) (r .2)) (both-l (earlier (r .0) s) (takes p g (r .0) s) b)
+          (both-r (earlier (r .0) s) (takes p g (r .0) s) b)))
           (λ h. none-obeys (λ t st e tk. T-not (any beaten (assignments (p .initial))) h
           (any-i beaten (assignments (p .initial)) t (sol-drawn p w t st) (both-i (isSolution p t) (both (earlier t s) (takes p g t s)) st (both-i (earlier t s) (takes p g t s) e tk)))))
 
   -- a leader is a solution that obeys the nogoods of every symmetry
   pub leader-is : (s : List ℕ) → isLeader earlier p s ≡ both (isSolution p s) (all (λ g. obeys s (nogoodsOf p g s)) (p .symmetries))
   leader-is s =
-      guarded (isSolution p s) (not (any (λ g. any (λ t. both (isSolution p t) (both (earlier t s) (takes p g t s))) (assignments (p .initial))) (p .symmetries))) (all (λ g. obeys s (nogoodsOf p g s)) (p .symmetries))
-      (λ sol. not-any (λ g. any (λ t. both (isSolution p t) (both (earlier t s) (takes p g t s))) (assignments (p .initial))) (λ g. obeys s (nogoodsOf p g s)) (p .symmetries) (λ g m. obeys-is s sol g m))
+      guarded (isSolution p s) (not (any (λ g. any (λ t. both (isSolution p t) (both (earlier t s) (takes p g t s))) (assignments (p .initial))) (p .symmetries)))
+      (all (λ g. obeys s (nogoodsOf p g s)) (p .symmetries))
+      (λ sol. not-any (λ g. any (λ t. both (isSolution p t) (both (earlier t s) (takes p g t s))) (assignments (p .initial))) (λ g. obeys s (nogoodsOf p g s)) (p .symmetries)
+      (λ g m. obeys-is s sol g m))

@@ -1,10 +1,5 @@
 -- The first number that passes a test (`least`). Assumes nothing.
-use mathlib.Core.Path.{_≡_, refl, sym, ap, _∙_, subst}
-use mathlib.Core.Bool.{Bool, true, false}
-use Prim.Native.Nat.{ℕ, zero, suc, _≤_, _<_}
-use native.Mathlib.Omega.{arith}
-use lib.Dec.{T, ltb}
-use borrow.Author.Tests.{ltb-true, ltb-false}
+use Rattle.model.specs.Kit.{_≡_, refl, sym, ap, _∙_, subst, Bool, true, false, ℕ, zero, suc, _≤_, _<_, arith, T, ltb, ltb-true, ltb-false}
 use Rattle.model.specs.ValueSets.{least, leastStep}
 
 -- the number up to which none passes, and which passes itself where it is below n
@@ -40,7 +35,8 @@ unfolding least
 first-yes p zero h = absurd (omega arith)
 first-yes p (suc n) h = go (p 0) refl h (first-yes (λ j. p (suc j)) n)
   where
-    go : (b : Bool) → p 0 ≡ b → leastStep b (least n (λ j. p (suc j))) < suc n → (least n (λ j. p (suc j)) < n → p (suc (least n (λ j. p (suc j)))) ≡ true) → p (leastStep b (least n (λ j. p (suc j)))) ≡ true
+    go : (b : Bool) → p 0 ≡ b → leastStep b (least n (λ j. p (suc j))) < suc n → (least n (λ j. p (suc j)) < n → p (suc (least n (λ j. p (suc j)))) ≡ true) → p
+        (leastStep b (least n (λ j. p (suc j)))) ≡ true
     go true e h ih = e
     go false e h ih = ih (omega arith)
 

@@ -1,19 +1,10 @@
 -- The lowest member of a set, the set without a member, and with one more. Assumes nothing.
-use mathlib.Core.Path.{_≡_, refl, sym, ap, _∙_, subst}
-use mathlib.Core.Bool.{Bool, true, false, not}
-use mathlib.Core.List.{_∷_, List·Memᴰ, List·Memᴰ·head, List·Memᴰ·tail, Memᴰ·cast}
-use Prim.Native.Nat.{ℕ, _-_, _*_, _%_, _^_, _≤_, _<_}
-use native.Mathlib.Omega.{arith}
-use lib.Dec.{T, T-not, eqb, ltb}
-use lib.Bits.{bitOr, and-le-l}
-use lib.Pow.{pow-lt}
-use borrow.Author.Tests.{eqb-true, eqb-false, eq-eqb, ltb-true, ltb-false, not-true, not-false}
+use Rattle.model.specs.Kit.{_≡_, refl, sym, ap, _∙_, subst, Bool, true, false, not, _∷_, List·Memᴰ, List·Memᴰ·head, List·Memᴰ·tail, Memᴰ·cast, ℕ, _-_, _*_, _%_, _^_, _≤_}
+use Rattle.model.specs.Kit.{_<_, arith, T, T-not, eqb, ltb, bitOr, and-le-l, pow-lt, eqb-true, eqb-false, eq-eqb, ltb-true, ltb-false, not-true, not-false}
 use Rattle.model.specs.ValueSets.{has, fullMask, withoutMask, onlyMask, unionMask, lowestOf, members}
-use Rattle.model.proofs.Least.{first-most}
-use Rattle.model.proofs.Lists.{T-of, of-not, both-i, both-l, both-r, sorted-ext}
-use Rattle.model.proofs.Sets.{has-lt, mask-i, mask-e, members-i, members-e, members-sorted}
-use Rattle.model.proofs.Masks.{least-below, lowest-op, union-op, without-op}
-use Rattle.model.proofs.Members.{low-has, one-op}
+use Rattle.model.proofs.{Least.first-most, Lists.T-of, Lists.of-not, Lists.both-i, Lists.both-l, Lists.both-r, Lists.sorted-ext, Sets.has-lt, Sets.mask-i, Sets.mask-e}
+use Rattle.model.proofs.{Sets.members-i, Sets.members-e, Sets.members-sorted, Masks.least-below, Masks.lowest-op, Masks.union-op, Masks.without-op, Members.low-has}
+use Rattle.model.proofs.Members.{one-op}
 
 pub lowest-le : (s : ℕ) → lowestOf s ≤ 16
 lowest-le s = first-most (has s) 16
@@ -50,7 +41,8 @@ without-less s u h t =
 -- ---- the members in turn
 pub members-lowest : (s : ℕ) → s < 2 ^ 16 → (s ≡ 0 → ⊥) → members s ≡ lowestOf s ∷ members (withoutMask s (lowestOf s))
 members-lowest s h n =
-    sorted-ext (λ (x y : ℕ). x < y) (λ x y p q. omega arith) (members s) (lowestOf s ∷ members (withoutMask s (lowestOf s))) (members-sorted s) (above, members-sorted (withoutMask s (lowestOf s))) there back
+    sorted-ext (λ (x y : ℕ). x < y) (λ x y p q. omega arith) (members s) (lowestOf s ∷ members (withoutMask s (lowestOf s))) (members-sorted s)
+    (above, members-sorted (withoutMask s (lowestOf s))) there back
   where
     above : (y : ℕ) → List·Memᴰ y (members (withoutMask s (lowestOf s))) → lowestOf s < y
     above y m = go (without-e s (lowestOf s) y (members-e (withoutMask s (lowestOf s)) y m .1)) (ltb y (lowestOf s)) refl

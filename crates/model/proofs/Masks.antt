@@ -1,17 +1,16 @@
 -- What the code's operations on sixteen bits do to members; the least value. Assumes nothing.
-use mathlib.Core.Path.{_≡_, refl, sym, ap, ap₂, _∙_, fun-ext}
-use mathlib.Core.Bool.{Bool, true, false, not}
-use Prim.Native.Nat.{ℕ, zero, suc, _+_, _-_, _*_, _/_, _%_, _^_, _≤_, _<_, min, max}
-use native.Mathlib.Nat.{not-suc-le-zero, le-of-suc-le-suc, mod-eq-of-lt, lt-of-le-of-lt}
-use native.Mathlib.Omega.{arith}
-use lib.Dec.{eqb, ltb, lit<, leb·suc-suc, eqb·zero-suc, eqb·suc-zero, eqb·suc-suc}
-use lib.Bits.{bitAnd, bitOr, and-step, or-step, and-lt, or-lt, and-mask, and-le-l, and-le-r}
-use lib.Pow.{pow-pos, pow-lt, shr-shr}
-use lib.Count.{trailingZeros, under}
-use borrow.Author.Tests.{eq-eqb, ne-eqb, lt-ltb, le-ltb}
-use Rattle.model.specs.Lists.{both, either}
-use Rattle.model.specs.ValueSets.{has, maskOf, fullMask, withoutMask, onlyMask, unionMask, commonMask, least, leastStep, oneIf}
-use Rattle.model.proofs.Sets.{has-zero, has-suc, has-none, has-mask, mask-lt, mask-ext, pow2}
+use Rattle.model.specs.Kit.{_≡_, refl, sym, ap, ap₂, _∙_, Bool, true, false, not, ℕ, zero, suc, _+_, _-_, _*_, _/_, _%_, _^_, _≤_, _<_, min, not-suc-le-zero}
+use Rattle.model.specs.Kit.{le-of-suc-le-suc, mod-eq-of-lt, lt-of-le-of-lt, arith, eqb, ltb, lit<, bitAnd, bitOr, or-lt, and-le-l, pow-lt, trailingZeros, eq-eqb, ne-eqb}
+use Rattle.model.specs.Kit.{lt-ltb, le-ltb}
+use mathlib.Core.Path.{fun-ext}
+use Prim.Native.Nat.{max}
+use lib.Dec.{leb·suc-suc, eqb·zero-suc, eqb·suc-zero, eqb·suc-suc}
+use lib.Bits.{and-step, or-step, and-lt, and-mask, and-le-r}
+use lib.Pow.{pow-pos, shr-shr}
+use lib.Count.{under}
+use Rattle.model.specs.{Lists.both, Lists.either, ValueSets.has, ValueSets.maskOf, ValueSets.fullMask, ValueSets.withoutMask, ValueSets.onlyMask, ValueSets.unionMask}
+use Rattle.model.specs.ValueSets.{commonMask, least, leastStep, oneIf}
+use Rattle.model.proofs.{Sets.has-zero, Sets.has-suc, Sets.has-none, Sets.has-mask, Sets.mask-lt, Sets.mask-ext, Sets.pow2, Lists.both-true, Lists.both-false}
 
 -- ---- what the code's operations do to members
 min-bit : (a b : ℕ) → a < 2 → b < 2 → eqb (min a b) 1 ≡ both (eqb a 1) (eqb b 1)
@@ -142,14 +141,6 @@ without-op s u hs hu =
     (lt-of-le-of-lt (and-le-l s ((2 ^ 16 - 1) - 2 ^ u)) hs)
     (λ v l. has-and s ((2 ^ 16 - 1) - 2 ^ u) v
     ∙ ap (both (has s v)) (has-not 16 (2 ^ u) v (one-lt u hu) l ∙ ap not (has-one u v))))
-
-both-true : (b : Bool) → both b true ≡ b
-both-true true = refl
-both-true false = refl
-
-both-false : (b : Bool) → both b false ≡ false
-both-false true = refl
-both-false false = refl
 
 pub without-none : (s u : ℕ) → s < 2 ^ 16 → 16 ≤ u → s ≡ withoutMask s u
 without-none s u hs hu =

@@ -1,21 +1,12 @@
 -- The members of a set one after another, lowest first, and the unions of what each of them gives. For any width. Assumes nothing.
-use mathlib.Core.Path.{_≡_, refl, sym, ap, ap₂, _∙_, subst}
-use mathlib.Core.Bool.{Bool, true, false, not}
-use mathlib.Core.Logic.{_⊎_, inl, inr, ⊎-elim}
-use Prim.Native.Nat.{ℕ, zero, suc, _-_, _*_, _/_, _%_, _^_, _<_}
-use native.Mathlib.Nat.{mod-eq-of-lt, lt-of-le-of-lt}
-use native.Mathlib.Omega.{arith}
-use native.Mathlib.Decide.{ℕ-discrete}
-use lib.Dec.{T, eqb, eqb·suc-suc, eqb·suc-zero}
-use lib.Bits.{bitAnd, bitOr, and-step, and-self, and-le-l, and-le-r, or-add-and, bitXor, xor-add-and}
-use lib.Count.{trailingZeros, under}
-use lib.Pow.{pow-lt}
-use borrow.Author.Tests.{eq-eqb, eqb-true, eqb-false, lt-ltb}
-use Rattle.model.specs.Lists.{both, either}
-use Rattle.model.specs.ValueSets.{has, withoutMask, lowestOf, fullMask, onlyMask, commonMask}
-use Rattle.model.proofs.Lists.{T-of, of-T, of-not, both-i, both-l, both-r, either-l, either-r, either-e}
-use Rattle.model.proofs.Sets.{has-zero, has-suc, has-none, pow2, mask-i}
-use Rattle.model.proofs.Masks.{has-and, has-or, has-one, is-mask, lowest-op}
+use Rattle.model.specs.Kit.{_≡_, refl, sym, ap, ap₂, _∙_, subst, Bool, true, false, not, _⊎_, inl, inr, ⊎-elim, ℕ, zero, suc, _-_, _*_, _/_, _%_, _^_, _<_, mod-eq-of-lt}
+use Rattle.model.specs.Kit.{lt-of-le-of-lt, arith, ℕ-discrete, T, eqb, bitAnd, bitOr, and-le-l, trailingZeros, pow-lt, eq-eqb, eqb-true, eqb-false, lt-ltb}
+use lib.Dec.{eqb·suc-suc, eqb·suc-zero}
+use lib.Bits.{and-step, and-self, and-le-r, or-add-and, bitXor, xor-add-and}
+use lib.Count.{under}
+use Rattle.model.specs.{Lists.both, Lists.either, ValueSets.has, ValueSets.withoutMask, ValueSets.lowestOf, ValueSets.fullMask, ValueSets.onlyMask, ValueSets.commonMask}
+use Rattle.model.proofs.Lists.{T-of, of-T, of-not, both-i, both-l, both-r, either-l, either-r, either-e, both-true, both-false}
+use Rattle.model.proofs.{Sets.has-zero, Sets.has-suc, Sets.has-none, Sets.pow2, Sets.mask-i, Masks.has-and, Masks.has-or, Masks.has-one, Masks.is-mask, Masks.lowest-op}
 
 -- ---- the lowest member
 low-odd : (k s : ℕ) → s % 2 ≡ 1 → trailingZeros (suc k) s ≡ 0
@@ -37,21 +28,14 @@ pub low-has : (k s : ℕ) → 0 < s → s < 2 ^ k → T (has s (trailingZeros k 
 low-has zero s p h = absurd (omega arith)
 low-has (suc k) s p h = go (low-has k (s / 2)) (odd-or-even s)
   where
-    go : (0 < s / 2 → s / 2 < 2 ^ k → T (has (s / 2) (trailingZeros k (s / 2))) × (trailingZeros k (s / 2) < k)) → (s % 2 ≡ 1) ⊎ (s % 2 ≡ 0) → T (has s (trailingZeros (suc k) s)) × (trailingZeros (suc k) s < suc k)
+    go : (0 < s / 2 → s / 2 < 2 ^ k → T (has (s / 2) (trailingZeros k (s / 2))) × (trailingZeros k (s / 2) < k)) → (s % 2 ≡ 1) ⊎ (s % 2 ≡ 0) → T (has s (trailingZeros (suc k) s)) ×
+        (trailingZeros (suc k) s < suc k)
     go ih (inl e) = subst (λ (v : ℕ). T (has s v) × (v < suc k)) (sym (low-odd k s e)) (T-of (has s 0) (has-zero s ∙ eq-eqb (s % 2) 1 e), omega arith)
     go ih (inr e) =
         let r = ih (omega arith) (omega (arith, pow2 k)) in
         subst (λ (v : ℕ). T (has s v) × (v < suc k)) (sym (low-even k s e)) (T-of (has s (suc (trailingZeros k (s / 2)))) (has-suc s (trailingZeros k (s / 2)) ∙ of-T _ (r .0)), omega (arith, r .1))
 
 -- ---- tests whose second part is known
-pub both-no : (b : Bool) → both b false ≡ false
-both-no true = refl
-both-no false = refl
-
-pub both-yes : (b : Bool) → both b true ≡ b
-both-yes true = refl
-both-yes false = refl
-
 pub either-no : (b : Bool) → either b false ≡ b
 either-no true = refl
 either-no false = refl
@@ -64,7 +48,7 @@ rest-last s p = has-and s (s - 1) 0 ∙ go (odd-or-even s)
     go : (s % 2 ≡ 1) ⊎ (s % 2 ≡ 0) → both (has s 0) (has (s - 1) 0) ≡ false
     go (inl e) =
         let q : (s - 1) % 2 ≡ 0 = omega arith in
-        ap (both (has s 0)) (has-zero (s - 1) ∙ ap (λ (n : ℕ). eqb n 1) q) ∙ both-no (has s 0)
+        ap (both (has s 0)) (has-zero (s - 1) ∙ ap (λ (n : ℕ). eqb n 1) q) ∙ both-false (has s 0)
     go (inr e) = ap (λ (b : Bool). both b (has (s - 1) 0)) (has-zero s ∙ ap (λ (n : ℕ). eqb n 1) e)
 
 rest-half : (s : ℕ) → bitAnd s (s - 1) / 2 ≡ bitAnd (s / 2) ((s - 1) / 2)
@@ -75,7 +59,7 @@ rest-has zero s v p h = absurd (omega arith)
 rest-has (suc k) s zero p h = rest-last s p ∙ sym (go (odd-or-even s))
   where
     go : (s % 2 ≡ 1) ⊎ (s % 2 ≡ 0) → both (has s 0) (not (eqb 0 (trailingZeros (suc k) s))) ≡ false
-    go (inl e) = ap (λ (v : ℕ). both (has s 0) (not (eqb 0 v))) (low-odd k s e) ∙ both-no (has s 0)
+    go (inl e) = ap (λ (v : ℕ). both (has s 0) (not (eqb 0 v))) (low-odd k s e) ∙ both-false (has s 0)
     go (inr e) = ap (λ (b : Bool). both b (not (eqb 0 (trailingZeros (suc k) s)))) (has-zero s ∙ ap (λ (n : ℕ). eqb n 1) e)
 rest-has (suc k) s (suc v) p h = has-suc (bitAnd s (s - 1)) v ∙ ap (λ (n : ℕ). has n v) (rest-half s) ∙ go (rest-has k (s / 2) v) (odd-or-even s)
   where
@@ -84,7 +68,7 @@ rest-has (suc k) s (suc v) p h = has-suc (bitAnd s (s - 1)) v ∙ ap (λ (n : �
     go ih (inl e) =
         let q : (s - 1) / 2 ≡ s / 2 = omega arith in
         ap (λ (n : ℕ). has (bitAnd (s / 2) n) v) q ∙ ap (λ (n : ℕ). has n v) (and-self (s / 2)) ∙ sym (has-suc s v)
-        ∙ sym (both-yes (has s (suc v))) ∙ ap (λ (b : Bool). both (has s (suc v)) (not b)) (sym (eqb·suc-zero v)) ∙ ap (λ (n : ℕ). both (has s (suc v)) (not (eqb (suc v) n))) (sym (low-odd k s e))
+        ∙ sym (both-true (has s (suc v))) ∙ ap (λ (b : Bool). both (has s (suc v)) (not b)) (sym (eqb·suc-zero v)) ∙ ap (λ (n : ℕ). both (has s (suc v)) (not (eqb (suc v) n))) (sym (low-odd k s e))
     go ih (inr e) =
         let q : (s - 1) / 2 ≡ s / 2 - 1 = omega arith in
         ap (λ (n : ℕ). has (bitAnd (s / 2) n) v) q ∙ ih (omega arith) (omega (arith, pow2 k))
@@ -205,7 +189,7 @@ only-member s v h t = sym (is-mask (2 ^ v) _ (pow-lt h) (λ u l. has-one v u ∙
   where
     go : (u : ℕ) (b : Bool) → eqb u v ≡ b → eqb u v ≡ both (has s u) (eqb u v)
     go u true e = sym (ap (λ (b : Bool). both b (eqb u v)) (of-T (has s u) (subst (λ (z : ℕ). T (has s z)) (sym (eqb-true u v e)) t)))
-    go u false e = e ∙ sym (ap (both (has s u)) e ∙ both-no (has s u))
+    go u false e = e ∙ sym (ap (both (has s u)) e ∙ both-false (has s u))
 
 pub one-op : (v : ℕ) → v < 16 → onlyMask (fullMask 16) v ≡ 2 ^ v
 one-op v h = only-member (fullMask 16) v h (mask-i _ v h (T-of _ (lt-ltb v 16 h)))

@@ -1,19 +1,11 @@
 -- More symmetries: smaller sets, fewer nodes, fewer plans; and a run that finishes still finishes. Assumes nothing.
-use mathlib.Core.Path.{_≡_, refl, sym, subst}
-use mathlib.Core.List.{List, [], _∷_, _++_, List·Memᴰ, Sublistᴰ, Sublistᴰ·slnil, Sublistᴰ·cons-cons}
-use Prim.Native.Nat.{ℕ, zero, suc, _≤_}
-use native.Mathlib.Nat.{mul-le-mul-right, le-trans}
-use lib.Dec.{T, eqb}
-use lib.ListN.{length}
-use Rattle.model.specs.Lists.{keep, at}
-use Rattle.model.specs.ValueSets.{has}
-use Rattle.model.specs.Problem.{Problem, pair, withSymmetries}
-use Rattle.model.specs.Nogood.{Entry, filtered}
-use Rattle.model.specs.Search.{entriesAt, nogoodsOf, pruned, setsAt, isLive, nodesBelow, nodes, isPlan}
-use Rattle.model.specs.Run.{finished, resultOf}
-use Rattle.model.proofs.Lists.{both-i, both-l, both-r, sublist-keep, sublist-length, sublist-flat-map}
-use Rattle.model.proofs.Sets.{inside-antisym, members-sub}
-use Rattle.model.specs.Pruning.{Inside, closed}
+use Rattle.model.specs.Kit.{_≡_, refl, sym, subst, List, [], _∷_, _++_, List·Memᴰ, ℕ, zero, suc, _≤_, mul-le-mul-right, T, eqb, length}
+use mathlib.Core.List.{Sublistᴰ, Sublistᴰ·slnil, Sublistᴰ·cons-cons}
+use native.Mathlib.Nat.{le-trans}
+use Rattle.model.specs.{Lists.keep, Lists.at, ValueSets.has, ValueSets.Inside, Problem.Problem, Problem.pair, Problem.withSymmetries, Nogood.Entry, Nogood.filtered}
+use Rattle.model.specs.{Search.entriesAt, Search.nogoodsOf, Search.pruned, Search.setsAt, Search.isLive, Search.nodesBelow, Search.nodes, Search.isPlan, Run.finished}
+use Rattle.model.specs.{Run.resultOf, inner.Pruning.closed}
+use Rattle.model.proofs.{Lists.both-i, Lists.both-l, Lists.both-r, Lists.sublist-keep, Lists.sublist-length, Lists.sublist-flat-map, Sets.inside-antisym, Sets.members-sub}
 use Rattle.model.proofs.Prune.{Kept, pruned-i, pruned-e, pruned-inside, pruned-sets, Sized, largest, setsAt-mono, live-mono}
 use Rattle.model.proofs.Runs.{finished-rows, finished-fits, finishes}
 
@@ -88,7 +80,8 @@ fewer p gs s h limit room plans made e =
     let m = sublist-length (plans-less p gs s h) in (
       λ limit′ room′ plans′ made′ e′.
           let r′ = finished-rows q limit′ room′ plans′ made′ e′ in (
-            subst (λ (l : List (List ℕ)). Sublistᴰ l (resultOf p limit room .rows)) (sym (r′ .0)) (subst (λ (l : List (List ℕ)). Sublistᴰ (keep (isPlan q) (nodes q)) l) (sym (r .0)) (plans-less p gs s h)),
+            subst (λ (l : List (List ℕ)). Sublistᴰ l (resultOf p limit room .rows)) (sym (r′ .0))
+                (subst (λ (l : List (List ℕ)). Sublistᴰ (keep (isPlan q) (nodes q)) l) (sym (r .0)) (plans-less p gs s h)),
             subst (λ (k : ℕ). k ≤ made) (sym (r′ .2)) (subst (λ (k : ℕ). length (nodes q) ≤ k) (sym (r .2)) n),
           ),
       (length (keep (isPlan q) (nodes q)), length (nodes q), finishes q limit room (le-trans n (f .0)) (le-trans (mul-le-mul-right (p .variables) m) (f .1))),

@@ -1,20 +1,11 @@
 -- Reading order, and what obeying the nogoods of a symmetry means entry by entry. Assumes nothing.
-use mathlib.Core.Path.{_≡_, refl, sym, subst}
-use mathlib.Core.Bool.{Bool, true, not}
-use mathlib.Core.List.{List, [], _∷_, _++_, map, List·Memᴰ, List·Memᴰ·head, List·Memᴰ·tail, List·Memᴰ·not-nil, List·Memᴰ·cases-cons}
-use mathlib.Core.Logic.{_⊎_, inl, inr, ⊎-elim}
-use Prim.Native.Nat.{ℕ, zero, suc, _+_, _≤_, _<_, _/_, _%_}
-use native.Mathlib.Nat.{not-suc-le-zero, le-of-suc-le-suc, zero-lt-suc, le-refl}
-use native.Mathlib.Decide.{ℕ-discrete}
-use native.Mathlib.Omega.{arith}
-use lib.Dec.{T, T-not, not-T, ltb}
-use lib.ListN.{length}
+use Rattle.model.specs.Kit.{_≡_, refl, sym, subst, Bool, true, not, List, [], _∷_, _++_, map, List·Memᴰ, List·Memᴰ·head, List·Memᴰ·tail, List·Memᴰ·not-nil}
+use Rattle.model.specs.Kit.{List·Memᴰ·cases-cons, _⊎_, inl, inr, ⊎-elim, ℕ, zero, suc, _+_, _≤_, _<_, _/_, _%_, not-suc-le-zero, le-of-suc-le-suc, ℕ-discrete, arith, T}
+use Rattle.model.specs.Kit.{T-not, not-T, ltb, length}
+use native.Mathlib.Nat.{zero-lt-suc, le-refl}
 use lib.Seq.{append-snoc}
-use Rattle.model.specs.Lists.{both, flat, upFrom, below, at, keep, earlier}
-use Rattle.model.specs.ValueSets.{members}
-use Rattle.model.specs.Problem.{Problem, pair}
-use Rattle.model.specs.Nogood.{Entry, equality, disequality, is, obeysFrom, obeys}
-use Rattle.model.specs.Search.{entriesAt, nogoodsOf}
+use Rattle.model.specs.{Lists.both, Lists.flat, Lists.upFrom, Lists.below, Lists.at, Lists.keep, Lists.earlier, ValueSets.members, Problem.Problem, Problem.pair}
+use Rattle.model.specs.{Nogood.Entry, Nogood.equality, Nogood.disequality, Nogood.is, Nogood.obeysFrom, Nogood.obeys, Search.entriesAt, Search.nogoodsOf}
 use Rattle.model.proofs.Lists.{both-i, both-l, both-r, T-dec, earlier-e, earlier-lt, earlier-eq}
 
 -- ---- the first difference
@@ -70,7 +61,8 @@ module _ (s : List ℕ) (var val : ℕ → ℕ → ℕ) (others : ℕ → List �
   broken-dis held j [] es h = inr h
   broken-dis held j (u ∷ vs) es h = go (T-dec (both held (hit j u))) (broken-dis held j vs es)
     where
-      go : T (both held (hit j u)) ⊎ (T (both held (hit j u)) → ⊥) → ((T (obeysFrom held s (map (dis j) vs ++ es)) → ⊥) → ((v : ℕ) × List·Memᴰ v vs × T held × T (hit j v)) ⊎ (T (obeysFrom held s es) → ⊥))
+      go : T (both held (hit j u)) ⊎ (T (both held (hit j u)) → ⊥) → ((T (obeysFrom held s (map (dis j) vs ++ es)) → ⊥) → ((v : ℕ) × List·Memᴰ v vs × T held × T (hit j v)) ⊎
+          (T (obeysFrom held s es) → ⊥))
           → ((v : ℕ) × List·Memᴰ v (u ∷ vs) × T held × T (hit j v)) ⊎ (T (obeysFrom held s es) → ⊥)
       go (inl t) ih = inl (u, List·Memᴰ·head refl, both-l held (hit j u) t, both-r held (hit j u) t)
       go (inr t) ih =
@@ -94,7 +86,8 @@ module _ (s : List ℕ) (var val : ℕ → ℕ → ℕ) (others : ℕ → List �
       now : ((u : ℕ) → List·Memᴰ u (others a) → T held → T (hit a u) → ⊥) × T (obeysFrom (both held (hit a (own a))) s (blocks (suc a) n))
       now = kept-dis held a (others a) (equality (var a (own a)) (val a (own a)) ∷ blocks (suc a) n) (subst (λ (es : List Entry). T (obeysFrom held s es)) (next a n) h)
 
-      go : ((held : Bool) → T held → T (obeysFrom held s (blocks (suc a) n)) → (j v : ℕ) → suc a ≤ j → j < suc a + n → ((i : ℕ) → suc a ≤ i → i < j → T (hit i (own i))) → List·Memᴰ v (others j) → T (hit j v) → ⊥)
+      go : ((held : Bool) → T held → T (obeysFrom held s (blocks (suc a) n)) → (j v : ℕ) → suc a ≤ j → j < suc a + n → ((i : ℕ) → suc a ≤ i → i < j → T (hit i (own i))) → List·Memᴰ v (others j)
+          → T (hit j v) → ⊥)
           → Dec (j ≡ a) → ⊥
       go ih (yes e) = now .0 v (subst (λ (x : ℕ). List·Memᴰ v (others x)) e m) t (subst (λ (x : ℕ). T (hit x v)) e k)
       go ih (no e) =
@@ -170,5 +163,6 @@ module _ (p : Problem) (g prefix a : List ℕ) where
   pub prefix-not : (T (obeys a (nogoodsOf p g prefix)) → ⊥) → (j : ℕ) × (v : ℕ) × (j < length prefix) × ((i : ℕ) → i < j → T (meetsIn i (at prefix i))) × List·Memᴰ v (smallerIn j) × T (meetsIn j v)
   unfolding below
   prefix-not h =
-      let r = broken a (λ j v. at g (pair p j v) / p .values) (λ j v. at g (pair p j v) % p .values) smallerIn (at prefix) (length prefix) 0 true (λ t. h (subst (λ (es : List Entry). T (obeys a es)) (sym nogoods-at) t)) in
+      let r = broken a (λ j v. at g (pair p j v) / p .values) (λ j v. at g (pair p j v) % p .values) smallerIn (at prefix) (length prefix) 0 true
+      (λ t. h (subst (λ (es : List Entry). T (obeys a es)) (sym nogoods-at) t)) in
       (r .0, r .1, omega (arith, r .3), λ i l. r .5 i (omega arith) l, r .6, r .7)

@@ -1,19 +1,10 @@
 -- A sheet with one exchange more states the same problem with one symmetry more. Assumes nothing.
-use mathlib.Core.Path.{_≡_, refl, ap, ap₂, _∙_, subst}
-use mathlib.Core.List.{List, _∷_, _++_, map, append-assoc, List·Memᴰ, List·Memᴰ·tail, List·Memᴰ·append-cases, Memᴰ·append-left, Memᴰ·append-right}
-use mathlib.Core.Logic.{⊎-elim}
-use Prim.Native.Nat.{ℕ, zero, suc, _+_, _-_, _*_, _/_, _%_, _≤_, _<_}
-use native.Mathlib.Nat.{mul-le-mul-right}
-use native.Mathlib.Omega.{arith}
-use lib.Dec.{T}
-use lib.ListN.{length, take, drop, length-append, length-take, length-drop}
-use lib.Seq.{getD-take, getD-drop}
-use Rattle.model.specs.Lists.{below, upFrom, at}
-use Rattle.model.specs.Problem.{Constraint, withSymmetries}
-use Rattle.model.specs.Verdict.{Verdict, isAccepted}
-use Rattle.model.specs.Sheet.{Header, word, words, headerOf, scopeAt, rowsAt, afterAt, constraintsVerdict, constraintsFrom, tableAt, problemOf, verdictOf}
-use Rattle.model.specs.Claims.{sizeWith, OneMore, exchangeIn}
-use Rattle.model.specs.Bytes.{twoBytes}
+use Rattle.model.specs.Kit.{_≡_, refl, ap, ap₂, _∙_, subst, List, _∷_, _++_, map, append-assoc, List·Memᴰ, List·Memᴰ·tail, Memᴰ·append-left, ⊎-elim, ℕ, zero, suc, _+_, _-_}
+use Rattle.model.specs.Kit.{_*_, _/_, _%_, _≤_, _<_, mul-le-mul-right, arith, T, length, take, drop, length-append, length-take, length-drop, getD-take, getD-drop}
+use mathlib.Core.List.{List·Memᴰ·append-cases, Memᴰ·append-right}
+use Rattle.model.specs.{Lists.below, Lists.upFrom, Lists.at, Problem.Constraint, Problem.withSymmetries, Verdict.Verdict, Verdict.isAccepted, Sheet.Header, Sheet.word}
+use Rattle.model.specs.Sheet.{words, headerOf, scopeAt, rowsAt, afterAt, constraintsVerdict, constraintsFrom, tableAt, problemOf, verdictOf}
+use Rattle.model.specs.{Claims.sizeWith, Claims.OneMore, Claims.exchangeIn, Bytes.twoBytes}
 use Rattle.model.proofs.Lists.{map-shift, at-skip, at-append, below-e, upFrom-e, upFrom-add, map-append, map-ext, length-below}
 use Rattle.model.proofs.Accepted.{Passed, passed, constraint-asked}
 
@@ -198,7 +189,8 @@ module _ (b c t : List ℕ) (k : ℕ) (more : OneMore b c k t) (ok : Passed b) w
   behind : (i : ℕ) → at c (cut + length t + i) ≡ at b (cut + i)
   unfolding e6 at
   behind i =
-      at6 (cut + length t + i) (omega arith) ∙ at-skip t (drop cut b) (length t) (cut + length t + i - cut) refl (omega arith) ∙ getD-drop cut b (cut + length t + i - cut - length t) 0 ∙ ap (at b) (omega arith)
+      at6 (cut + length t + i) (omega arith) ∙ at-skip t (drop cut b) (length t) (cut + length t + i - cut) refl (omega arith) ∙ getD-drop cut b (cut + length t + i - cut - length t) 0 ∙ ap (at b)
+      (omega arith)
 
   -- the header
   pub same-variables : headerOf c .variables ≡ headerOf b .variables
@@ -233,8 +225,26 @@ module _ (b c t : List ℕ) (k : ℕ) (more : OneMore b c k t) (ok : Passed b) w
   unfolding headerOf e4 at
   longer-size = word-of c 14 size (at4 14 (omega arith)) (at4 15 (omega arith))
 
-  pub header-more : headerOf c ≡ record { variables = headerOf b .variables; values = headerOf b .values; constraints = headerOf b .constraints; symmetries = headerOf b .symmetries + 1; first = headerOf b .first; second = headerOf b .second; third = headerOf b .third; size = sizeWith b t }
-  header-more = λ i. record { variables = same-variables i; values = same-values i; constraints = same-constraints i; symmetries = more-symmetries i; first = same-first i; second = same-second i; third = same-third i; size = longer-size i }
+  pub header-more : headerOf c ≡ record {
+    variables = headerOf b .variables;
+    values = headerOf b .values;
+    constraints = headerOf b .constraints;
+    symmetries = headerOf b .symmetries + 1;
+    first = headerOf b .first;
+    second = headerOf b .second;
+    third = headerOf b .third;
+    size = sizeWith b t;
+  }
+  header-more = λ i. record {
+    variables = same-variables i;
+    values = same-values i;
+    constraints = same-constraints i;
+    symmetries = more-symmetries i;
+    first = same-first i;
+    second = same-second i;
+    third = same-third i;
+    size = longer-size i;
+  }
 
   pub length-more : length c ≡ length b + length t
   unfolding e2 e3 e4 e5 e6

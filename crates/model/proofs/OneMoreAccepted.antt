@@ -1,20 +1,12 @@
 -- What a sheet with one exchange more is answered (specs/Claims). Assumes nothing.
-use mathlib.Core.Path.{_≡_, sym, ap, ap₂, _∙_, subst}
-use mathlib.Core.Bool.{Bool, true}
-use mathlib.Core.List.{List, _∷_, _++_, List·Memᴰ, Memᴰ·append-left, Memᴰ·append-right}
-use Prim.Native.Nat.{ℕ, suc, _+_, _*_, _^_, _<_}
-use native.Mathlib.Omega.{arith}
-use lib.Dec.{T, leb, leb→le}
-use lib.ListN.{length}
-use borrow.Author.Tests.{eq-eqb, le-leb}
-use Rattle.model.specs.Lists.{below}
-use Rattle.model.specs.Problem.{Problem, respects, withSymmetries}
-use Rattle.model.specs.Verdict.{Verdict, accepted, ask, isAccepted}
-use Rattle.model.specs.Sheet.{Header, word, headerOf, headerVerdict, problemOf, setsVerdict, constraintsVerdict, tablesFit, formVerdict, permutesPairs, symmetriesVerdict, verdictOf}
-use Rattle.model.specs.Claims.{sizeWith, OneMore, exchangeIn, One-more-answer, One-more-accepted}
-use Rattle.model.proofs.Lists.{of-T, below-e}
-use Rattle.model.proofs.Accepted.{HeaderPassed, Passed, passed, asked, at-words}
-use Rattle.model.proofs.OneMore.{word-agree, header-more, length-more, below-third, before, after, added, length-before, added-is, longer, old}
+use Rattle.model.specs.Kit.{_≡_, sym, ap, ap₂, _∙_, subst, Bool, true, List, _∷_, _++_, List·Memᴰ, Memᴰ·append-left, ℕ, suc, _+_, _*_, _^_, _<_, arith, T, leb, leb→le}
+use Rattle.model.specs.Kit.{length, eq-eqb, le-leb}
+use mathlib.Core.List.{Memᴰ·append-right}
+use Rattle.model.specs.{Lists.below, Problem.Problem, Problem.respects, Problem.withSymmetries, Verdict.Verdict, Verdict.accepted, Verdict.ask, Verdict.isAccepted}
+use Rattle.model.specs.Sheet.{Header, word, headerOf, headerVerdict, problemOf, setsVerdict, constraintsVerdict, tablesFit, formVerdict, permutesPairs, symmetriesVerdict}
+use Rattle.model.specs.{Sheet.verdictOf, Claims.sizeWith, Claims.OneMore, Claims.exchangeIn, Claims.One-more-answer, Claims.One-more-accepted}
+use Rattle.model.proofs.{Lists.of-T, Lists.below-e, Accepted.HeaderPassed, Accepted.Passed, Accepted.passed, Accepted.asked, Accepted.at-words, OneMore.word-agree}
+use Rattle.model.proofs.OneMore.{header-more, length-more, below-third, before, after, added, length-before, added-is, longer, old}
 use Rattle.model.proofs.Asked.{tablesHeader, header-but-five, sets-pass, constraints-pass, symmetries-i, symmetries-first, permutes-same, respects-same}
 
 module _ (b c t : List ℕ) (k : ℕ) (more : OneMore b c k t) (ok : Passed b) where
@@ -80,7 +72,8 @@ module _ (b c t : List ℕ) (k : ℕ) (more : OneMore b c k t) (ok : Passed b) w
       let n = h .variables in
       let last = ask (permutesPairs (problemOf b) (exchangeIn b t)) 15 k (ask (respects (problemOf b) (exchangeIn b t)) 16 k accepted) in
       let end = ask (tablesFit raised) 14 0 last in
-      ap₂ (λ (h : Header) (v : Verdict). headerVerdict h (length c) (setsVerdict c h (below (h .variables)) (constraintsVerdict c h (h .constraints) 0 (h .second) (ask (tablesFit h) 14 0 v)))) (header-more b c t k more ok) tables-answer
+      ap₂ (λ (h : Header) (v : Verdict). headerVerdict h (length c) (setsVerdict c h (below (h .variables)) (constraintsVerdict c h (h .constraints) 0 (h .second) (ask (tablesFit h) 14 0 v))))
+      (header-more b c t k more ok) tables-answer
       ∙ header-but-five raised (length c) _ header-good
       ∙ ap (ask (leb (h .symmetries + 1) 16) 5 0)
       (sets-pass c raised (below n) _ (λ x m. sets-good x (below-e n x m))

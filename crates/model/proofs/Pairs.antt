@@ -1,21 +1,14 @@
 -- The laws of pairs and of solutions in a well-formed problem. Assumes nothing.
-use mathlib.Core.Path.{_≡_, refl, sym, ap, ap₂, _∙_, subst}
-use mathlib.Core.Bool.{not}
-use mathlib.Core.List.{List, [], _∷_, map, List·Memᴰ, List·Memᴰ·head, List·Memᴰ·tail, List·Memᴰ·append-cases, Memᴰ·append-left, Memᴰ·append-right, Memᴰ·cast, Memᴰ·map, Memᴰ·of-map}
-use mathlib.Core.Logic.{_⊎_, inl, inr, ⊎-elim}
-use Prim.Native.Nat.{ℕ, suc, _+_, _<_, _/_, _%_, _*_}
-use native.Mathlib.Nat.{mul-add-div-right, mul-add-mod-self-right, mod-eq-of-lt, div-eq-of-lt, div-add-mod', div-lt-iff-lt-mul, mod-lt, mul-le-mul-right, add-zero}
-use native.Mathlib.Omega.{arith}
-use lib.Dec.{T, T-not, not-T, eqb, ltb, eqb→eq, eqb-refl, ltb→lt, lt→ltb}
-use Rattle.model.specs.Lists.{any, keep, flat, below, at, same}
-use Rattle.model.specs.ValueSets.{has, members}
-use Rattle.model.specs.Problem.{pairsAt, Problem, Constraint, pair, isPair, pairsOf, within, assignments, excluded, doubled, forbidden, valuesAt, satisfies, isSolution}
-use Rattle.model.specs.WellFormed.{WellFormed}
+use Rattle.model.specs.Kit.{_≡_, refl, sym, ap, ap₂, _∙_, subst, not, List, [], _∷_, map, List·Memᴰ, List·Memᴰ·head, List·Memᴰ·tail, Memᴰ·append-left, Memᴰ·cast, Memᴰ·map}
+use Rattle.model.specs.Kit.{Memᴰ·of-map, _⊎_, inl, inr, ⊎-elim, ℕ, suc, _+_, _<_, _/_, _%_, _*_, mod-eq-of-lt, mul-le-mul-right, arith, T, T-not, not-T, eqb, ltb, eqb→eq}
+use Rattle.model.specs.Kit.{eqb-refl, ltb→lt, lt→ltb}
+use mathlib.Core.List.{List·Memᴰ·append-cases, Memᴰ·append-right}
+use native.Mathlib.Nat.{mul-add-div-right, mul-add-mod-self-right, div-eq-of-lt, div-add-mod', div-lt-iff-lt-mul, mod-lt, add-zero}
+use Rattle.model.specs.{Lists.any, Lists.keep, Lists.flat, Lists.below, Lists.at, Lists.same, ValueSets.has, ValueSets.members, Problem.pairsAt, Problem.Problem}
+use Rattle.model.specs.Problem.{Constraint, pair, isPair, pairsOf, within, assignments, excluded, doubled, forbidden, valuesAt, satisfies, isSolution}
+use Rattle.model.specs.{WellFormed.WellFormed, Claims.Drawn}
 use Rattle.model.proofs.Lists.{both-i, both-l, both-r, all-e, all-i, any-e, any-i, keep-e, keep-i, flat-i, flat-e, below-i, below-e}
-use Rattle.model.proofs.Sets.{has-lt, members-i, members-e}
-use Rattle.model.specs.Claims.{Drawn}
-use Rattle.model.proofs.Assignments.{drawn-e}
-use Rattle.model.proofs.Tree.{solution-e}
+use Rattle.model.proofs.{Sets.has-lt, Sets.members-i, Sets.members-e, Assignments.drawn-e, Tree.solution-e}
 
 pub within-i : (xs ys : List ℕ) → ((x : ℕ) → List·Memᴰ x xs → List·Memᴰ x ys) → T (within xs ys)
 unfolding within
@@ -65,7 +58,8 @@ module _ (p : Problem) where
       let k = keep-e (λ vs. not (any (same vs) (c .rows))) S (r .0) (r .1) in
       (r .0, k .0, T-not (any (same (r .0)) (c .rows)) (k .1), sym (r .2))
 
-  pub excluded-i : (c : Constraint) (vs : List ℕ) → List·Memᴰ vs (assignments (map (at (p .initial)) (c .scope))) → (T (any (same vs) (c .rows)) → ⊥) → List·Memᴰ (pairsAt p (c .scope) vs) (excluded p c)
+  pub excluded-i : (c : Constraint) (vs : List ℕ) → List·Memᴰ vs (assignments (map (at (p .initial)) (c .scope))) → (T (any (same vs) (c .rows)) → ⊥) → List·Memᴰ (pairsAt p (c .scope) vs)
+      (excluded p c)
   unfolding excluded
   excluded-i c vs d n =
       Memᴰ·map (pairsAt p (c .scope))
@@ -84,7 +78,8 @@ module _ (p : Problem) where
 
   pub forbidden-doubled : (x : ℕ) (h : List ℕ) → x < p .variables → List·Memᴰ h (doubled p x) → List·Memᴰ h (forbidden p)
   unfolding forbidden
-  forbidden-doubled x h l m = Memᴰ·append-left (flat (map (excluded p) (p .constraints))) (flat-i (map (doubled p) (below (p .variables))) (doubled p x) h (Memᴰ·map (doubled p) (below-i (p .variables) x l)) m)
+  forbidden-doubled x h l m = Memᴰ·append-left (flat (map (excluded p) (p .constraints)))
+      (flat-i (map (doubled p) (below (p .variables))) (doubled p x) h (Memᴰ·map (doubled p) (below-i (p .variables) x l)) m)
 
   pub forbidden-excluded : (c : Constraint) (h : List ℕ) → List·Memᴰ c (p .constraints) → List·Memᴰ h (excluded p c) → List·Memᴰ h (forbidden p)
   unfolding forbidden

@@ -1,22 +1,12 @@
 -- One round of pruning: what it keeps; rounds end in the largest sets that a round leaves as they are. Assumes nothing.
-use mathlib.Core.Path.{_≡_, refl, sym, ap, _∙_, subst}
-use mathlib.Core.Bool.{Bool, true, false, not}
-use mathlib.Core.List.{List, [], _∷_, map, List·Memᴰ, Memᴰ·map, Memᴰ·of-map, Memᴰ·cast}
-use Prim.Native.Nat.{ℕ, zero, suc, _*_, _^_, _≤_, _<_}
-use native.Mathlib.Nat.{not-suc-le-zero, le-of-suc-le-suc}
-use native.Mathlib.Omega.{arith}
-use lib.Dec.{T, eqb, ltb, eqb→eq, eqb-refl, T-not}
-use lib.ListN.{length, replicate}
-use borrow.Author.Tests.{ltb-true, ltb-false}
-use Rattle.model.specs.Lists.{both, all, any, at, same}
-use Rattle.model.specs.ValueSets.{has, maskOf, anyEmpty}
-use Rattle.model.specs.Problem.{Problem, Constraint}
-use Rattle.model.specs.Nogood.{filtered}
-use Rattle.model.specs.Search.{nogoodsOf, rowWith, supported, leftBy, keptBy, pruned, narrowed, rounds, roundsEnough, setsAt, isLive}
+use Rattle.model.specs.Kit.{_≡_, refl, sym, ap, _∙_, subst, Bool, true, false, not, List, [], _∷_, map, List·Memᴰ, Memᴰ·map, Memᴰ·of-map, Memᴰ·cast, ℕ, zero, suc, _*_, _^_}
+use Rattle.model.specs.Kit.{_≤_, _<_, not-suc-le-zero, le-of-suc-le-suc, arith, T, eqb, ltb, eqb→eq, eqb-refl, T-not, length, replicate, ltb-true, ltb-false}
+use Rattle.model.specs.{Lists.both, Lists.all, Lists.any, Lists.at, Lists.same, ValueSets.has, ValueSets.maskOf, ValueSets.anyEmpty, ValueSets.Inside, Problem.Problem}
+use Rattle.model.specs.{Problem.Constraint, Nogood.filtered, Search.nogoodsOf, Search.rowWith, Search.supported, Search.leftBy, Search.keptBy, Search.pruned, Search.narrowed}
+use Rattle.model.specs.{Search.rounds, Search.roundsEnough, Search.setsAt, Search.isLive, inner.Pruning.Sets, inner.Pruning.closed, inner.Pruning.Way}
 use Rattle.model.proofs.Lists.{T-of, of-T, not-of, of-not, both-i, both-l, both-r, all-i, all-e, any-i, any-e, at-tabulate, length-tabulate, at-out, same-eq, same-refl}
-use Rattle.model.proofs.Sets.{has-lt, has-none, mask-i, mask-e, mask-lt, inside-refl, inside-antisym, has-at-lt, size, size-le, size-strict, empty-inside, at-zeros, zeros-empty, zeros-replicate}
-use Rattle.model.specs.Pruning.{Sets, Inside, closed, Way}
-use Rattle.model.proofs.Filter.{filtered-mono, filtered-sets, filtered-inside}
+use Rattle.model.proofs.Sets.{has-lt, has-none, mask-i, mask-e, mask-lt, inside-refl, inside-antisym, has-at-lt, size, size-le, size-strict, empty-inside, at-zeros}
+use Rattle.model.proofs.{Sets.zeros-empty, Sets.zeros-replicate, Filter.filtered-mono, Filter.filtered-sets, Filter.filtered-inside}
 
 -- ---- a row inside the sets
 pub row-mono : (ds es : List ℕ) → Inside ds es → (x v : ℕ) (ys ws : List ℕ) → T (rowWith ds x v ys ws) → T (rowWith es x v ys ws)
@@ -152,7 +142,8 @@ module _ (p : Problem) (prefix : List ℕ) where
         where
           pick : (b : Bool) → ltb (size (pruned p prefix ds)) (size ds) ≡ b → size (pruned p prefix ds) ≤ k
           pick true q = let l = ltb-true (size (pruned p prefix ds)) (size ds) q in omega arith
-          pick false q = absurd (of-not (same ds (pruned p prefix ds)) e (subst (λ (l : List ℕ). T (same ds l)) (sym (shrinks ds s (ltb-false (size (pruned p prefix ds)) (size ds) q))) (same-refl ds)))
+          pick false q = absurd (of-not (same ds (pruned p prefix ds)) e (subst (λ (l : List ℕ). T (same ds l)) (sym (shrinks ds s (ltb-false (size (pruned p prefix ds)) (size ds) q)))
+              (same-refl ds)))
 
       go : (size (pruned p prefix ds) ≤ k → pruned p prefix (rounds p prefix k (pruned p prefix ds)) ≡ rounds p prefix k (pruned p prefix ds)) → (b : Bool) → same ds (pruned p prefix ds) ≡ b →
           pruned p prefix (elim b [ true ↦ ds | false ↦ rounds p prefix k (pruned p prefix ds) ]) ≡ elim b [ true ↦ ds | false ↦ rounds p prefix k (pruned p prefix ds) ]
@@ -212,7 +203,8 @@ largest p prefix s = record {
   sets = rounds-ind p prefix (Sets (p .variables)) (λ ds d. pruned-sets p prefix ds) (roundsEnough p) start (start-sets p prefix s);
   inside = rounds-ind p prefix (λ ds. Inside ds start) (λ ds d x v t. d x v (pruned-inside p prefix ds x v t)) (roundsEnough p) start (inside-refl start);
   fixed = rounds-fixed p prefix (roundsEnough p) start (start-sets p prefix s) enough;
-  above = λ es l h e. rounds-ind p prefix (λ ds. Sets (p .variables) ds × Inside es ds) (λ ds d. (pruned-sets p prefix ds, fixed-below p prefix es l e ds (d .0) (d .1))) (roundsEnough p) start (start-sets p prefix s, h) .1;
+  above = λ es l h e. rounds-ind p prefix (λ ds. Sets (p .variables) ds × Inside es ds) (λ ds d. (pruned-sets p prefix ds, fixed-below p prefix es l e ds (d .0) (d .1))) (roundsEnough p) start
+      (start-sets p prefix s, h) .1;
 }
   where
     start : List ℕ
@@ -282,7 +274,11 @@ setsAt-sets p prefix s = go (anyEmpty (closed p prefix)) refl
     k = largest p prefix s
 
     go : (b : Bool) → anyEmpty (closed p prefix) ≡ b → Sets (p .variables) (setsAt p prefix)
-    go true e = subst (Sets (p .variables)) (sym (setsAt-dead p prefix e)) (lib.ListN.length-map (closed p prefix) (λ z. 0) ∙ k .sets .0, λ x. subst (λ (z : ℕ). z < 2 ^ 16) (sym (at-zeros (closed p prefix) x)) (omega arith))
+    go true e = subst (Sets (p .variables)) (sym (setsAt-dead p prefix e)) (
+      lib.ListN.length-map (closed p prefix) (λ z. 0) ∙ k .sets .0,
+      λ x. subst (λ (z : ℕ). z < 2 ^ 16)
+          (sym (at-zeros (closed p prefix) x)) (omega arith),
+    )
     go false e = subst (Sets (p .variables)) (sym (setsAt-live p prefix e)) (k .sets)
 
 -- a prefix is live exactly if no largest set is empty

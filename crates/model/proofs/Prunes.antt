@@ -1,9 +1,6 @@
 -- Steps of pruning: they compose, and sets on the way stay on it. Assumes nothing.
-use mathlib.Core.Path.{sym, _∙_}
-use mathlib.Core.List.{List}
-use Prim.Native.Nat.{ℕ}
-use Rattle.model.specs.Problem.{Problem}
-use Rattle.model.specs.Pruning.{Prunes}
+use Rattle.model.specs.Kit.{sym, _∙_, List, ℕ}
+use Rattle.model.specs.{Problem.Problem, inner.Pruning.Prunes}
 use Rattle.model.proofs.Prune.{kept-mono, fixed-e, Removal}
 
 module _ (p : Problem) (prefix : List ℕ) where

@@ -1,28 +1,11 @@
 -- Rows cut from bytes and joined again, and what is answered about lent room. Assumes nothing.
-use mathlib.Core.Path.{_≡_, refl, sym, ap, ap₂, _∙_}
-use mathlib.Core.Bool.{Bool, true, false}
-use mathlib.Core.List.{List, [], _∷_, _++_, List·Memᴰ, List·Memᴰ·head, List·Memᴰ·tail, List·Memᴰ·not-nil}
-use Prim.Native.Nat.{ℕ, zero, suc, _+_, _*_, _/_, _≤_, _<_}
-use native.Mathlib.Nat.{zero-mul, suc-mul, mul-div-cancel, div-eq-of-lt, add-mul-div-right, div-add-mod'}
-use native.Mathlib.Omega.{arith}
-use lib.ListN.{length, take, drop, length-append, length-drop, take-append-drop}
-use lib.Seq.{take-at, drop-at, length-take-le}
-use Rattle.model.specs.Lists.{both, flat}
-use Rattle.model.specs.Run.{listedPlans}
-use Rattle.model.specs.Verdict.{Verdict, accepted}
-use Rattle.model.specs.Room.{rowsIn, wrote, refusal, outcomeOf, roomAfter, numbered}
+use Rattle.model.specs.Kit.{_≡_, refl, sym, ap, ap₂, _∙_, List, [], _∷_, _++_, List·Memᴰ, List·Memᴰ·head, List·Memᴰ·tail, List·Memᴰ·not-nil, ℕ, zero, suc, _+_, _*_, _/_, _≤_}
+use Rattle.model.specs.Kit.{_<_, suc-mul, arith, length, take, drop, length-append, length-drop, take-append-drop, length-take-le}
+use native.Mathlib.Nat.{zero-mul, mul-div-cancel, div-eq-of-lt, add-mul-div-right, div-add-mod'}
+use lib.Seq.{take-at, drop-at}
+use Rattle.model.specs.{Lists.flat, Run.listedPlans, Verdict.Verdict, Verdict.accepted, Room.rowsIn, Room.wrote, Room.refusal, Room.outcomeOf, Room.roomAfter, Room.numbered}
 
 -- ---- tests that fail, and that pass
-pub both-no-l : (a b : Bool) → a ≡ false → both a b ≡ false
-both-no-l a b e = ap (λ (t : Bool). both t b) e
-
-pub both-no-r : (a b : Bool) → b ≡ false → both a b ≡ false
-both-no-r true b e = e
-both-no-r false b e = refl
-
-pub both-yes : (a b : Bool) → a ≡ true → b ≡ true → both a b ≡ true
-both-yes a b e f = ap₂ both e f
-
 -- ---- rows of one length
 abbrev pub Wide : ℕ → List (List ℕ) → Type 0
 Wide n rows = (r : List ℕ) → List·Memᴰ r rows → length r ≡ n

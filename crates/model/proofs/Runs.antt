@@ -1,19 +1,10 @@
 -- Runs: how far a run walks along the nodes, what it lists and counts up to there, and when it finishes. Assumes nothing.
-use mathlib.Core.Path.{_≡_, refl, sym, ap, ap₂, _∙_, subst}
-use mathlib.Core.Bool.{Bool, true, false}
-use mathlib.Core.List.{List, [], _∷_, _++_, List·Memᴰ, append-nil}
-use Prim.Native.Nat.{ℕ, suc, _+_, _-_, _*_, _≤_, _<_}
-use native.Mathlib.Nat.{mul-le-mul-right}
-use native.Mathlib.Omega.{arith}
-use lib.Dec.{eqb, leb, eqb→eq}
-use lib.ListN.{length, take, drop, length-append, take-append-drop}
-use lib.Seq.{append-snoc, take-append-seam, take-all}
-use borrow.Author.Tests.{leb-true, leb-false, eqb-true, eqb-false}
-use Rattle.model.specs.Lists.{keep}
-use Rattle.model.specs.Problem.{Problem}
-use Rattle.model.specs.Search.{nodes, isLive, isPlan}
-use Rattle.model.specs.Run.{Ending, finished, spent, full, plansIn, nodesIn, Result, search, resultOf}
-use Rattle.model.specs.Claims.{plansAmong, CountsAt}
+use Rattle.model.specs.Kit.{_≡_, refl, sym, ap, ap₂, _∙_, subst, Bool, true, false, List, [], _∷_, _++_, List·Memᴰ, append-nil, ℕ, suc, _+_, _-_, _*_, _≤_, _<_}
+use Rattle.model.specs.Kit.{mul-le-mul-right, arith, eqb, leb, eqb→eq, length, take, drop, length-append, take-append-drop, take-all, leb-true, leb-false, eqb-true}
+use Rattle.model.specs.Kit.{eqb-false}
+use lib.Seq.{append-snoc, take-append-seam}
+use Rattle.model.specs.{Lists.keep, Problem.Problem, Search.nodes, Search.isLive, Search.isPlan, Run.Ending, Run.finished, Run.spent, Run.full, Run.plansIn, Run.nodesIn}
+use Rattle.model.specs.{Run.Result, Run.search, Run.resultOf, Claims.plansAmong, Claims.CountsAt}
 use Rattle.model.proofs.Lists.{both-l, keep-yes, keep-no, keep-append, keep-e}
 
 -- ---- one element more in front, on both sides
@@ -107,7 +98,8 @@ module _ (p : Problem) (limit room : ℕ) where
       Y : Result
       Y = search p limit room ts (suc made) (rows ++ (a ∷ []))
 
-      go : Walk ts (suc made) rows N → Walk ts (suc made) (rows ++ (a ∷ [])) Y → (b : Bool) → eqb made limit ≡ b → (c : Bool) → isPlan p a ≡ c → (d : Bool) → leb (suc (length rows) * p .variables) room ≡ d →
+      go : Walk ts (suc made) rows N → Walk ts (suc made) (rows ++ (a ∷ [])) Y → (b : Bool) → eqb made limit ≡ b → (c : Bool) → isPlan p a ≡ c → (d : Bool) → leb
+          (suc (length rows) * p .variables) room ≡ d →
           Walk (a ∷ ts) made rows (turn b c d S N F Y)
       go ih jh true e c e′ d e″ = record {
         passed = 0;

@@ -1,19 +1,14 @@
 -- Laws of sets of values and of lists of them: members, comprehension, extensionality, size. Assumes nothing.
-use mathlib.Core.Path.{_≡_, refl, sym, ap, _∙_, subst}
-use mathlib.Core.Bool.{Bool, true, false}
-use mathlib.Core.List.{List, [], _∷_, map, List·Memᴰ, List·Memᴰ·head, List·Memᴰ·tail, List·Memᴰ·not-nil, Sublistᴰ, Sublistᴰ·refl}
-use Prim.Native.Nat.{ℕ, zero, suc, _+_, _*_, _/_, _%_, _^_, _≤_, _<_}
-use native.Mathlib.Nat.{not-suc-le-zero, pow-suc, le-of-suc-le-suc}
+use Rattle.model.specs.Kit.{_≡_, refl, sym, ap, _∙_, subst, Bool, true, false, List, [], _∷_, map, List·Memᴰ, List·Memᴰ·head, List·Memᴰ·tail, List·Memᴰ·not-nil, ℕ, zero, suc}
+use Rattle.model.specs.Kit.{_+_, _*_, _/_, _%_, _^_, _≤_, _<_, not-suc-le-zero, le-of-suc-le-suc, arith, T, eqb, ltb, eqb→eq, length, set, length-set, eq-eqb, ne-eqb}
+use mathlib.Core.List.{Sublistᴰ, Sublistᴰ·refl}
+use native.Mathlib.Nat.{pow-suc}
 use native.Mathlib.Numerals.{one-add}
-use native.Mathlib.Omega.{arith}
-use lib.Dec.{T, eqb, ltb, eqb→eq}
 use lib.Pow.{shr-shr}
-use lib.ListN.{length, set, length-set}
-use borrow.Author.Tests.{eq-eqb, ne-eqb}
-use Rattle.model.specs.Lists.{keep, below, at}
-use Rattle.model.specs.ValueSets.{bit, has, maskBelow, maskOf, members, anyEmpty}
-use Rattle.model.specs.Pruning.{Sets, Inside}
-use Rattle.model.proofs.Lists.{T-of, not-of, of-not, T-ext, keep-i, keep-e, keep-none, below-i, below-e, Sorted, sorted-keep, sorted-below, at-out, at-ext, mem-at, at-mem, set-each, any-i, any-e, sublist-keep}
+use Rattle.model.specs.{Lists.keep, Lists.below, Lists.at, ValueSets.bit, ValueSets.has, ValueSets.maskBelow, ValueSets.maskOf, ValueSets.members, ValueSets.anyEmpty}
+use Rattle.model.specs.{ValueSets.Inside, inner.Pruning.Sets}
+use Rattle.model.proofs.Lists.{T-of, not-of, of-not, T-ext, keep-i, keep-e, keep-none, below-i, below-e, Sorted, sorted-keep, sorted-below, at-out, at-ext, mem-at, at-mem}
+use Rattle.model.proofs.Lists.{set-each, any-i, any-e, sublist-keep}
 
 -- ---- the member test, bit by bit
 pub has-zero : (s : ℕ) → has s 0 ≡ eqb (s % 2) 1
@@ -186,7 +181,8 @@ unfolding count keep
 count-le p q [] h = omega arith
 count-le p q (x ∷ l) h = go (count-le p q l h) (p x) refl (q x) refl
   where
-    go : count p l ≤ count q l → (b : Bool) → p x ≡ b → (c : Bool) → q x ≡ c → length {A = ℕ} (elim b [ true ↦ x ∷ keep p l | false ↦ keep p l ]) ≤ length {A = ℕ} (elim c [ true ↦ x ∷ keep q l | false ↦ keep q l ])
+    go : count p l ≤ count q l → (b : Bool) → p x ≡ b → (c : Bool) → q x ≡ c → length {A = ℕ} (elim b [ true ↦ x ∷ keep p l | false ↦ keep p l ]) ≤ length {A = ℕ}
+        (elim c [ true ↦ x ∷ keep q l | false ↦ keep q l ])
     go ih true e true e′ = omega arith
     go ih true e false e′ = absurd (subst T e′ (h x (T-of (p x) e)))
     go ih false e true e′ = omega arith

@@ -1,23 +1,14 @@
 -- The laws of a symmetry that respects a well-formed problem: it permutes the pairs, and the preimage of a solution is a solution. Assumes nothing.
-use mathlib.Core.Path.{_≡_, refl, sym, ap, ap₂, _∙_, subst, subst₂}
-use mathlib.Core.Bool.{Bool, true, false}
-use mathlib.Core.List.{List, [], _∷_, map, List·Memᴰ, List·Memᴰ·head, List·Memᴰ·tail, List·Memᴰ·not-nil, List·Memᴰ·cases-cons, Memᴰ·cast, Memᴰ·map, Memᴰ·of-map, List·Memᴰ·eq-of-singleton}
-use mathlib.Core.Logic.{_⊎_, inl, inr, ⊎-elim}
-use Prim.Native.Nat.{ℕ, _<_, _/_, _%_, _*_}
-use native.Mathlib.Nat.{lt-of-lt-of-le, div-add-mod'}
-use native.Mathlib.Decide.{ℕ-discrete, decLt}
-use native.Mathlib.Omega.{arith}
-use lib.Dec.{T, eqb, eqb→eq}
-use lib.ListN.{length, length-map}
-use Rattle.model.specs.Lists.{all, any, below, at, same}
-use Rattle.model.specs.ValueSets.{has, members}
-use Rattle.model.specs.Problem.{pairsAt, assignments, Problem, Constraint, pair, isPair, pairsOf, within, takes, forbidden, respects, valuesAt, satisfies, isSolution}
-use Rattle.model.specs.Sheet.{permutesPairs, distinct}
-use Rattle.model.specs.WellFormed.{WellFormed, GoodSymmetry, Respected}
+use Rattle.model.specs.Kit.{_≡_, refl, sym, ap, ap₂, _∙_, subst, subst₂, Bool, true, false, List, [], _∷_, map, List·Memᴰ, List·Memᴰ·head, List·Memᴰ·tail, List·Memᴰ·not-nil}
+use Rattle.model.specs.Kit.{List·Memᴰ·cases-cons, Memᴰ·cast, Memᴰ·map, Memᴰ·of-map, _⊎_, inl, inr, ⊎-elim, ℕ, _<_, _/_, _%_, _*_, lt-of-lt-of-le, ℕ-discrete, decLt, arith, T}
+use Rattle.model.specs.Kit.{eqb, eqb→eq, length, length-map}
+use mathlib.Core.List.{List·Memᴰ·eq-of-singleton}
+use native.Mathlib.Nat.{div-add-mod'}
+use Rattle.model.specs.{Lists.all, Lists.any, Lists.below, Lists.at, Lists.same, ValueSets.has, ValueSets.members, Problem.pairsAt, Problem.assignments, Problem.Problem}
+use Rattle.model.specs.Problem.{Constraint, pair, isPair, pairsOf, within, takes, forbidden, respects, valuesAt, satisfies, isSolution}
+use Rattle.model.specs.{Sheet.permutesPairs, Sheet.distinct, WellFormed.WellFormed, WellFormed.GoodSymmetry, WellFormed.Respected}
 use Rattle.model.proofs.Lists.{both-i, both-l, both-r, stable, T-dec, all-e, any-e, below-i, below-e, length-below, at-below, at-map, mem-at}
-use Rattle.model.proofs.Counting.{idx, idx-spec, distinct-at, distinct-below, onto}
-use Rattle.model.proofs.Sets.{members-i}
-use Rattle.model.proofs.Assignments.{assign-i}
+use Rattle.model.proofs.{Counting.idx, Counting.idx-spec, Counting.distinct-at, Counting.distinct-below, Counting.onto, Sets.members-i, Assignments.assign-i}
 use Rattle.model.proofs.Tree.{solution-i}
 use Rattle.model.proofs.Pairs as P
 

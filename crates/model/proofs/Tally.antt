@@ -1,22 +1,14 @@
 -- The tally (paper 02, #107): twelve counts of a list by a number of each element, which add up to its length; how many values the nodes of a tree have.
 -- Assumes nothing.
-use mathlib.Core.Path.{_≡_, refl, sym, ap, ap₂, _∙_, subst}
-use mathlib.Core.Bool.{Bool, true, false}
-use mathlib.Core.Logic.{⊎-elim}
-use mathlib.Core.List.{List, [], _∷_, _++_, map, List·Memᴰ, List·Memᴰ·head, List·Memᴰ·tail, List·Memᴰ·not-nil, List·Memᴰ·cases-cons, Memᴰ·of-map, Memᴰ·append-left, append-nil}
-use Prim.Native.Nat.{ℕ, zero, suc, _+_, _≤_, _<_}
-use native.Mathlib.Nat.{not-suc-le-zero, le-of-suc-le-suc}
-use native.Mathlib.Omega.{arith}
-use lib.Dec.{eqb, leb, ltb}
-use lib.ListN.{length, take, drop, set, length-append, length-set, take-append-drop}
-use lib.Seq.{append-snoc, take-all}
-use borrow.Author.Tests.{eqb-true, eqb-false, ltb-true, ltb-false, leb-true, leb-false}
-use Rattle.model.specs.Lists.{keep, at, tabulate, total}
-use Rattle.model.specs.ValueSets.{members}
-use Rattle.model.specs.Problem.{Problem}
-use Rattle.model.specs.Search.{setsAt, nodesBelow, nodes, isPlan}
+use Rattle.model.specs.Kit.{_≡_, refl, sym, ap, ap₂, _∙_, subst, Bool, true, false, ⊎-elim, List, [], _∷_, _++_, map, List·Memᴰ, List·Memᴰ·head, List·Memᴰ·tail}
+use Rattle.model.specs.Kit.{List·Memᴰ·not-nil, List·Memᴰ·cases-cons, Memᴰ·of-map, Memᴰ·append-left, append-nil, ℕ, zero, suc, _+_, _≤_, _<_, not-suc-le-zero}
+use Rattle.model.specs.Kit.{le-of-suc-le-suc, arith, eqb, leb, ltb, length, take, drop, set, length-append, length-set, take-append-drop, take-all, eqb-true, eqb-false}
+use Rattle.model.specs.Kit.{ltb-true, ltb-false, leb-true, leb-false}
+use lib.Seq.{append-snoc}
+use Rattle.model.specs.{Lists.keep, Lists.at, Lists.tabulate, Lists.total, ValueSets.members, Problem.Problem, Search.setsAt, Search.nodesBelow, Search.nodes, Search.isPlan}
 use Rattle.model.specs.Run.{Ending, finished, spent, full, nodesIn, resultOf, countsBy, settledBy}
-use Rattle.model.proofs.Lists.{flat-e, keep-yes, keep-no, keep-append, keep-none, keep-ext, of-T, length-tabulate, at-tabulate, at-ext, at-out, at-set, at-set-other}
+use Rattle.model.proofs.Lists.{flat-e, keep-most, keep-yes, keep-no, keep-append, keep-none, keep-ext, of-T, length-tabulate, at-tabulate, at-ext, at-out, at-set}
+use Rattle.model.proofs.Lists.{at-set-other}
 use Rattle.model.proofs.Runs as R
 
 -- ---- the sum of a list
@@ -50,12 +42,14 @@ module _ {A : Type 0} (f : A → ℕ) where
   pub counts-snoc : (l : List A) (a : A) → countsBy f (l ++ (a ∷ [])) ≡ set (countsBy f l) (f a) (at (countsBy f l) (f a) + 1)
   counts-snoc l a =
       at-ext (countsBy f (l ++ (a ∷ []))) (set cs (f a) (at cs (f a) + 1)) (length-counts (l ++ (a ∷ [])) ∙ sym (length-set cs (f a) (at cs (f a) + 1) ∙ length-counts l))
-      (λ x h. let s : x < 12 = subst (λ (n : ℕ). x < n) (length-counts (l ++ (a ∷ []))) h in at-counts (l ++ (a ∷ [])) x s ∙ ap length (keep-append (λ b. eqb (f b) x) l (a ∷ [])) ∙ length-append (keep (λ b. eqb (f b) x) l) (keep (λ b. eqb (f b) x) (a ∷ [])) ∙ go x s (eqb (f a) x) refl)
+      (λ x h. let s : x < 12 = subst (λ (n : ℕ). x < n) (length-counts (l ++ (a ∷ []))) h in at-counts (l ++ (a ∷ [])) x s ∙ ap length (keep-append (λ b. eqb (f b) x) l (a ∷ [])) ∙ length-append
+      (keep (λ b. eqb (f b) x) l) (keep (λ b. eqb (f b) x) (a ∷ [])) ∙ go x s (eqb (f a) x) refl)
     where
       cs : List ℕ
       cs = countsBy f l
 
-      go : (x : ℕ) → x < 12 → (b : Bool) → eqb (f a) x ≡ b → length (keep (λ b. eqb (f b) x) l) + length (keep (λ b. eqb (f b) x) (a ∷ [])) ≡ at (set (countsBy f l) (f a) (at (countsBy f l) (f a) + 1)) x
+      go : (x : ℕ) → x < 12 → (b : Bool) → eqb (f a) x ≡ b → length (keep (λ b. eqb (f b) x) l) + length (keep (λ b. eqb (f b) x) (a ∷ [])) ≡ at
+          (set (countsBy f l) (f a) (at (countsBy f l) (f a) + 1)) x
       go x s true e =
           let q : f a ≡ x = eqb-true (f a) x e in
           ap₂ _+_ (sym (at-counts l x s)) (ap length (keep-yes (λ b. eqb (f b) x) a [] e) ∙ ap suc (none-kept (λ b. eqb (f b) x)))
@@ -139,3 +133,10 @@ module _ (p : Problem) (limit room : ℕ) where
 
   pub made-inside : nodesIn (resultOf p limit room .ending) ≤ length (nodes p)
   made-inside = inside (resultOf p limit room .ending) (R.the-walk p limit room .passed) (R.the-walk p limit room .ended)
+
+pub count-most : {A : Type 0} (f : A → ℕ) (l : List A) (x : ℕ) → at (countsBy f l) x ≤ length l
+count-most f l x = go (ltb x 12) refl
+  where
+    go : (b : Bool) → ltb x 12 ≡ b → at (countsBy f l) x ≤ length l
+    go true e = let z = at-counts f l x (ltb-true x 12 e) in let y = keep-most (λ a. eqb (f a) x) l in omega arith
+    go false e = let z = at-out (countsBy f l) x (let s = length-counts f l in let o = ltb-false x 12 e in omega arith) in omega arith

@@ -1,28 +1,21 @@
 -- Plans: the live full prefixes are the solutions that obey every symmetry's list, and the tree meets each of them in reading order. Assumes nothing.
-use mathlib.Core.Path.{_≡_, refl, sym, ap, ap₂, _∙_, subst}
-use mathlib.Core.Bool.{Bool, true, false}
-use mathlib.Core.List.{List, [], _∷_, _++_, map, List·Memᴰ, List·Memᴰ·head, List·Memᴰ·tail, List·Memᴰ·eq-of-singleton, Memᴰ·of-map, append-nil, map-map, map-id}
-use Prim.Native.Nat.{ℕ, zero, suc, _+_, _^_, _≤_, _<_}
-use native.Mathlib.Nat.{not-suc-le-zero}
-use native.Mathlib.Omega.{arith}
-use lib.Dec.{T, eqb, ltb, eqb→eq, eqb-refl, not-T}
-use lib.ListN.{length, drop, length-append, drop-of-length-le}
+use Rattle.model.specs.Kit.{_≡_, refl, sym, ap, ap₂, _∙_, subst, Bool, true, false, List, [], _∷_, _++_, map, List·Memᴰ, List·Memᴰ·head, List·Memᴰ·tail, Memᴰ·of-map}
+use Rattle.model.specs.Kit.{append-nil, ℕ, zero, suc, _+_, _^_, _≤_, _<_, not-suc-le-zero, arith, T, eqb, ltb, eqb→eq, eqb-refl, not-T, length, drop, length-append, ltb-true}
+use Rattle.model.specs.Kit.{ltb-false, eqb-true, ne-eqb}
+use mathlib.Core.List.{List·Memᴰ·eq-of-singleton, map-map, map-id}
+use lib.ListN.{drop-of-length-le}
 use lib.Pow.{pow-mono}
 use lib.Seq.{append-snoc}
-use borrow.Author.Tests.{ltb-true, ltb-false, eqb-true, ne-eqb}
-use Rattle.model.specs.Lists.{both, all, any, keep, flat, below, upFrom, at, same}
-use Rattle.model.specs.ValueSets.{has, members, anyEmpty}
-use Rattle.model.specs.Problem.{Problem, Constraint, assignments, valuesAt, satisfies, isSolution}
-use Rattle.model.specs.Nogood.{Entry, obeys}
-use Rattle.model.specs.Search.{entriesAt, nogoodsOf, rowWith, supported, pruned, narrowed, roundsEnough, setsAt, isLive, nodesBelow, nodes, isPlan}
-use Rattle.model.specs.WellFormed.{WellFormed, GoodConstraint}
-use Rattle.model.proofs.Lists.{map-flat-map, drop-at, not-of, of-not, T-ext, both-i, both-l, both-r, all-i, all-e, any-i, any-e, keep-no, keep-none, keep-ext, keep-flat-map, flat-pick, below-i, below-e, upFrom-add, flat-append, map-append, map-ext, at-ext, at-out, at-append, at-seam, same-eq, same-refl}
-use Rattle.model.proofs.Sets.{has-lt, has-none, has-at-lt, member, empty-i, empty-e}
-use Rattle.model.specs.Pruning.{Sets, Inside, closed}
-use Rattle.model.specs.Claims.{Drawn}
-use Rattle.model.proofs.Assignments.{drawn-i, drawn-e}
-use Rattle.model.proofs.Filter.{filtered-i, filtered-e, obeys-front}
-use Rattle.model.proofs.Prune.{supported-e, Kept, pruned-i, pruned-sets, rounds-ind, narrowed-i, narrowed-e, Sized, Largest, largest, start-sets, fixed-e, setsAt-live, live-closed, value-live}
+use Rattle.model.specs.{Lists.both, Lists.all, Lists.any, Lists.keep, Lists.flat, Lists.below, Lists.upFrom, Lists.at, Lists.same, ValueSets.has, ValueSets.members}
+use Rattle.model.specs.{ValueSets.anyEmpty, ValueSets.Inside, Problem.Problem, Problem.Constraint, Problem.assignments, Problem.valuesAt, Problem.satisfies}
+use Rattle.model.specs.{Problem.isSolution, Nogood.Entry, Nogood.obeys, Search.entriesAt, Search.nogoodsOf, Search.rowWith, Search.supported, Search.pruned, Search.narrowed}
+use Rattle.model.specs.{Search.roundsEnough, Search.setsAt, Search.isLive, Search.nodesBelow, Search.nodes, Search.isPlan, WellFormed.WellFormed, WellFormed.GoodConstraint}
+use Rattle.model.specs.{inner.Pruning.Sets, inner.Pruning.closed, Claims.Drawn}
+use Rattle.model.proofs.Lists.{map-flat-map, drop-at, not-of, of-not, T-ext, both-i, both-l, both-r, all-i, all-e, any-i, any-e, keep-no, keep-none, keep-ext, keep-flat-map}
+use Rattle.model.proofs.Lists.{flat-pick, below-i, below-e, upFrom-add, flat-append, map-append, map-ext, at-ext, at-out, at-append, at-seam, same-eq, same-refl}
+use Rattle.model.proofs.{Sets.has-lt, Sets.has-none, Sets.has-at-lt, Sets.member, Sets.empty-i, Sets.empty-e, Assignments.drawn-i, Assignments.drawn-e, Filter.filtered-i}
+use Rattle.model.proofs.{Filter.filtered-e, Filter.obeys-front, Prune.supported-e, Prune.Kept, Prune.pruned-i, Prune.pruned-sets, Prune.rounds-ind, Prune.narrowed-i}
+use Rattle.model.proofs.Prune.{narrowed-e, Sized, Largest, largest, start-sets, fixed-e, setsAt-live, live-closed, value-live}
 
 -- ---- the nogoods of a longer prefix begin with those of the shorter
 same-entries : (p : Problem) (g a b : List ℕ) (j : ℕ) → j < length a → entriesAt p g (a ++ b) j ≡ entriesAt p g a j
@@ -101,12 +94,14 @@ supported-own ds a x c h t = go (any (eqb x) (c .scope))
     go : (b : Bool) → T (elim b [ true ↦ any (rowWith ds x (at a x) (c .scope)) (c .rows) | false ↦ true ])
     go true =
         let r = any-e (same (valuesAt a (c .scope))) (c .rows) t in
-        any-i (rowWith ds x (at a x) (c .scope)) (c .rows) (r .0) (r .1) (subst (λ (l : List ℕ). T (rowWith ds x (at a x) (c .scope) l)) (same-eq (valuesAt a (c .scope)) (r .0) (r .2)) (row-own ds a x (c .scope) h))
+        any-i (rowWith ds x (at a x) (c .scope)) (c .rows) (r .0) (r .1) (subst (λ (l : List ℕ). T (rowWith ds x (at a x) (c .scope) l)) (same-eq (valuesAt a (c .scope)) (r .0) (r .2))
+        (row-own ds a x (c .scope) h))
     go false = tt
 
 module _ (p : Problem) (w : WellFormed p) where
   -- s is a solution, and obeys the lists at a prefix
-  pub pruned-drawn : (prefix s : List ℕ) → Solution p s → ((g : List ℕ) → List·Memᴰ g (p .symmetries) → T (obeys s (nogoodsOf p g prefix))) → (ds : List ℕ) → Sets (p .variables) ds → Drawn ds s → Drawn (pruned p prefix ds) s
+  pub pruned-drawn : (prefix s : List ℕ) → Solution p s → ((g : List ℕ) → List·Memᴰ g (p .symmetries) → T (obeys s (nogoodsOf p g prefix))) → (ds : List ℕ) → Sets (p .variables) ds → Drawn ds s
+      → Drawn (pruned p prefix ds) s
   pruned-drawn prefix s h o ds z d = (
     h .sized ∙ sym (pruned-sets p prefix ds .0),
     λ x l. let l′ : x < p .variables = subst (λ (n : ℕ). x < n) (pruned-sets p prefix ds .0) l in
@@ -122,13 +117,15 @@ module _ (p : Problem) (w : WellFormed p) where
   -- so it is drawn from the sets at each of its prefixes
   pub closed-drawn : (a b : List ℕ) → Solution p (a ++ b) → T (unbroken p (a ++ b)) → Drawn (closed p a) (a ++ b)
   closed-drawn a b h u =
-      rounds-ind p a (λ ds. Sets (p .variables) ds × Drawn ds (a ++ b)) (λ ds d. (pruned-sets p a ds, pruned-drawn a (a ++ b) h o ds (d .0) (d .1))) (roundsEnough p) (narrowed a (p .initial)) (start-sets p a z, start) .1
+      rounds-ind p a (λ ds. Sets (p .variables) ds × Drawn ds (a ++ b)) (λ ds d. (pruned-sets p a ds, pruned-drawn a (a ++ b) h o ds (d .0) (d .1))) (roundsEnough p) (narrowed a (p .initial))
+      (start-sets p a z, start) .1
     where
       z : Sized p
       z = well-sized p w
 
       o : (g : List ℕ) → List·Memᴰ g (p .symmetries) → T (obeys (a ++ b) (nogoodsOf p g a))
-      o g m = obeys-front true (a ++ b) (nogoodsOf p g a) _ (subst (λ (l : List Entry). T (obeys (a ++ b) l)) (nogoods-append p g a b) (all-e (λ k. obeys (a ++ b) (nogoodsOf p k (a ++ b))) (p .symmetries) u g m))
+      o g m = obeys-front true (a ++ b) (nogoodsOf p g a) _ (subst (λ (l : List Entry). T (obeys (a ++ b) l)) (nogoods-append p g a b)
+          (all-e (λ k. obeys (a ++ b) (nogoodsOf p k (a ++ b))) (p .symmetries) u g m))
 
       start : Drawn (narrowed a (p .initial)) (a ++ b)
       start = (
@@ -273,7 +270,8 @@ module _ (p : Problem) (w : WellFormed p) where
       below-one v ih =
           ih (let q = grown v in omega arith)
           ∙ ap (λ (n : ℕ). keep (planTest p) (map (λ (a : List ℕ). prefix ++ (v ∷ []) ++ a) (assignments (drop n (p .initial))))) (grown v)
-          ∙ ap (keep (planTest p)) (map-ext (λ (a : List ℕ). prefix ++ (v ∷ []) ++ a) (λ (a : List ℕ). prefix ++ (v ∷ a)) R (λ a m. append-snoc prefix v a) ∙ sym (map-map (λ (a : List ℕ). prefix ++ a) (λ (a : List ℕ). v ∷ a) R))
+          ∙ ap (keep (planTest p)) (map-ext (λ (a : List ℕ). prefix ++ (v ∷ []) ++ a) (λ (a : List ℕ). prefix ++ (v ∷ a)) R (λ a m. append-snoc prefix v a) ∙ sym
+          (map-map (λ (a : List ℕ). prefix ++ a) (λ (a : List ℕ). v ∷ a) R))
 
       none-at : (v : ℕ) → (T (has s′ v) → ⊥) → G v ≡ []
       none-at v n =

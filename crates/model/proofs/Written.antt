@@ -1,15 +1,10 @@
 -- Texts put into a buffer one after the other: the buffer keeps its length, and two texts are one. Assumes nothing.
-use mathlib.Core.Path.{_≡_, refl, sym, ap, _∙_}
-use mathlib.Core.List.{List, [], _∷_, _++_, append-assoc, append-nil}
-use Prim.Native.Nat.{ℕ, _+_, _-_, _≤_, _<_}
+use Rattle.model.specs.Kit.{_≡_, refl, sym, ap, _∙_, subst, List, [], _∷_, _++_, append-assoc, append-nil, ℕ, _+_, _-_, _≤_, _<_, add-one, arith, length, take, drop, set}
+use Rattle.model.specs.Kit.{length-append, length-drop, take-append-drop, getD-drop, length-take-le}
 use native.Mathlib.Nat.{add-zero, zero-add}
-use native.Mathlib.Numerals.{add-one}
-use native.Mathlib.Omega.{arith}
-use lib.ListN.{length, take, drop, set, length-append, length-drop, take-append-drop}
-use lib.Seq.{getD-drop, length-take-le, take-at, drop-at, drop-drop, set-split, paste, take-length}
-use Rattle.model.specs.Lists.{at}
-use Rattle.model.specs.Written.{placed, Written, Fronted}
-use Rattle.model.proofs.Lists.{at-append, at-skip, at-take}
+use lib.Seq.{take-at, drop-at, drop-drop, set-split, paste, take-length}
+use Rattle.model.specs.{Lists.at, Lists.tabulate, Written.placed, Written.Written, Written.Fronted}
+use Rattle.model.proofs.Lists.{at-append, at-skip, at-take, tabulate-snoc}
 
 module _ (d : List ℕ) (at : ℕ) (t : List ℕ) (fits : at + length t ≤ length d) where
   -- the bytes up to the end of the text
@@ -114,3 +109,16 @@ fronted {d} {t} w = record { bytes = w .bytes ∙ front; count = w .ends ∙ zer
   where
     front : placed d 0 t ≡ t ++ drop (length t) d
     front = ap (λ (k : ℕ). t ++ drop k d) (zero-add (length t))
+
+-- values are written one behind the other
+pub written-start : (d : List ℕ) (start : ℕ) (f : ℕ → ℕ) → Written d start (tabulate 0 f) d (start + 0)
+unfolding tabulate
+written-start d start f = let z : start ≡ start + 0 = omega arith in subst (λ (k : ℕ). Written d start [] d k) z (written-none d start)
+
+pub written-turn : (d e : List ℕ) (start i v : ℕ) (f : ℕ → ℕ) → start + i < length d → length e ≡ length d → v ≡ f i → Written d start (tabulate i f) e (start + i) →
+    Written d start (tabulate (i + 1) f) (set e (start + i) v) (start + (i + 1))
+written-turn d e start i v f h n q w =
+    let same : tabulate i f ++ (v ∷ []) ≡ tabulate (i + 1) f = ap (λ (x : ℕ). tabulate i f ++ (x ∷ [])) q ∙ sym (tabulate-snoc i f) ∙ ap (λ (k : ℕ). tabulate k f) (sym (add-one i)) in
+    let ends : start + i + 1 ≡ start + (i + 1) = omega arith in
+    subst (λ (k : ℕ). Written d start (tabulate (i + 1) f) (set e (start + i) v) k) ends
+    (subst (λ (l : List ℕ). Written d start l (set e (start + i) v) (start + i + 1)) same (written-then (omega arith) w (written-byte e (start + i) v (omega arith))))

@@ -1,6 +1,5 @@
 -- Numbers as bytes, low byte first.
-use mathlib.Core.List.{List, [], _∷_}
-use Prim.Native.Nat.{ℕ, _/_, _%_}
+use Rattle.model.specs.Kit.{List, [], _∷_, ℕ, _/_, _%_}
 
 -- in two bytes; the last is a byte where the number is below 2 ^ 16
 abbrev pub twoBytes : ℕ → List ℕ

@@ -1,21 +1,11 @@
 -- What the filter leaves, what question 16 shows, what the sets at a prefix are and what a sheet with one exchange more is answered, in the paper's words; and
 -- the words of the second and the third demand, which crate order states. The proofs are in proofs/Demands.antt.
-use mathlib.Core.Path.{_≡_}
-use mathlib.Core.Logic.{_↔_}
-use mathlib.Core.Bool.{Bool, false, not}
-use mathlib.Core.List.{List, _++_, map, List·Memᴰ}
-use Prim.Native.Nat.{ℕ, suc, _+_, _-_, _*_, _^_, _≤_, _<_}
-use lib.ListN.{length, take, drop, replicate}
-use lib.Dec.{T, leb}
-use Rattle.model.specs.Lists.{any, at, keep, flat, below, both, earlier}
-use Rattle.model.specs.Bytes.{twoBytes}
-use Rattle.model.specs.ValueSets.{has, anyEmpty}
-use Rattle.model.specs.Problem.{Problem, Constraint, isSolution, assignments, takes, respects}
-use Rattle.model.specs.Verdict.{accepted, ask}
-use Rattle.model.specs.Sheet.{words, problemOf, headerOf, verdictOf, permutesPairs}
-use Rattle.model.specs.Nogood.{Entry, obeys, filtered}
-use Rattle.model.specs.Search.{entriesOf, rowWith, setsAt, isLive, nodes, isPlan}
-use Rattle.model.specs.Run.{Ending, finished, spent, full, plansIn, listOf, listedPlans}
+use Rattle.model.specs.Kit.{_≡_, _↔_, Bool, false, not, List, _++_, map, List·Memᴰ, ℕ, suc, _+_, _-_, _*_, _^_, _≤_, _<_, length, take, drop, replicate, T, leb}
+use Rattle.model.specs.{Lists.any, Lists.at, Lists.keep, Lists.flat, Lists.below, Lists.both, Lists.earlier, Bytes.twoBytes, ValueSets.has, ValueSets.anyEmpty}
+use Rattle.model.specs.{Problem.Problem, Problem.Constraint, Problem.isSolution, Problem.assignments, Problem.takes, Problem.respects, Verdict.accepted, Verdict.ask}
+use Rattle.model.specs.{Sheet.words, Sheet.problemOf, Sheet.headerOf, Sheet.verdictOf, Sheet.permutesPairs, Nogood.Entry, Nogood.obeys, Nogood.filtered, Search.entriesOf}
+use Rattle.model.specs.{Search.rowWith, Search.setsAt, Search.isLive, Search.nodes, Search.isPlan, Run.Ending, Run.finished, Run.spent, Run.full, Run.plansIn, Run.listOf}
+use Rattle.model.specs.Run.{listedPlans}
 
 -- ---- the filter
 -- a gives each variable a value of its set

@@ -1,19 +1,9 @@
 -- The starred examples of paper 01, all of them, as one list of statements about the definitions.
 -- One theorem says that each holds (proofs/Examples).
-use mathlib.Core.Path.{_≡_}
-use mathlib.Core.Bool.{true, false}
-use mathlib.Core.List.{List, [], _∷_, _++_, map}
-use Prim.Native.Nat.{ℕ, _^_, _≤_, _<_}
-use lib.ListN.{length, replicate}
-use Rattle.model.specs.Lists.{flat, at}
-use Rattle.model.specs.Bytes.{twoBytes}
-use Rattle.model.specs.ValueSets.{anyEmpty}
-use Rattle.model.specs.Verdict.{Verdict, accepted}
-use Rattle.model.specs.Nogood.{entries, filterVerdict, setsAfter}
-use Rattle.model.specs.Sheet.{verdictOf, problemOf}
-use Rattle.model.specs.Search.{setsAt, nodes, isLive}
-use Rattle.model.specs.Run.{Answer, refusal, answered, ended, finished, spent, full, answerOf, listOf}
-use Rattle.model.specs.Claims.{plansHeld, OneMore}
+use Rattle.model.specs.Kit.{_≡_, true, false, List, [], _∷_, _++_, map, ℕ, _^_, _≤_, _<_, length, replicate}
+use Rattle.model.specs.{Lists.flat, Lists.at, Bytes.twoBytes, ValueSets.anyEmpty, Verdict.Verdict, Verdict.accepted, Nogood.entries, Nogood.filterVerdict, Nogood.setsAfter}
+use Rattle.model.specs.{Sheet.verdictOf, Sheet.problemOf, Search.setsAt, Search.nodes, Search.isLive, Run.Answer, Run.refusal, Run.answered, Run.ended, Run.finished}
+use Rattle.model.specs.{Run.spent, Run.full, Run.answerOf, Run.listOf, Claims.plansHeld, Claims.OneMore}
 
 -- each of the statements holds
 abbrev pub Each : List (Type 0) → Type 0

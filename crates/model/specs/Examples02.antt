@@ -1,10 +1,7 @@
 -- The examples of paper 02, as one list of statements about the definitions. One theorem says that each holds (proofs/Examples02).
-use mathlib.Core.Path.{_≡_}
-use mathlib.Core.List.{List, [], _∷_}
-use lib.ListN.{replicate}
-use Rattle.model.specs.Nogood.{failed, entailed, consistent, entries, filterEnding}
-use Rattle.model.specs.Run.{tallyOf}
-use Rattle.model.specs.Examples.{index4, equal4, unequal4, sheetA}
+use Rattle.model.specs.Kit.{_≡_, List, [], _∷_, replicate}
+use Rattle.model.specs.{Nogood.failed, Nogood.entailed, Nogood.consistent, Nogood.entries, Nogood.filterEnding, Run.tallyOf, Examples.index4, Examples.equal4}
+use Rattle.model.specs.Examples.{unequal4, sheetA}
 
 abbrev pub tests02 : List (Type 0)
 tests02 =

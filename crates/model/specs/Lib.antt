@@ -1,4 +1,5 @@
 -- The definitions of paper 01, in its order, then claims, the words of the demands and the starred examples.
+pub mod Kit
 pub mod Lists
 pub mod Bytes
 pub mod Written
@@ -9,10 +10,9 @@ pub mod Sheet
 pub mod WellFormed
 pub mod Nogood
 pub mod Search
-pub mod Pruning
-pub mod Filling
 pub mod Run
 pub mod Room
 pub mod Claims
 pub mod Examples
 pub mod Examples02
+pub mod inner

@@ -1,9 +1,5 @@
 -- Tests over lists, and the list of the first numbers. Each test stops at the first element that decides it.
-use mathlib.Core.Bool.{Bool, true, false}
-use mathlib.Core.List.{List, [], _∷_, _++_}
-use Prim.Native.Nat.{ℕ, zero, suc, _+_}
-use lib.ListN.{getD}
-use lib.Dec.{eqb, ltb}
+use Rattle.model.specs.Kit.{Bool, true, false, List, [], _∷_, _++_, ℕ, zero, suc, _+_, getD, eqb, ltb}
 
 abbrev pub both : Bool → Bool → Bool
 both true b = b

@@ -1,14 +1,6 @@
 -- Increasing nogoods (source document 001, section 3), and the exact filter for a list of them (paper 01, "Nogood lists").
-use mathlib.Core.Path.{_≡_}
-use mathlib.Core.Logic.{_⊎_, _↔_}
-use mathlib.Core.Bool.{Bool, true, false, not}
-use mathlib.Core.List.{List, [], _∷_, List·Memᴰ}
-use Prim.Native.Nat.{ℕ, _<_}
-use lib.ListN.{length, getD}
-use lib.Dec.{T, eqb, ltb, leb}
-use Rattle.model.specs.Lists.{all, any, at, keep, both, either, tabulate}
-use Rattle.model.specs.ValueSets.{maskOf, least}
-use Rattle.model.specs.Problem.{assignments}
+use Rattle.model.specs.Kit.{_≡_, _⊎_, _↔_, Bool, true, false, not, List, [], _∷_, List·Memᴰ, ℕ, _<_, length, getD, T, eqb, ltb, leb}
+use Rattle.model.specs.{Lists.all, Lists.any, Lists.at, Lists.keep, Lists.both, Lists.either, Lists.tabulate, ValueSets.maskOf, ValueSets.least, Problem.assignments}
 use Rattle.model.specs.Verdict.{Verdict, accepted, ask, reply, kept}
 pub use Rattle.model.specs.Verdict.{Reply, refusal, answered}
 

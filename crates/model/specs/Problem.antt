@@ -1,11 +1,6 @@
 -- The problem that a sheet states, its solutions, and the symmetries that respect it (paper 01, "Words").
-use mathlib.Core.Bool.{Bool, not}
-use mathlib.Core.List.{List, [], _∷_, _++_, map}
-use Prim.Native.Nat.{ℕ, _+_, _*_, _/_, _%_}
-use lib.ListN.{length}
-use lib.Dec.{eqb, ltb}
-use Rattle.model.specs.Lists.{all, any, keep, flat, below, at, same, both}
-use Rattle.model.specs.ValueSets.{has, members}
+use Rattle.model.specs.Kit.{Bool, not, List, [], _∷_, _++_, map, ℕ, _+_, _*_, _/_, _%_, length, getD, eqb, ltb}
+use Rattle.model.specs.{Lists.all, Lists.any, Lists.keep, Lists.flat, Lists.below, Lists.at, Lists.same, Lists.both, ValueSets.has, ValueSets.members}
 
 -- a constraint (the paper's rule): its scope, the paper's places of the rule, and its rows
 pub record Constraint : Type 0 where
@@ -19,6 +14,13 @@ pub record Problem : Type 0 where
   pub initial : List ℕ
   pub constraints : List Constraint
   pub symmetries : List (List ℕ)
+
+-- the constraint and the symmetry of a number
+abbrev pub constraintAt : Problem → ℕ → Constraint
+constraintAt p k = getD (p .constraints) k (record { scope = []; rows = [] })
+
+abbrev pub symmetryAt : Problem → ℕ → List ℕ
+symmetryAt p e = getD (p .symmetries) e []
 
 -- the problem with other symmetries
 abbrev pub withSymmetries : Problem → List (List ℕ) → Problem

@@ -1,15 +1,7 @@
 -- A run: the nodes of the tree in their order, up to where it ends (paper 01, "The search").
-use mathlib.Core.Bool.{true, false}
-use mathlib.Core.List.{List, [], _∷_, _++_}
-use Prim.Native.Nat.{ℕ, zero, suc, _-_, _*_}
-use lib.ListN.{length, take, drop}
-use lib.Dec.{leb, eqb}
-use Rattle.model.specs.Lists.{keep, flat, tabulate}
-use Rattle.model.specs.Problem.{Problem}
-use Rattle.model.specs.Search.{nodes, isPlan}
-use Rattle.model.specs.Verdict.{reply, kept}
+use Rattle.model.specs.Kit.{true, false, List, [], _∷_, _++_, ℕ, zero, suc, _-_, _*_, length, take, drop, leb, eqb}
+use Rattle.model.specs.{Lists.keep, Lists.flat, Lists.tabulate, Problem.Problem, Search.nodes, Search.isPlan, Verdict.reply, Verdict.kept, Sheet.verdictOf, Sheet.problemOf}
 pub use Rattle.model.specs.Verdict.{Reply, refusal, answered}
-use Rattle.model.specs.Sheet.{verdictOf, problemOf}
 
 -- how a run ends; each ending carries the plans listed and the nodes made (the paper's trial figure)
 pub data Ending : Type 0 where

@@ -1,14 +1,9 @@
 -- The nogoods of a symmetry at a prefix, the sets at a prefix, and the tree as the list of its nodes (paper 01, "The search").
 -- A prefix is the list of the values of variables 0 to k - 1.
-use mathlib.Core.Bool.{Bool, true, false, not}
-use mathlib.Core.List.{List, [], _∷_, _++_, map}
-use Prim.Native.Nat.{ℕ, zero, suc, _*_, _/_, _%_}
-use lib.ListN.{length}
-use lib.Dec.{eqb, ltb}
-use Rattle.model.specs.Lists.{all, any, keep, flat, below, at, same, both, tabulate}
-use Rattle.model.specs.ValueSets.{has, maskOf, members, anyEmpty}
-use Rattle.model.specs.Problem.{Problem, Constraint, pair}
-use Rattle.model.specs.Nogood.{Entry, equality, disequality, filtered}
+use Rattle.model.specs.Kit.{Bool, true, false, not, List, [], _∷_, _++_, map, ℕ, zero, suc, _*_, _/_, _%_, length, eqb, ltb}
+use Rattle.model.specs.{Lists.all, Lists.any, Lists.keep, Lists.flat, Lists.below, Lists.at, Lists.same, Lists.both, Lists.tabulate, ValueSets.has, ValueSets.maskOf}
+use Rattle.model.specs.{ValueSets.members, ValueSets.anyEmpty, Problem.Problem, Problem.Constraint, Problem.pair, Nogood.Entry, Nogood.equality, Nogood.disequality}
+use Rattle.model.specs.Nogood.{filtered}
 
 -- the entries that variable j, which has value u, adds to a symmetry's list: "not the image of (j, v)" for every smaller v of j's initial set,
 -- then the image of its own pair as an equality

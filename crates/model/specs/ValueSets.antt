@@ -1,9 +1,6 @@
 -- A set of values is a number of sixteen bits: value v is a member of s where bit v of s is 1 (paper 01, "Words").
-use mathlib.Core.Bool.{Bool, true, false, not}
-use mathlib.Core.List.{List}
-use Prim.Native.Nat.{ℕ, zero, suc, _+_, _*_, _/_, _%_, _^_}
-use lib.Dec.{eqb, ltb}
-use Rattle.model.specs.Lists.{both, either, keep, below, any}
+use Rattle.model.specs.Kit.{Bool, true, false, not, List, ℕ, zero, suc, _+_, _*_, _/_, _%_, _^_, T, eqb, ltb}
+use Rattle.model.specs.Lists.{both, either, keep, below, any, at}
 
 abbrev pub bit : Bool → ℕ
 bit true = 1
@@ -62,3 +59,7 @@ members s = keep (has s) (below 16)
 -- one of the sets is empty
 unfoldable pub anyEmpty : List ℕ → Bool
 anyEmpty ds = any (λ s. eqb s 0) ds
+
+-- each set inside the other list's
+abbrev pub Inside : List ℕ → List ℕ → Type 0
+Inside ds es = (x v : ℕ) → T (has (at ds x) v) → T (has (at es x) v)

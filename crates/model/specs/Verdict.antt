@@ -1,6 +1,5 @@
 -- The answer to a list of questions: accepted, or the number and the item of the first "no".
-use mathlib.Core.Bool.{Bool, true, false}
-use Prim.Native.Nat.{ℕ}
+use Rattle.model.specs.Kit.{Bool, true, false, ℕ}
 
 pub data Verdict : Type 0 where
   accepted : Verdict

@@ -1,8 +1,5 @@
 -- Bytes put into a lent buffer: where they end, and that all other bytes are as they came.
-use mathlib.Core.Path.{_≡_}
-use mathlib.Core.List.{List, _++_}
-use Prim.Native.Nat.{ℕ, _+_}
-use lib.ListN.{length, take, drop}
+use Rattle.model.specs.Kit.{_≡_, List, _++_, ℕ, _+_, length, take, drop}
 
 -- a buffer with a text at a place
 unfoldable pub placed : List ℕ → ℕ → List ℕ → List ℕ

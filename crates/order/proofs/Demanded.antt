@@ -1,33 +1,18 @@
 -- The second and the third demand of any run (specs/Demanded), and paper 01's run of a sheet. Assumes nothing.
-use mathlib.Core.Path.{_≡_, refl, sym, ap, ap₂, _∙_, subst, subst₂}
-use mathlib.Core.Logic.{_↔_}
-use mathlib.Core.List.{List, [], _∷_, map, List·Memᴰ, Sublistᴰ}
-use Prim.Native.Nat.{ℕ, _*_, _≤_}
-use native.Mathlib.Omega.{arith}
-use lib.Dec.{T}
-use lib.ListN.{length, take, drop}
-use lib.Seq.{length-take-le, drop-append-seam}
-use Rattle.model.specs.Lists.{flat, below, earlier}
-use Rattle.model.specs.Problem.{Problem, isSolution, withSymmetries}
-use Rattle.model.specs.Verdict.{Verdict, accepted, refused, isAccepted, reply, kept}
-use Rattle.model.specs.Sheet.{verdictOf, problemOf}
-use Rattle.model.specs.Search.{nodes}
-use Rattle.model.specs.WellFormed.{WellFormed, Respected}
-use Rattle.model.specs.Run.{Ending, finished, plansIn, nodesIn, resultOf, Answer, refusal, ended, answered, answerOf, written, listOf, listedPlans, Tally, tallyAt, tallyFor, tallyOf}
+use Rattle.model.specs.Kit.{_≡_, refl, sym, ap, ap₂, _∙_, subst, subst₂, _↔_, List, [], _∷_, map, List·Memᴰ, ℕ, _*_, _≤_, arith, T, length, take, drop, length-take-le}
+use mathlib.Core.List.{Sublistᴰ}
+use lib.Seq.{drop-append-seam}
+use Rattle.model.specs.{Lists.flat, Lists.below, Lists.earlier, Problem.Problem, Problem.isSolution, Problem.withSymmetries, Verdict.Verdict, Verdict.accepted, Verdict.refused}
+use Rattle.model.specs.{Verdict.isAccepted, Verdict.reply, Verdict.kept, Sheet.verdictOf, Sheet.problemOf, Search.nodes, WellFormed.WellFormed, WellFormed.Respected, Run.Ending}
+use Rattle.model.specs.Run.{finished, plansIn, nodesIn, resultOf, Answer, refusal, ended, answered, answerOf, written, listOf, listedPlans, Tally, tallyAt, tallyFor, tallyOf}
 use Rattle.model.specs.Claims.{Chain}
-use Rattle.model.proofs.Demands.{read-back, reply-so, of-accepted}
-use Rattle.model.proofs.More.{FewerIn}
-use Rattle.model.proofs.OneMore.{one-more}
-use Rattle.model.proofs.Room.{length-flat}
-use Rattle.model.proofs.Tally.{made-inside}
-use Rattle.order.specs.Order.{Ordering}
-use Rattle.order.specs.Reordered.{write, earlierBy, reordered}
-use Rattle.order.specs.RunBy.{Input, sheetInput, resultBy, placeTally, leadersBy, answerBy, listBy, plansBy, talliedBy}
-use Rattle.order.specs.Demanded.{Tallied, Demanded, Fewer, Demanded-sheet, Fewer-sheet, Sheet-run}
-use Rattle.order.proofs.LeadersBy.{ordering-below, read-below, reordered-below}
-use Rattle.order.proofs.SetsBy.{largest-by}
-use Rattle.order.proofs.RunBy.{sublist-map, leadersBy-ascend, leadersBy-hold, chainsBy, rows-sized-by, rows-counted-by, finished-lists, first-lists, none-lists}
-use Rattle.order.proofs.RunBy.{counts-by, fewer-by, same-result, same-counts, places-total, places-none, places-twelve}
+use Rattle.model.proofs.{Demands.read-back, Demands.reply-so, Demands.of-accepted, More.FewerIn, OneMore.one-more, Room.length-flat, Tally.made-inside}
+use Rattle.order.specs.{Order.Ordering, Reordered.write, Reordered.earlierBy, Reordered.reordered, RunBy.Input, RunBy.sheetInput, RunBy.resultBy, RunBy.placeTally}
+use Rattle.order.specs.{RunBy.leadersBy, RunBy.answerBy, RunBy.listBy, RunBy.plansBy, RunBy.talliedBy, Demanded.Tallied, Demanded.Demanded, Demanded.Fewer}
+use Rattle.order.specs.Demanded.{Demanded-sheet, Fewer-sheet, Sheet-run}
+use Rattle.order.proofs.{LeadersBy.ordering-below, LeadersBy.read-below, LeadersBy.reordered-below, SetsBy.largest-by, RunBy.sublist-map, RunBy.leadersBy-ascend}
+use Rattle.order.proofs.RunBy.{leadersBy-hold, chainsBy, rows-sized-by, rows-counted-by, finished-lists, first-lists, none-lists, counts-by, fewer-by, same-result}
+use Rattle.order.proofs.RunBy.{same-counts, places-total, places-none, places-twelve}
 
 -- what is known where the questions are passed
 pub record Sound (i : Input) : Type 0 where

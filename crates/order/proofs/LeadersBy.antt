@@ -1,23 +1,16 @@
 -- Leaders and chains of the reordered problem are those of the problem where rows are read in the order;
 -- and the order 0, 1, .. changes nothing. Assumes nothing.
-use mathlib.Core.Path.{_≡_, refl, sym, ap, ap₂, _∙_, subst, subst₂}
-use mathlib.Core.List.{List, [], _∷_, map, List·Memᴰ, List·Memᴰ·head, List·Memᴰ·tail, Memᴰ·cast, Memᴰ·map, Memᴰ·of-map}
-use mathlib.Core.Logic.{_↔_}
-use Prim.Native.Nat.{ℕ, _*_, _/_, _%_, _<_}
+use Rattle.model.specs.Kit.{_≡_, refl, sym, ap, ap₂, _∙_, subst, subst₂, List, [], _∷_, map, List·Memᴰ, List·Memᴰ·head, List·Memᴰ·tail, Memᴰ·cast, Memᴰ·map, Memᴰ·of-map, _↔_, ℕ}
+use Rattle.model.specs.Kit.{_*_, _/_, _%_, _<_, arith, T, length}
 use native.Mathlib.Nat.{div-lt-iff-lt-mul}
-use native.Mathlib.Omega.{arith}
-use lib.Dec.{T}
-use lib.ListN.{length}
-use Rattle.model.specs.Lists.{below, at, earlier}
-use Rattle.model.specs.Problem.{Problem, Constraint, pair, takes, isSolution}
-use Rattle.model.specs.Claims.{Leader, Chain, here, step}
-use Rattle.order.specs.Order.{Ordering}
-use Rattle.order.specs.Reordered.{position, read, write, valueOf, scopeIn, rowIn, constraintIn, renamed, symmetryIn, reordered, earlierBy}
-use Rattle.model.specs.WellFormed.{WellFormed, GoodConstraint}
+use Rattle.model.specs.{Lists.below, Lists.at, Lists.earlier, Problem.Problem, Problem.Constraint, Problem.pair, Problem.takes, Problem.isSolution, Claims.Leader, Claims.Chain}
+use Rattle.model.specs.{Claims.here, Claims.step, WellFormed.WellFormed, WellFormed.GoodConstraint}
+use Rattle.order.specs.{Order.Ordering, Reordered.position, Reordered.read, Reordered.write, Reordered.valueOf, Reordered.scopeIn, Reordered.rowIn, Reordered.constraintIn}
+use Rattle.order.specs.Reordered.{renamed, symmetryIn, reordered, earlierBy}
 use Rattle.model.proofs.Lists.{map-ext, below-i, below-e, length-below, at-below, at-ext, Sorted, sorted-ext, ascending-sorted}
 use Rattle.model.proofs.Tree.{solution-e}
-use Rattle.model.proofs.Pairs as P
 use Rattle.order.proofs.Reordered.{sorted-apart, row-values}
+use Rattle.model.proofs.Pairs as P
 use Rattle.order.proofs.Reordered as R
 
 module _ (p : Problem) (order : List ℕ) (o : Ordering (p .variables) order) (w : WellFormed p) where
@@ -166,6 +159,7 @@ module _ (p : Problem) (w : WellFormed p) where
   -- the reordered problem is the problem itself
   pub reordered-below : reordered (below (p .variables)) p ≡ p
   reordered-below =
-      ap (λ (i : List ℕ). record { variables = n; values = d; initial = i; constraints = map (constraintIn (below n)) (p .constraints); symmetries = map (symmetryIn (below n) p) (p .symmetries) }) (read-below n (p .initial) (w .sized))
+      ap (λ (i : List ℕ). record { variables = n; values = d; initial = i; constraints = map (constraintIn (below n)) (p .constraints); symmetries = map (symmetryIn (below n) p) (p .symmetries) })
+      (read-below n (p .initial) (w .sized))
       ∙ ap₂ {C = Problem} (λ cs gs. record { variables = n; values = d; initial = p .initial; constraints = cs; symmetries = gs })
       (map-same (constraintIn (below n)) (p .constraints) same-constraint) (map-same (symmetryIn (below n) p) (p .symmetries) same-symmetry)

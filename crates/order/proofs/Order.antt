@@ -1,29 +1,19 @@
 -- The settling order: question 30 is answered "no" exactly where the pairs go round in a circle, and elsewhere the order is the paper's.
 -- Assumes nothing.
-use mathlib.Core.Path.{_≡_, refl, sym, ap, ap₂, _∙_, subst, fun-ext}
-use mathlib.Core.Bool.{Bool, true, false, not}
-use mathlib.Core.List.{List, [], _∷_, _++_, map, List·Memᴰ, List·Memᴰ·head, List·Memᴰ·tail, List·Memᴰ·not-nil, Memᴰ·cast, Memᴰ·map, Memᴰ·of-map}
-use mathlib.Core.Logic.{_↔_, _⊎_, inl, inr}
-use Prim.Native.Nat.{ℕ, zero, suc, _+_, _-_, _%_, _≤_, _<_}
-use native.Mathlib.Decide.{ℕ-discrete, decLt}
-use native.Mathlib.Omega.{arith}
-use lib.Dec.{T, T-not, not-T, leb, ltb, eqb, eqb→eq, eqb-refl, ltb→lt, lt→ltb, leb→le, le→leb}
-use lib.ListN.{length, take, length-append}
-use lib.Seq.{take-all, take-suc, take-append-le}
-use borrow.Author.Tests.{ltb-false, eq-eqb}
-use Rattle.model.specs.Lists.{all, any, keep, below, upFrom, at, both}
-use Rattle.model.specs.ValueSets.{least}
-use Rattle.model.specs.Problem.{within}
-use Rattle.model.specs.Sheet.{distinct}
-use Rattle.model.specs.Verdict.{Verdict, refused, ask}
-use Rattle.model.specs.Examples.{Each}
+use Rattle.model.specs.Kit.{_≡_, refl, sym, ap, ap₂, _∙_, subst, Bool, true, false, not, List, [], _∷_, _++_, map, List·Memᴰ, List·Memᴰ·head, List·Memᴰ·tail, List·Memᴰ·not-nil}
+use Rattle.model.specs.Kit.{Memᴰ·cast, Memᴰ·map, Memᴰ·of-map, _↔_, _⊎_, inl, inr, ℕ, zero, suc, _+_, _-_, _%_, _≤_, _<_, ℕ-discrete, decLt, arith, T, T-not, not-T, leb, ltb, eqb}
+use Rattle.model.specs.Kit.{eqb→eq, eqb-refl, ltb→lt, lt→ltb, leb→le, length, take, length-append, take-all, ltb-false, eq-eqb}
+use mathlib.Core.Path.{fun-ext}
+use lib.Dec.{le→leb}
+use lib.Seq.{take-suc, take-append-le}
+use Rattle.model.specs.{Lists.all, Lists.any, Lists.keep, Lists.below, Lists.upFrom, Lists.at, Lists.both, ValueSets.least, Problem.within, Sheet.distinct, Verdict.Verdict}
+use Rattle.model.specs.{Verdict.refused, Verdict.ask, Examples.Each}
 use Rattle.order.specs.Order.{pairsIn, Before, Path, one, more, Circle, forerunners, canFollow, settledFirst, settlingOrder, settlesAll, orderVerdict, Settling}
 use Rattle.order.specs.Claims.{Order-passed, Question-30, Settling-unique, Same-pairs, testsOrder}
-use Rattle.model.proofs.Lists.{both-i, both-l, both-r, T-dec, T-of, of-T, not-of, of-not, stable, T-ext, all-cons, all-i, all-e, keep-i, keep-e, among-i, among-e, below-i, below-e, length-below, at-below, upFrom-add, at-seam, at-ext, mem-at, at-mem, at-take}
-use Rattle.model.proofs.Masks.{least-at, least-below, least-is}
-use Rattle.model.proofs.Counting.{distinct-below, no-more, onto, twice}
-use Rattle.model.proofs.Accepted.{asked}
-use Rattle.model.proofs.Pairs.{within-i, within-e}
+use Rattle.model.proofs.Lists.{both-i, both-l, both-r, T-dec, T-of, of-T, not-of, of-not, stable, T-ext, all-cons, all-i, all-e, keep-i, keep-e, among-i, among-e, below-i, below-e}
+use Rattle.model.proofs.{Lists.length-below, Lists.at-below, Lists.upFrom-add, Lists.at-seam, Lists.at-ext, Lists.mem-at, Lists.at-mem, Lists.at-take, Masks.least-at}
+use Rattle.model.proofs.{Masks.least-below, Masks.least-is, Counting.distinct-below, Counting.no-more, Counting.onto, Counting.twice, Accepted.asked, Pairs.within-i}
+use Rattle.model.proofs.Pairs.{within-e}
 
 -- ---- the pairs
 -- the places of a pair are bytes of the lending
@@ -254,7 +244,8 @@ module _ (n : ℕ) (pairs : List ℕ) (small : T (all (λ x. ltb x n) pairs)) (s
 left-over : (n : ℕ) (settled : List ℕ) → length settled < n → (y : ℕ) × (y < n) × (List·Memᴰ y settled → ⊥)
 left-over n settled h =
     let r = not-all (λ x. any (eqb x) settled) (map (λ (i : ℕ). i) (below n))
-    (λ t. let l = no-more (map (λ (i : ℕ). i) (below n)) settled (distinct-below (λ (i : ℕ). i) n (λ i j p q e. e)) (λ x m. among-e x settled (all-e (λ x. any (eqb x) settled) (map (λ (i : ℕ). i) (below n)) t x m)) in
+    (λ t. let l = no-more (map (λ (i : ℕ). i) (below n)) settled (distinct-below (λ (i : ℕ). i) n (λ i j p q e. e))
+    (λ x m. among-e x settled (all-e (λ x. any (eqb x) settled) (map (λ (i : ℕ). i) (below n)) t x m)) in
     (let e = length-below (λ (i : ℕ). i) n in omega arith)) in
     let q = Memᴰ·of-map (λ (i : ℕ). i) (below n) (r .1) in
     (r .0, subst (λ (z : ℕ). z < n) (q .2) (below-e n (q .0) (q .1)), λ m. r .2 (among-i (r .0) settled m))
@@ -268,7 +259,8 @@ circle-found n pairs small h =
     let l : k < n = omega (arith, order-length n pairs, q .1) in
     let e : least n (canFollow pairs (settledFirst n pairs k)) ≡ r .0 = sym (order-at n pairs k l) ∙ q .2 in
     let out : n ≤ r .0 = ltb-false (r .0) n (not-of (ltb (r .0) n) (r .2)) in
-    round n pairs small (settledFirst n pairs k) (λ y j. least-below n (canFollow pairs (settledFirst n pairs k)) y (omega arith)) (left-over n (settledFirst n pairs k) (omega (arith, first-length n pairs k)))
+    round n pairs small (settledFirst n pairs k) (λ y j. least-below n (canFollow pairs (settledFirst n pairs k)) y (omega arith))
+    (left-over n (settledFirst n pairs k) (omega (arith, first-length n pairs k)))
 
 -- ---- the questions
 asks : (b : Bool) (k : ℕ) (v : Verdict) → T b → ask b k 0 v ≡ v
@@ -342,7 +334,8 @@ no-pairs-first n (suc k) h =
     (λ j l. not-of (canFollow [] (below k) j) (λ t. follow-e [] (below k) j t .0 (below-i k j l)))
     (of-T (canFollow [] (below k) k) (free k (λ m. let l = below-e k k m in omega arith))) in
     let u : suc k ≡ k + 1 = omega arith in
-    ap (λ (f : List ℕ). f ++ (least n (canFollow [] f) ∷ [])) ih ∙ ap (λ (z : ℕ). below k ++ (z ∷ [])) e ∙ sym (ap below u ∙ upFrom-add 0 k 1 ∙ ap (λ (z : ℕ). below k ++ (z ∷ [])) (let z : 0 + k ≡ k = omega arith in z))
+    ap (λ (f : List ℕ). f ++ (least n (canFollow [] f) ∷ [])) ih ∙ ap (λ (z : ℕ). below k ++ (z ∷ [])) e ∙ sym
+    (ap below u ∙ upFrom-add 0 k 1 ∙ ap (λ (z : ℕ). below k ++ (z ∷ [])) (let z : 0 + k ≡ k = omega arith in z))
 
 pub no-pairs : (n : ℕ) → settlingOrder n [] ≡ below n
 unfolding settlingOrder
@@ -370,7 +363,8 @@ settling-unique n pairs a b s t =
         go : Dec (at a k ≡ at b k) → Dec (at a k < at b k) → at a k ≡ at b k
         go (yes q) d = q
         go (no q) (yes d) = absurd (of-not (canFollow pairs (take k b) (at a k)) (t .lowest k (at a k) h d) (subst (λ (f : List ℕ). T (canFollow pairs f (at a k))) e (s .possible k h)))
-        go (no q) (no d) = absurd (of-not (canFollow pairs (take k a) (at b k)) (s .lowest k (at b k) h (omega arith)) (subst (λ (f : List ℕ). T (canFollow pairs f (at b k))) (sym e) (t .possible k h)))
+        go (no q) (no d) = absurd (of-not (canFollow pairs (take k a) (at b k)) (s .lowest k (at b k) h (omega arith))
+            (subst (λ (f : List ℕ). T (canFollow pairs f (at b k))) (sym e) (t .possible k h)))
 
     front : (k : ℕ) → k ≤ n → take k a ≡ take k b
     front zero h = refl

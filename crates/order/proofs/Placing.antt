@@ -1,27 +1,14 @@
 -- Pairs by their index, and the order one place after another. Assumes nothing.
-use mathlib.Core.Path.{_≡_, refl, sym, ap, ap₂, _∙_, subst}
-use mathlib.Core.Bool.{Bool, true, false}
-use mathlib.Core.Logic.{_⊎_, inl, inr}
-use mathlib.Core.List.{List, [], _∷_, _++_, List·Memᴰ, List·Memᴰ·head, List·Memᴰ·tail, List·Memᴰ·not-nil}
-use Prim.Native.Nat.{ℕ, zero, suc, _+_, _-_, _*_, _/_, _%_, _^_, _≤_, _<_}
-use native.Mathlib.Nat.{not-suc-le-zero}
-use native.Mathlib.Decide.{ℕ-discrete}
-use native.Mathlib.Omega.{arith}
-use lib.Bits.{bitOr, or-lt}
-use lib.Dec.{T, ltb, eqb, ltb→lt, lt→ltb, eqb-refl}
-use lib.ListN.{length, take, drop, set, length-set, length-take, length-drop}
-use lib.Seq.{getD-drop}
-use borrow.Author.Tests.{le-leb, lt-leb, eq-eqb, ne-eqb, eqb-true}
-use Rattle.model.specs.Lists.{all, any, at, both, either}
-use Rattle.model.specs.ValueSets.{has, least}
-use Rattle.model.specs.Verdict.{Verdict, accepted, ask, isAccepted}
+use Rattle.model.specs.Kit.{_≡_, refl, sym, ap, ap₂, _∙_, subst, Bool, true, false, _⊎_, inl, inr, List, [], _∷_, _++_, List·Memᴰ, List·Memᴰ·head, List·Memᴰ·tail}
+use Rattle.model.specs.Kit.{List·Memᴰ·not-nil, ℕ, zero, suc, _+_, _-_, _*_, _/_, _%_, _^_, _≤_, _<_, not-suc-le-zero, ℕ-discrete, arith, bitOr, or-lt, T, ltb, eqb, ltb→lt, lt→ltb}
+use Rattle.model.specs.Kit.{eqb-refl, length, take, drop, set, length-set, length-take, length-drop, getD-drop, le-leb, lt-leb, eq-eqb, ne-eqb, eqb-true}
+use Rattle.model.specs.{Lists.all, Lists.any, Lists.at, Lists.both, Lists.either, ValueSets.has, ValueSets.least, Verdict.Verdict, Verdict.accepted, Verdict.ask}
+use Rattle.model.specs.Verdict.{isAccepted}
 use Rattle.order.specs.Order.{pairsIn, Before, canFollow, settledFirst, settlingOrder, settlesAll, orderVerdict, Settling}
+use Rattle.order.specs.inner.Settled.{Holds, Befores, Settled, Ordered}
 use Rattle.model.proofs.Lists.{T-of, of-T, not-of, of-not, all-i, all-e, any-cons, among-i, among-e, mem-at, at-mem, at-ext, at-take, at-set, at-set-other}
-use Rattle.model.proofs.Masks.{has-or}
-use Rattle.model.proofs.Sets.{has-none, mask-ext}
-use Rattle.model.proofs.Members.{or-i, or-e}
+use Rattle.model.proofs.{Masks.has-or, Sets.has-none, Sets.mask-ext, Members.or-i, Members.or-e}
 use Rattle.order.proofs.Order.{follow-i, follow-e, first-length, first-at, order-passed}
-use Rattle.order.specs.Settled.{Holds, Befores, Settled, Ordered}
 
 -- ---- pairs by their index
 pub before-at : (pairs : List ℕ) (i : ℕ) → 2 * i + 1 < length pairs → Before pairs (at pairs (2 * i)) (at pairs (2 * i + 1))
@@ -99,11 +86,13 @@ module _ (pairs l : List ℕ) (settled y : ℕ) (h : Holds settled l) where
         into : (x : ℕ) → Indexed pairs x y → List·Memᴰ x l
         into x r =
             let i : r .index < length pairs / 2 = omega (arith, r .inside) in
-            let t : T (has (at befores y) x) = subst (λ (z : ℕ). T (has (at befores y) z)) (r .first) (subst (λ (z : ℕ). T (has (at befores z) (at pairs (2 * r .index)))) (r .second) (b .within (r .index) i)) in
+            let t : T (has (at befores y) x) = subst (λ (z : ℕ). T (has (at befores y) z)) (r .first)
+            (subst (λ (z : ℕ). T (has (at befores z) (at pairs (2 * r .index)))) (r .second) (b .within (r .index) i)) in
             member x (subst (λ (z : ℕ). T (has z x)) e (or-i (at befores y) settled x (inl t)))
 
     some-wait : settled < 2 ^ 64 → (bitOr (at befores y) settled ≡ settled → ⊥) → false ≡ canFollow pairs l y
-    some-wait s n = sym (not-of (canFollow pairs l y) (λ c. n (mask-ext 64 (bitOr (at befores y) settled) settled (or-lt 64 (at befores y) settled (b .few y) s) s (λ v k. has-or (at befores y) settled v ∙ go (has (at befores y) v) (has settled v) (here c v)))))
+    some-wait s n = sym (not-of (canFollow pairs l y) (λ c. n (mask-ext 64 (bitOr (at befores y) settled) settled (or-lt 64 (at befores y) settled (b .few y) s) s
+        (λ v k. has-or (at befores y) settled v ∙ go (has (at befores y) v) (has settled v) (here c v)))))
       where
         go : (p q : Bool) → (T p → T q) → either p q ≡ q
         go true true f = refl
@@ -113,7 +102,8 @@ module _ (pairs l : List ℕ) (settled y : ℕ) (h : Holds settled l) where
         here : T (canFollow pairs l y) → (v : ℕ) → T (has (at befores y) v) → T (has settled v)
         here c v t =
             let r = b .alone v y t in
-            member-has v (follow-e pairs l y c .1 v (subst (λ (z : ℕ). Before pairs v z) (r .3) (subst (λ (z : ℕ). Before pairs z (at pairs (2 * r .0 + 1))) (r .2) (before-at pairs (r .0) (omega (arith, r .1))))))
+            member-has v (follow-e pairs l y c .1 v (subst (λ (z : ℕ). Before pairs v z) (r .3)
+            (subst (λ (z : ℕ). Before pairs z (at pairs (2 * r .0 + 1))) (r .2) (before-at pairs (r .0) (omega (arith, r .1))))))
 
     pub follows : has settled y ≡ false → settled < 2 ^ 64 → eqb (bitOr (at befores y) settled) settled ≡ canFollow pairs l y
     follows n s = go (ℕ-discrete (bitOr (at befores y) settled) settled)
@@ -279,7 +269,8 @@ module _ (n : ℕ) (pairs old : List ℕ) where
     pub odd : (length pairs % 2 ≡ 0 → ⊥) → Ordered n pairs old old 28
     unfolding orderVerdict
     odd h = record {
-      answer = λ later. ap₂ (λ (b c : Bool). ask (both b c) 28 0 (ask (all (λ x. ltb x n) pairs) 29 0 (ask (settlesAll n pairs) 30 0 later))) (le-leb (length pairs) 128 few) (ne-eqb (length pairs % 2) 0 h);
+      answer = λ later. ap₂ (λ (b c : Bool). ask (both b c) 28 0 (ask (all (λ x. ltb x n) pairs) 29 0 (ask (settlesAll n pairs) 30 0 later))) (le-leb (length pairs) 128 few)
+          (ne-eqb (length pairs % 2) 0 h);
       settled = λ e. absurd (omega arith);
       rest = λ e. absurd (omega arith);
       kept = λ e. refl;
@@ -289,7 +280,8 @@ module _ (n : ℕ) (pairs old : List ℕ) where
     module _ (whole : length pairs % 2 ≡ 0) where
       first-asked : (later : Verdict) → orderVerdict n pairs later ≡ ask (all (λ x. ltb x n) pairs) 29 0 (ask (settlesAll n pairs) 30 0 later)
       unfolding orderVerdict
-      first-asked later = ap₂ (λ (b c : Bool). ask (both b c) 28 0 (ask (all (λ x. ltb x n) pairs) 29 0 (ask (settlesAll n pairs) 30 0 later))) (le-leb (length pairs) 128 few) (eq-eqb (length pairs % 2) 0 whole)
+      first-asked later = ap₂ (λ (b c : Bool). ask (both b c) 28 0 (ask (all (λ x. ltb x n) pairs) 29 0 (ask (settlesAll n pairs) 30 0 later))) (le-leb (length pairs) 128 few)
+          (eq-eqb (length pairs % 2) 0 whole)
 
       pub outside : all (λ x. ltb x n) pairs ≡ false → Ordered n pairs old old 29
       outside h = record {
@@ -324,7 +316,8 @@ module _ (n : ℕ) (pairs old : List ℕ) where
             take-long = length-take n new ∙ (let e = s .size in omega arith)
 
             take-is : take n new ≡ settlingOrder n pairs
-            take-is = at-ext (take n new) (settlingOrder n pairs) (take-long ∙ sym (order-long n pairs)) (λ i h. let l : i < n = omega (arith, take-long) in at-take n new i l ∙ s .places (T-of r e) i l)
+            take-is = at-ext (take n new) (settlingOrder n pairs) (take-long ∙ sym (order-long n pairs))
+                (λ i h. let l : i < n = omega (arith, take-long) in at-take n new i l ∙ s .places (T-of r e) i l)
 
             drop-is : drop n new ≡ drop n old
             drop-is =

@@ -1,27 +1,17 @@
 -- The laws of the reordered problem. Assumes nothing.
-use mathlib.Core.Path.{_≡_, refl, sym, ap, ap₂, _∙_, subst, subst₂}
-use mathlib.Core.Bool.{Bool, true, false}
-use mathlib.Core.List.{List, [], _∷_, map, List·Memᴰ, List·Memᴰ·head, List·Memᴰ·cases-cons, List·Memᴰ·eq-of-singleton, Memᴰ·cast, Memᴰ·map, Memᴰ·of-map}
-use mathlib.Core.Logic.{_↔_, _⊎_, inl, inr, ⊎-elim}
-use Prim.Native.Nat.{ℕ, zero, suc, _*_, _/_, _%_, _^_, _≤_, _<_}
-use native.Mathlib.Nat.{not-suc-le-zero, le-of-suc-le-suc, lt-of-lt-of-le, div-lt-iff-lt-mul}
-use native.Mathlib.Decide.{ℕ-discrete, decLt}
-use native.Mathlib.Omega.{arith}
-use lib.Dec.{T, eqb, ltb, eqb→eq}
-use lib.ListN.{length, length-map}
-use borrow.Author.Tests.{eq-eqb, ne-eqb, lt-ltb}
-use Rattle.model.specs.Lists.{both, all, any, below, at, same, ascending}
-use Rattle.model.specs.ValueSets.{has, least, members}
-use Rattle.model.specs.Problem.{Problem, Constraint, pair, isPair, pairsOf, pairsAt, within, takes, forbidden, doubled, excluded, respects, assignments, valuesAt, satisfies, isSolution}
-use Rattle.model.specs.Sheet.{permutesPairs, distinct}
-use Rattle.order.specs.Order.{Ordering}
-use Rattle.order.specs.Reordered.{position, read, write, valueOf, scopeIn, rowIn, constraintIn, renamed, symmetryIn, reordered}
-use Rattle.model.specs.WellFormed.{WellFormed, GoodConstraint, GoodSymmetry, Respected}
-use Rattle.model.proofs.Lists.{both-i, T-dec, T-of, of-not, T-ext, all-i, all-e, any-i, any-e, keep-i, keep-e, among-i, among-e, map-ext, below-i, below-e, length-below, at-below, at-map, at-ext, mem-at, at-mem, same-eq, same-refl, Sorted, sorted-keep, sorted-below, sorted-ext, ascending-sorted}
-use Rattle.model.proofs.Masks.{least-at, least-below, least-is}
-use Rattle.model.proofs.Counting.{distinct-below, no-more}
-use Rattle.model.proofs.Sets.{members-e}
-use Rattle.model.proofs.Assignments.{assign-i, assign-e}
+use Rattle.model.specs.Kit.{_≡_, refl, sym, ap, ap₂, _∙_, subst, subst₂, Bool, true, false, List, [], _∷_, map, List·Memᴰ, List·Memᴰ·head, List·Memᴰ·cases-cons, Memᴰ·cast}
+use Rattle.model.specs.Kit.{Memᴰ·map, Memᴰ·of-map, _↔_, _⊎_, inl, inr, ⊎-elim, ℕ, zero, suc, _*_, _/_, _%_, _^_, _≤_, _<_, not-suc-le-zero, le-of-suc-le-suc, lt-of-lt-of-le}
+use Rattle.model.specs.Kit.{ℕ-discrete, decLt, arith, T, eqb, ltb, eqb→eq, length, length-map, eq-eqb, ne-eqb, lt-ltb}
+use mathlib.Core.List.{List·Memᴰ·eq-of-singleton}
+use native.Mathlib.Nat.{div-lt-iff-lt-mul}
+use Rattle.model.specs.{Lists.both, Lists.all, Lists.any, Lists.below, Lists.at, Lists.same, Lists.ascending, ValueSets.has, ValueSets.least, ValueSets.members, Problem.Problem}
+use Rattle.model.specs.Problem.{Constraint, pair, isPair, pairsOf, pairsAt, within, takes, forbidden, doubled, excluded, respects, assignments, valuesAt, satisfies, isSolution}
+use Rattle.model.specs.{Sheet.permutesPairs, Sheet.distinct, WellFormed.WellFormed, WellFormed.GoodConstraint, WellFormed.GoodSymmetry, WellFormed.Respected}
+use Rattle.order.specs.{Order.Ordering, Reordered.position, Reordered.read, Reordered.write, Reordered.valueOf, Reordered.scopeIn, Reordered.rowIn, Reordered.constraintIn}
+use Rattle.order.specs.Reordered.{renamed, symmetryIn, reordered}
+use Rattle.model.proofs.Lists.{both-i, T-dec, T-of, of-not, T-ext, all-i, all-e, any-i, any-e, keep-i, keep-e, among-i, among-e, map-ext, below-i, below-e, length-below, at-below}
+use Rattle.model.proofs.Lists.{at-map, at-ext, mem-at, at-mem, same-eq, same-refl, Sorted, sorted-keep, sorted-below, sorted-ext, ascending-sorted}
+use Rattle.model.proofs.{Masks.least-at, Masks.least-below, Masks.least-is, Counting.distinct-below, Counting.no-more, Sets.members-e, Assignments.assign-i, Assignments.assign-e}
 use Rattle.model.proofs.Tree.{solution-i, solution-e}
 use Rattle.model.proofs.Pairs as P
 use Rattle.model.proofs.Symmetry as S
@@ -49,7 +39,8 @@ position-at l a i h =
 
 pub apart-distinct : (l : List ℕ) → Apart l → T (distinct l)
 apart-distinct l a =
-    subst (λ (m : List ℕ). T (distinct m)) (at-ext (map (at l) (below (length l))) l (length-below (at l) (length l)) (λ i h. at-below (at l) (length l) i (omega (arith, length-below (at l) (length l)))))
+    subst (λ (m : List ℕ). T (distinct m)) (at-ext (map (at l) (below (length l))) l (length-below (at l) (length l))
+    (λ i h. at-below (at l) (length l) i (omega (arith, length-below (at l) (length l)))))
     (distinct-below (at l) (length l) a)
 
 apart-map : (f : ℕ → ℕ) (l : List ℕ) → Apart l → ((x y : ℕ) → List·Memᴰ x l → List·Memᴰ y l → f x ≡ f y → x ≡ y) → Apart (map f l)
@@ -451,7 +442,8 @@ module _ (p : Problem) (order : List ℕ) (o : Ordering (p .variables) order) wh
     row-pairs : (P2 : Problem) (xs r : List ℕ) → Apart xs → length r ≡ length xs → pairsAt P2 xs r ≡ map (λ x. pair P2 x (valueOf xs r x)) xs
     row-pairs P2 xs r a e = ap (pairsAt P2 xs) (sym (row-values xs r a e)) ∙ pairsAt-map P2 (valueOf xs r) xs
 
-    excluded-from : (c : Constraint) (f : List ℕ) → List·Memᴰ c (p .constraints) → List·Memᴰ f (excluded (reordered order p) (constraintIn order c)) → (h : List ℕ) × List·Memᴰ h (forbidden p) × ((q : ℕ) → List·Memᴰ q h → List·Memᴰ q (map from f))
+    excluded-from : (c : Constraint) (f : List ℕ) → List·Memᴰ c (p .constraints) → List·Memᴰ f (excluded (reordered order p) (constraintIn order c)) → (h : List ℕ) × List·Memᴰ h (forbidden p) ×
+        ((q : ℕ) → List·Memᴰ q h → List·Memᴰ q (map from f))
     unfolding rowOut
     excluded-from c f m k =
         let g = w .constrained c m in
@@ -479,11 +471,13 @@ module _ (p : Problem) (order : List ℕ) (o : Ordering (p .variables) order) wh
               let small : valueOf ys′ vs (stand x) < d = P.init-lt p w x (valueOf ys′ vs (stand x)) l (members-e (at (p .initial) x) (valueOf ys′ vs (stand x)) (hold x (z .1)) .1) in
               let e : f ≡ map (λ i. pair p2 i (valueOf ys′ vs i)) ys′ = r .3 ∙ row-pairs p2 ys′ vs (sorted-apart ys′ (scope-sorted xs (g .inside) (g .ordered))) (D .0) in
               subst (λ (y : List ℕ). List·Memᴰ q (map from y)) (sym e)
-              (Memᴰ·cast (sym (z .2) ∙ ap (λ (y : ℕ). pair p y (valueOf ys′ vs (stand x))) (sym (place-stand x l)) ∙ sym (from-pair (stand x) (valueOf ys′ vs (stand x)) small) ∙ ap from (sym (pair-same (stand x) (valueOf ys′ vs (stand x)))))
+              (Memᴰ·cast (sym (z .2) ∙ ap (λ (y : ℕ). pair p y (valueOf ys′ vs (stand x))) (sym (place-stand x l)) ∙ sym (from-pair (stand x) (valueOf ys′ vs (stand x)) small) ∙ ap from
+              (sym (pair-same (stand x) (valueOf ys′ vs (stand x)))))
               (Memᴰ·map from (Memᴰ·map (λ i. pair p2 i (valueOf ys′ vs i)) (stand-in xs (g .inside) (g .ordered) x (z .1))))),
         )
 
-    excluded-into : (c : Constraint) (f : List ℕ) → List·Memᴰ c (p .constraints) → List·Memᴰ f (excluded p c) → (h : List ℕ) × List·Memᴰ h (forbidden (reordered order p)) × ((q : ℕ) → List·Memᴰ q h → List·Memᴰ q (map into f))
+    excluded-into : (c : Constraint) (f : List ℕ) → List·Memᴰ c (p .constraints) → List·Memᴰ f (excluded p c) → (h : List ℕ) × List·Memᴰ h (forbidden (reordered order p)) ×
+        ((q : ℕ) → List·Memᴰ q h → List·Memᴰ q (map into f))
     unfolding rowIn
     excluded-into c f m k =
         let g = w .constrained c m in
@@ -517,7 +511,8 @@ module _ (p : Problem) (order : List ℕ) (o : Ordering (p .variables) order) wh
     forbidden-from f m =
         ⊎-elim {C = (h : List ℕ) × List·Memᴰ h (forbidden p) × ((q : ℕ) → List·Memᴰ q h → List·Memᴰ q (map from f))}
         (λ k. doubled-from (k .0) f (k .1) (k .2))
-        (λ k. let c = Memᴰ·of-map (constraintIn order) (p .constraints) (k .1) in excluded-from (c .0) f (c .1) (subst (λ (z : Constraint). List·Memᴰ f (excluded (reordered order p) z)) (sym (c .2)) (k .2)))
+        (λ k. let c = Memᴰ·of-map (constraintIn order) (p .constraints) (k .1) in excluded-from (c .0) f (c .1)
+        (subst (λ (z : Constraint). List·Memᴰ f (excluded (reordered order p) z)) (sym (c .2)) (k .2)))
         (P.forbidden-e (reordered order p) f m)
 
     forbidden-into : (f : List ℕ) → List·Memᴰ f (forbidden p) → (h : List ℕ) × List·Memᴰ h (forbidden (reordered order p)) × ((q : ℕ) → List·Memᴰ q h → List·Memᴰ q (map into f))
@@ -552,7 +547,8 @@ module _ (p : Problem) (order : List ℕ) (o : Ordering (p .variables) order) wh
             let l = scope-e (c .scope) (g .inside) (g .ordered) (z .0) (z .1) in
             let v = valueOf ys′ (r .0) (z .0) in
             subst (λ (y : ℕ). y < size) (sym (pair-same (z .0) v) ∙ z .2)
-            (P.pair-lt p w (z .0) v (l .0) (P.init-lt p w (place (z .0)) v (place-lt (z .0) (l .0)) (subst (λ (s : ℕ). T (has s v)) (set-at (z .0) (l .0)) (members-e (at (read order (p .initial)) (z .0)) v (D .1 (z .0) (z .1)) .1))))
+            (P.pair-lt p w (z .0) v (l .0) (P.init-lt p w (place (z .0)) v (place-lt (z .0) (l .0))
+            (subst (λ (s : ℕ). T (has s v)) (set-at (z .0) (l .0)) (members-e (at (read order (p .initial)) (z .0)) v (D .1 (z .0) (z .1)) .1))))
 
     -- ---- symmetries
     module _ (g : List ℕ) (good : GoodSymmetry p g) where
@@ -704,4 +700,7 @@ module _ (p : Problem) (order : List ℕ) (o : Ordering (p .variables) order) wh
 
     -- and its symmetries go on respecting it
     pub respected-reordered : Respected p → Respected (reordered order p)
-    respected-reordered q = record { respectful = λ g m. let r = Memᴰ·of-map (symmetryIn order p) (p .symmetries) m in subst (λ (h : List ℕ). T (respects (reordered order p) h)) (r .2) (table-respects (r .0) (w .symmetric (r .0) (r .1)) (q .respectful (r .0) (r .1))) }
+    respected-reordered q = record {
+      respectful = λ g m. let r = Memᴰ·of-map (symmetryIn order p) (p .symmetries) m in subst (λ (h : List ℕ). T (respects (reordered order p) h)) (r .2)
+          (table-respects (r .0) (w .symmetric (r .0) (r .1)) (q .respectful (r .0) (r .1)));
+    }

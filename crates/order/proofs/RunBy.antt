@@ -1,28 +1,17 @@
 -- The run of any well-formed problem in any order (specs/RunBy): what it lists, its leaders, chains and counts. Assumes nothing.
-use mathlib.Core.Path.{_≡_, refl, sym, ap, ap₂, _∙_, subst}
-use mathlib.Core.Bool.{Bool, true, false}
-use mathlib.Core.Logic.{_↔_, ∥∥₁-elim, ∥∥₁-map}
-use mathlib.Core.List.{List, [], _∷_, map, List·Memᴰ, List·Memᴰ·head, List·Memᴰ·tail, List·Memᴰ·not-nil, Memᴰ·cast, Memᴰ·map, Memᴰ·of-map, Sublistᴰ, Sublistᴰ·slnil, Sublistᴰ·cons, Sublistᴰ·cons-cons}
-use Prim.Native.Nat.{ℕ, zero, suc, _≤_, _<_}
-use native.Mathlib.Omega.{arith}
-use lib.Dec.{T, T-prop}
-use lib.ListN.{length, take, length-map}
-use Rattle.model.specs.Lists.{keep, below, at, earlier, rowsAscend, total}
-use Rattle.model.specs.Problem.{Problem, pair, isSolution, assignments, withSymmetries}
-use Rattle.model.specs.Search.{nodes}
-use Rattle.model.specs.Run.{Ending, finished, plansIn, nodesIn, resultOf, settledBy, countsBy}
-use Rattle.model.specs.Claims.{Leader, isLeader, leaders, Chain, CountsAt}
-use Rattle.order.specs.Order.{Ordering}
-use Rattle.order.specs.Reordered.{read, write, earlierBy, renamed, symmetryIn, reordered}
-use Rattle.order.specs.RunBy.{resultBy, leadersBy, placeCounts}
-use Rattle.model.specs.WellFormed.{WellFormed, Respected}
-use Rattle.model.proofs.Lists.{both-l, T-ext, keep-i, keep-e, sorted-keep, rowsAscend-of, mem-at}
-use Rattle.model.proofs.Assignments.{assignments-sorted, assign-e}
-use Rattle.model.proofs.Tree.{solution-e, plans-of-tree, well-sized}
-use Rattle.model.proofs.Leaders.{sol-drawn, leader-e, leader-i}
-use Rattle.model.proofs.More.{FewerIn}
-use Rattle.model.proofs.Demands.{same-test}
-use Rattle.model.proofs.Tally.{length-counts, counts-total, counts-none, counts-ext, settled-few}
+use Rattle.model.specs.Kit.{_≡_, refl, sym, ap, ap₂, _∙_, subst, Bool, true, false, _↔_, List, [], _∷_, map, List·Memᴰ, List·Memᴰ·head, List·Memᴰ·tail, List·Memᴰ·not-nil}
+use Rattle.model.specs.Kit.{Memᴰ·cast, Memᴰ·map, Memᴰ·of-map, ℕ, zero, suc, _≤_, _<_, arith, T, length, take, length-map}
+use mathlib.Core.Logic.{∥∥₁-elim, ∥∥₁-map}
+use mathlib.Core.List.{Sublistᴰ, Sublistᴰ·slnil, Sublistᴰ·cons, Sublistᴰ·cons-cons}
+use lib.Dec.{T-prop}
+use Rattle.model.specs.{Lists.keep, Lists.below, Lists.at, Lists.earlier, Lists.rowsAscend, Lists.total, Problem.Problem, Problem.pair, Problem.isSolution, Problem.assignments}
+use Rattle.model.specs.{Problem.withSymmetries, Search.nodes, Run.Ending, Run.finished, Run.plansIn, Run.nodesIn, Run.resultOf, Run.settledBy, Run.countsBy, Claims.Leader}
+use Rattle.model.specs.{Claims.isLeader, Claims.leaders, Claims.Chain, Claims.CountsAt, WellFormed.WellFormed, WellFormed.Respected}
+use Rattle.order.specs.{Order.Ordering, Reordered.read, Reordered.write, Reordered.earlierBy, Reordered.renamed, Reordered.symmetryIn, Reordered.reordered, RunBy.resultBy}
+use Rattle.order.specs.RunBy.{leadersBy, placeCounts}
+use Rattle.model.proofs.{Lists.both-l, Lists.T-ext, Lists.keep-i, Lists.keep-e, Lists.sorted-keep, Lists.rowsAscend-of, Lists.mem-at, Assignments.assignments-sorted}
+use Rattle.model.proofs.{Assignments.assign-e, Tree.solution-e, Tree.plans-of-tree, Tree.well-sized, Leaders.sol-drawn, Leaders.leader-e, Leaders.leader-i, More.FewerIn}
+use Rattle.model.proofs.{Demands.same-test, Tally.length-counts, Tally.counts-total, Tally.counts-none, Tally.counts-ext, Tally.settled-few}
 use Rattle.order.proofs.Reordered as O
 use Rattle.order.proofs.LeadersBy as L
 use Rattle.model.proofs.More as M
@@ -150,7 +139,8 @@ fewer-by p order gs w o h =
     (λ g m. let r = Memᴰ·of-map (symmetryIn order p) (p .symmetries) m in Memᴰ·cast (sym (r .2)) (Memᴰ·map (symmetryIn order (withSymmetries p gs)) (h (r .0) (r .1))))
 
 -- ---- the order 0, 1, .. changes nothing
-pub same-result : (p : Problem) → WellFormed p → (limit room : ℕ) → (resultBy (below (p .variables)) p limit room .ending ≡ resultOf p limit room .ending) × (resultBy (below (p .variables)) p limit room .rows ≡ resultOf p limit room .rows)
+pub same-result : (p : Problem) → WellFormed p → (limit room : ℕ) → (resultBy (below (p .variables)) p limit room .ending ≡ resultOf p limit room .ending) ×
+    (resultBy (below (p .variables)) p limit room .rows ≡ resultOf p limit room .rows)
 unfolding resultBy
 same-result p w limit room =
     let e = L.reordered-below p w in (

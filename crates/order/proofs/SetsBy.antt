@@ -1,38 +1,21 @@
 -- The sets at a prefix of the reordered problem, written by place number, are the largest in paper 01's words (model's Largest). Assumes nothing.
-use mathlib.Core.Path.{_≡_, refl, sym, ap, ap₂, _∙_, subst, subst₂}
-use mathlib.Core.Bool.{Bool, true, false, not}
-use mathlib.Core.Logic.{_⊎_, ⊎-elim}
-use mathlib.Core.List.{List, [], _∷_, _++_, map, List·Memᴰ, List·Memᴰ·head, List·Memᴰ·tail, List·Memᴰ·not-nil, List·Memᴰ·cases-cons, List·Memᴰ·append-cases, List·Memᴰ·eq-of-singleton, Memᴰ·map, Memᴰ·of-map}
-use Prim.Native.Nat.{ℕ, _/_, _%_, _^_, _≤_, _<_}
-use native.Mathlib.Omega.{arith}
-use lib.Dec.{T, T-not, ltb, eqb, eqb→eq}
-use lib.ListN.{length, replicate, length-replicate}
-use borrow.Author.Tests.{ltb-true, ltb-false, eq-eqb}
-use Rattle.model.specs.Lists.{both, any, keep, flat, below, at}
-use Rattle.model.specs.ValueSets.{has, members, anyEmpty}
-use Rattle.model.specs.Problem.{Problem, Constraint, pair, assignments}
-use Rattle.model.specs.Nogood.{Entry, equality, disequality, is, obeysFrom, obeys, filtered}
-use Rattle.model.specs.Search.{entriesOf, rowWith, setsAt, isLive}
-use Rattle.model.specs.Claims.{nogoodsIn, Consistent, Largest}
-use Rattle.order.specs.Order.{Ordering}
-use Rattle.order.specs.Reordered.{position, read, write, valueOf, scopeIn, rowIn, constraintIn, renamed, symmetryIn, reordered}
-use Rattle.order.specs.RunBy.{setsBy, isLiveBy}
-use Rattle.model.specs.WellFormed.{WellFormed, GoodConstraint, GoodSymmetry}
-use Rattle.model.proofs.Lists.{both-i, both-l, both-r, T-of, stable, not-of, of-not, any-i, any-e, keep-e, flat-e, map-append, map-ext, map-flat-map, below-e, at-ext, at-out, getD-at, at-replicate, ascending-sorted}
-use Rattle.model.proofs.Sets.{inside-antisym, has-at-lt, member, empty-i, empty-e, members-e}
-use Rattle.model.specs.Pruning.{Sets}
-use Rattle.model.proofs.Assignments.{assign-i, assign-e}
-use Rattle.model.proofs.Filter.{length-filtered, filtered-sets, filtered-i, filtered-e}
-use Rattle.model.proofs.Prune.{Sized}
-use Rattle.model.proofs.Consistent.{live-consistent, consistent-inside, dead-none, dead-empty}
-use Rattle.model.proofs.Tree.{well-sized}
-use Rattle.model.proofs.Pairs as P
+use Rattle.model.specs.Kit.{_≡_, refl, sym, ap, ap₂, _∙_, subst, subst₂, Bool, true, false, not, _⊎_, ⊎-elim, List, [], _∷_, _++_, map, List·Memᴰ, List·Memᴰ·head, List·Memᴰ·tail}
+use Rattle.model.specs.Kit.{List·Memᴰ·not-nil, List·Memᴰ·cases-cons, Memᴰ·map, Memᴰ·of-map, ℕ, _/_, _%_, _^_, _≤_, _<_, arith, T, T-not, ltb, eqb, eqb→eq, length, replicate}
+use Rattle.model.specs.Kit.{length-replicate, ltb-true, ltb-false, eq-eqb}
+use mathlib.Core.List.{List·Memᴰ·append-cases, List·Memᴰ·eq-of-singleton}
+use Rattle.model.specs.{Lists.both, Lists.any, Lists.keep, Lists.flat, Lists.below, Lists.at, ValueSets.has, ValueSets.members, ValueSets.anyEmpty, Problem.Problem}
+use Rattle.model.specs.{Problem.Constraint, Problem.pair, Problem.assignments, Nogood.Entry, Nogood.equality, Nogood.disequality, Nogood.is, Nogood.obeysFrom, Nogood.obeys}
+use Rattle.model.specs.{Nogood.filtered, Search.entriesOf, Search.rowWith, Search.setsAt, Search.isLive, Claims.nogoodsIn, Claims.Consistent, Claims.Largest, WellFormed.WellFormed}
+use Rattle.model.specs.{WellFormed.GoodConstraint, WellFormed.GoodSymmetry, inner.Pruning.Sets}
+use Rattle.order.specs.{Order.Ordering, Reordered.position, Reordered.read, Reordered.write, Reordered.valueOf, Reordered.scopeIn, Reordered.rowIn, Reordered.constraintIn}
+use Rattle.order.specs.{Reordered.renamed, Reordered.symmetryIn, Reordered.reordered, RunBy.setsBy, RunBy.isLiveBy}
+use Rattle.model.proofs.Lists.{both-i, both-l, both-r, T-of, stable, not-of, of-not, any-i, any-e, keep-e, flat-e, map-append, map-ext, map-flat-map, below-e, at-ext, at-out}
+use Rattle.model.proofs.{Lists.getD-at, Lists.at-replicate, Lists.ascending-sorted, Lists.map-map, Sets.inside-antisym, Sets.has-at-lt, Sets.member, Sets.empty-i, Sets.empty-e}
+use Rattle.model.proofs.{Sets.members-e, Assignments.assign-i, Assignments.assign-e, Filter.length-filtered, Filter.filtered-sets, Filter.filtered-i, Filter.filtered-e}
+use Rattle.model.proofs.{Prune.Sized, Consistent.live-consistent, Consistent.consistent-inside, Consistent.dead-none, Consistent.dead-empty, Tree.well-sized}
 use Rattle.order.proofs.Reordered.{row-values, sorted-apart}
+use Rattle.model.proofs.Pairs as P
 use Rattle.order.proofs.Reordered as O
-
-map-map : {A B C : Type 0} (f : B → C) (g : A → B) (l : List A) → map f (map g l) ≡ map (λ x. f (g x)) l
-map-map f g [] = refl
-map-map {C} f g (x ∷ l) = ap (λ (r : List C). f (g x) ∷ r) (map-map f g l)
 
 -- ---- a row inside the sets, by the values of its variables
 module _ (ds : List ℕ) (x v : ℕ) (f : ℕ → ℕ) where
@@ -64,7 +47,11 @@ module _ (ds : List ℕ) (x v : ℕ) (f : ℕ → ℕ) where
       let c : Bool = elim (eqb x z) [ true ↦ eqb v (f z) | false ↦ true ] in
       let r = both-r (has (at ds z) (f z)) (both c (rowWith ds x v xs (map f xs))) t in
       ⊎-elim {C = Fits y}
-      (λ e. subst Fits (sym e) (both-l (has (at ds z) (f z)) (both c (rowWith ds x v xs (map f xs))) t, λ q. eqb→eq v (f z) (guard-e (eqb x z) (eqb v (f z)) (both-l c (rowWith ds x v xs (map f xs)) r) (T-of (eqb x z) (eq-eqb x z q)))))
+      (λ e. subst Fits (sym e) (
+        both-l (has (at ds z) (f z)) (both c (rowWith ds x v xs (map f xs))) t,
+        λ q. eqb→eq v (f z)
+            (guard-e (eqb x z) (eqb v (f z)) (both-l c (rowWith ds x v xs (map f xs)) r) (T-of (eqb x z) (eq-eqb x z q))),
+      ))
       (rowWith-e xs (both-r c (rowWith ds x v xs (map f xs)) r) y) (List·Memᴰ·cases-cons m)
 
 -- ---- entries with their variables renamed
@@ -96,13 +83,15 @@ module _ (p : Problem) (order : List ℕ) (o : Ordering (p .variables) order) (w
   is-read a e x v h =
       let l = O.stand-lt p order o x h in
       ap (λ (z : ℕ). eqb z v)
-      (getD-at (read order a) (stand x) 16 (omega (arith, O.read-length p order o a)) ∙ O.read-at p order o a (stand x) l ∙ ap (at a) (O.place-stand p order o x h) ∙ sym (getD-at a x 16 (omega arith)))
+      (getD-at (read order a) (stand x) 16 (omega (arith, O.read-length p order o a)) ∙ O.read-at p order o a (stand x) l ∙ ap (at a) (O.place-stand p order o x h) ∙ sym
+      (getD-at a x 16 (omega arith)))
 
   obeys-read : (a : List ℕ) → length a ≡ n → (es : List Entry) → ((e : Entry) → List·Memᴰ e es → varOf e < n) → (held : Bool) → obeysFrom held (read order a) (map (ren stand) es) ≡ obeysFrom held a es
   unfolding obeysFrom ren varOf
   obeys-read a l [] h held = refl
   obeys-read a l (equality x v ∷ es) h held =
-      obeys-read a l es (λ e m. h e (List·Memᴰ·tail m)) (both held (is (read order a) (stand x) v)) ∙ ap (λ (b : Bool). obeysFrom (both held b) a es) (is-read a l x v (h (equality x v) (List·Memᴰ·head refl)))
+      obeys-read a l es (λ e m. h e (List·Memᴰ·tail m)) (both held (is (read order a) (stand x) v)) ∙ ap (λ (b : Bool). obeysFrom (both held b) a es)
+      (is-read a l x v (h (equality x v) (List·Memᴰ·head refl)))
   obeys-read a l (disequality x v ∷ es) h held =
       ap₂ both (ap (λ (b : Bool). not (both held b)) (is-read a l x v (h (disequality x v) (List·Memᴰ·head refl)))) (obeys-read a l es (λ e m. h e (List·Memᴰ·tail m)) held)
 
@@ -337,7 +326,8 @@ module _ (p : Problem) (order : List ℕ) (o : Ordering (p .variables) order) (w
               (subst (Consistent (λ x. x) p2 prefix) (sym (O.read-write p order o (setsAt p2 prefix) (c .sized))) c),
           λ es k x v q. let l : x < n = subst (λ (m : ℕ). x < m) (k .sized) (has-at-lt es x v q) in
               subst (λ (z : ℕ). T (has z v)) (sym (O.write-at p order o (setsAt p2 prefix) x l))
-              (consistent-inside p2 prefix s t (read order es) (consistent-read prefix short small es k) (stand x) v (has-read es (stand x) v (O.stand-lt p order o x l) (subst (λ (z : ℕ). T (has (at es z) v)) (sym (O.place-stand p order o x l)) q))),
+              (consistent-inside p2 prefix s t (read order es) (consistent-read prefix short small es k) (stand x) v
+              (has-read es (stand x) v (O.stand-lt p order o x l) (subst (λ (z : ℕ). T (has (at es z) v)) (sym (O.place-stand p order o x l)) q))),
         ),
     λ e. let q = dead-none p2 prefix s e in (
       at-ext (write order (setsAt p2 prefix)) (replicate n 0) (O.write-length p order o (setsAt p2 prefix) ∙ sym (length-replicate n 0))

@@ -1,10 +1,5 @@
 -- What paper 02, #108, asks of the pairs' questions and of the settling order. The proofs are in proofs/Order.antt.
-use mathlib.Core.Path.{_≡_}
-use mathlib.Core.Logic.{_↔_}
-use mathlib.Core.List.{List, [], _∷_, List·Memᴰ}
-use Prim.Native.Nat.{ℕ, _%_, _≤_, _<_}
-use lib.ListN.{length}
-use lib.Dec.{T}
+use Rattle.model.specs.Kit.{_≡_, _↔_, List, [], _∷_, List·Memᴰ, ℕ, _%_, _≤_, _<_, length, T}
 use Rattle.model.specs.Verdict.{Verdict, accepted, refused, isAccepted}
 use Rattle.order.specs.Order.{Before, Circle, settlingOrder, orderVerdict, Settling}
 

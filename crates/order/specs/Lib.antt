@@ -4,4 +4,4 @@ pub mod Claims
 pub mod Reordered
 pub mod RunBy
 pub mod Demanded
-pub mod Settled
+pub mod inner

@@ -1,15 +1,7 @@
 -- Pairs "this place before that place": the settling order, and the questions 28 to 30 (paper 02, request 108).
 -- The pairs are lent as bytes: the two places of the first pair, those of the second, ..
-use mathlib.Core.Path.{_≡_}
-use mathlib.Core.Bool.{Bool, false, not}
-use mathlib.Core.List.{List, [], _∷_, _++_, map, List·Memᴰ}
-use Prim.Native.Nat.{ℕ, zero, suc, _%_, _<_}
-use lib.ListN.{length, take}
-use lib.Dec.{T, leb, ltb, eqb}
-use Rattle.model.specs.Lists.{all, any, at, keep, both}
-use Rattle.model.specs.ValueSets.{least}
-use Rattle.model.specs.Problem.{within}
-use Rattle.model.specs.Verdict.{Verdict, ask}
+use Rattle.model.specs.Kit.{_≡_, Bool, false, not, List, [], _∷_, _++_, map, List·Memᴰ, ℕ, zero, suc, _%_, _<_, length, take, T, leb, ltb, eqb}
+use Rattle.model.specs.{Lists.all, Lists.any, Lists.at, Lists.keep, Lists.both, ValueSets.least, Problem.within, Verdict.Verdict, Verdict.ask}
 
 -- ---- the pairs
 unfoldable pub pairsIn : List ℕ → List (ℕ × ℕ)

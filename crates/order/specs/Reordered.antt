@@ -1,13 +1,7 @@
 -- A problem with its variables in another order: variable i of `reordered order p` is variable order[i] of p (paper 02, request 108).
 -- Prefixes, nodes, sets and counts of a run that is lent pairs are those of the reordered problem; rows are written by place number.
-use mathlib.Core.Bool.{Bool}
-use mathlib.Core.List.{List, map}
-use Prim.Native.Nat.{ℕ, _*_, _/_, _%_}
-use lib.ListN.{length}
-use lib.Dec.{eqb}
-use Rattle.model.specs.Lists.{any, keep, below, at, earlier}
-use Rattle.model.specs.ValueSets.{least}
-use Rattle.model.specs.Problem.{Problem, Constraint, pair}
+use Rattle.model.specs.Kit.{Bool, List, map, ℕ, _*_, _/_, _%_, length, eqb}
+use Rattle.model.specs.{Lists.any, Lists.keep, Lists.below, Lists.at, Lists.earlier, ValueSets.least, Problem.Problem, Problem.Constraint, Problem.pair}
 
 -- where x stands in a list: the first index (the length where it does not stand there)
 unfoldable pub position : List ℕ → ℕ → ℕ

@@ -7,7 +7,7 @@ ghost use lib.ListN.{length};
 ghost use Rattle.model.specs.Lists.{all, at};
 ghost use Rattle.model.specs.ValueSets.{has, least};
 ghost use Rattle.order.specs.Order.{canFollow};
-ghost use Rattle.order.specs.Settled.{Holds, Befores, Settled, Ordered};
+ghost use Rattle.order.specs.inner.Settled.{Holds, Befores, Settled, Ordered};
 
 // The member test of a set of places.
 fn contains(s: u64, x: usize) -> bool

@@ -47,7 +47,8 @@ pub extern "C" fn planner_desk_leave(
     room: &mut [u8],
     answer: &mut [u8],
 ) -> u32
-    ensures { λ r. ⌜ CallRelease (now (desk .entry)) seat (now (room .entry)) (now (answer .entry)) r (now (desk .exit)) (now (room .exit)) (now (answer .exit)) ⌝ }
+    ensures { λ r. ⌜ CallRelease (now (desk .entry)) seat (now (room .entry)) (now (answer .entry)) r (now (desk .exit)) (now (room .exit))
+        (now (answer .exit)) ⌝ }
 {
     export_desk::release(desk, seat, room, answer)
 }

@@ -36,7 +36,8 @@ pub extern "C" fn planner_merge<'a>(
     out: &mut [u8],
     answer: &mut [u8],
 ) -> u32
-    ensures { λ r. ⌜ CallMerged variables (now (pairs .entry)) (now (first .entry)) (now (second .entry)) (now (out .entry)) (now (answer .entry)) r (now (out .exit)) (now (answer .exit)) ⌝ }
+    ensures { λ r. ⌜ CallMerged variables (now (pairs .entry)) (now (first .entry)) (now (second .entry)) (now (out .entry)) (now (answer .entry)) r
+        (now (out .exit)) (now (answer .exit)) ⌝ }
 {
     export_merge::merge(variables, pairs, first, second, out, answer)
 }

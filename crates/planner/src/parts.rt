@@ -14,7 +14,8 @@ pub extern "C" fn planner_run_part(
     list: &mut [u8],
     answer: &mut [u8],
 ) -> u32
-    ensures { λ r. ⌜ CallPartBytes (now (sheet .entry)) (now (pairs .entry)) (now (block .entry)) (now (from .entry)) (now (upto .entry)) limit (now (list .entry)) (now (answer .entry)) r (now (list .exit)) (now (answer .exit)) ⌝ }
+    ensures { λ r. ⌜ CallPartBytes (now (sheet .entry)) (now (pairs .entry)) (now (block .entry)) (now (from .entry)) (now (upto .entry)) limit
+        (now (list .entry)) (now (answer .entry)) r (now (list .exit)) (now (answer .exit)) ⌝ }
 {
     export_parts::parts::run_part(sheet, pairs, block, from, upto, limit, list, answer)
 }

@@ -39,7 +39,8 @@ pub extern "C" fn planner_run_lent(
     list: &mut [u8],
     answer: &mut [u8],
 ) -> u32
-    ensures { λ r. ⌜ CallRunBytes (now (sheet .entry)) (now (pairs .entry)) (now (block .entry)) limit (now (list .entry)) (now (answer .entry)) r (now (list .exit)) (now (answer .exit)) ⌝ }
+    ensures { λ r. ⌜ CallRunBytes (now (sheet .entry)) (now (pairs .entry)) (now (block .entry)) limit (now (list .entry)) (now (answer .entry)) r
+        (now (list .exit)) (now (answer .exit)) ⌝ }
 {
     export_lent::run_lent(sheet, pairs, block, limit, list, answer)
 }

@@ -1,32 +1,18 @@
 -- The demands, of what `run`, `run_with` and `run_lent` answer, write and count: from their contracts and order's theorems about the definitions. Assumes nothing.
-use mathlib.Core.Path.{_≡_, refl, sym, ap, _∙_, subst, subst₂}
-use mathlib.Core.Logic.{_↔_}
-use mathlib.Core.List.{List, [], map, List·Memᴰ, Sublistᴰ}
-use Prim.Native.Nat.{ℕ, _*_}
-use native.Mathlib.Omega.{arith}
-use lib.Dec.{T}
-use lib.ListN.{drop}
-use Rattle.model.specs.Lists.{rowsAscend}
-use Rattle.model.specs.Problem.{isSolution}
-use Rattle.model.specs.Run.{ended, refusal, plansIn, listedPlans}
-use Rattle.model.specs.Run as Run
-use Rattle.model.specs.Claims.{Chain}
+use Rattle.model.specs.Kit.{_≡_, refl, sym, ap, _∙_, subst, subst₂, _↔_, List, [], map, List·Memᴰ, ℕ, _*_, arith, T, drop}
+use mathlib.Core.List.{Sublistᴰ}
+use Rattle.model.specs.{Lists.rowsAscend, Problem.isSolution, Run.ended, Run.refusal, Run.plansIn, Run.listedPlans, Claims.Chain}
 use Rattle.model.proofs.Lists.{rowsAscend-take}
-use Rattle.order.specs.Reordered.{read, earlierBy}
-use Rattle.order.specs.RunBy.{Input, sheetInput, placeTally, leadersBy, answerBy, listBy, talliedBy}
+use Rattle.order.specs.{Reordered.read, Reordered.earlierBy, RunBy.Input, RunBy.sheetInput, RunBy.placeTally, RunBy.leadersBy, RunBy.answerBy, RunBy.listBy, RunBy.talliedBy}
 use Rattle.order.specs.Demanded.{Tallied, Demanded, Fewer}
-use Rattle.order.proofs.RunBy.{take-map}
-use Rattle.order.proofs.Demanded.{ran-by, demanded-sheet, fewer-sheet, sheet-run}
+use Rattle.order.proofs.{RunBy.take-map, Demanded.ran-by, Demanded.demanded-sheet, Demanded.fewer-sheet, Demanded.sheet-run}
 use Rattle.run_input.specs.Lent.{lentInput}
 use Rattle.run_input.proofs.Lent.{demanded-lent, fewer-lent}
-use Rattle.run_state.specs.Meaning.{tallyIn, endingOf}
-use Rattle.run.specs.Meaning.{means}
-use Rattle.run_state.specs.declared.Tally.{Tally}
-use Rattle.run_state.specs.declared.Ending.{Ending}
-use Rattle.run_state.specs.declared.Ending.the-variants.{Finished, Spent, Full}
-use Rattle.run.specs.declared.Answer.{Answer}
-use Rattle.run.specs.declared.Answer.the-variants.{Refused, Ended}
+use Rattle.run_state.specs.{Meaning.tallyIn, Meaning.endingOf, declared.Tally.Tally, declared.Ending.Ending, declared.Ending.the-variants.Finished}
+use Rattle.run_state.specs.declared.Ending.the-variants.{Spent, Full}
+use Rattle.run.specs.{Meaning.means, declared.Answer.Answer, declared.Answer.the-variants.Refused, declared.Answer.the-variants.Ended}
 use Rattle.promises.specs.Demands.{AtEnd, AtFinish, Demands, TallyHeld, MoreHeld, Run-demands, Tally-demands, Lent-demands, More-demands, More-demands-lent}
+use Rattle.model.specs.Run as Run
 
 -- ---- an answer is known by what it means
 pub is-refused : (r : Answer) (number item : ℕ) → means r ≡ refusal number item → r ≡ Refused number item
@@ -77,7 +63,8 @@ module _ (i : Input) (d : Demanded i) (limit : ℕ) (out : List ℕ) (r : Answer
       record {
         all-leaders = sym (listed plans) ∙ d .lists-leaders limit out plans nodes a;
         chains = λ s l.
-            subst (λ (ls : List (List ℕ)). T (isSolution (i .problem) s) ↔ ∥ ((x : List ℕ) × List·Memᴰ x ls × Chain (earlierBy (i .order)) (i .problem) x s) ∥₁) (listed plans) (d .chains limit out plans nodes a s l);
+            subst (λ (ls : List (List ℕ)). T (isSolution (i .problem) s) ↔ ∥ ((x : List ℕ) × List·Memᴰ x ls × Chain (earlierBy (i .order)) (i .problem) x s) ∥₁) (listed plans)
+            (d .chains limit out plans nodes a s l);
         nothing = d .nothing-listed limit out plans nodes a;
       }
 

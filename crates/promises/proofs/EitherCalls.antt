@@ -1,49 +1,24 @@
 -- Two runs and the merge of their lists (specs/EitherCalls). Assumes nothing.
-use mathlib.Core.Path.{_≡_, refl, sym, ap, ap₂, _∙_, subst}
-use mathlib.Core.Bool.{Bool, true, false}
-use mathlib.Core.Logic.{_⊎_, inl, inr, _↔_}
-use mathlib.Core.List.{List, List·Memᴰ}
-use Prim.Native.Nat.{ℕ, _+_, _*_, _%_, _≤_}
+use Rattle.model.specs.Kit.{_≡_, refl, sym, ap, ap₂, _∙_, subst, Bool, true, false, _⊎_, inl, inr, _↔_, List, List·Memᴰ, ℕ, _+_, _*_, _%_, _≤_, arith, T, leb, ltb, eqb, length}
+use Rattle.model.specs.Kit.{take, drop, le-leb, eq-eqb}
 use native.Mathlib.Nat.{mul-mod-left}
-use native.Mathlib.Omega.{arith}
-use lib.Dec.{T, leb, ltb, eqb}
-use lib.ListN.{length, take, drop}
 use lib.Seq.{take-at, drop-at}
-use borrow.Author.Tests.{le-leb, eq-eqb}
-use Rattle.model.specs.Lists.{both, all, flat}
-use Rattle.model.specs.Sheet.{problemOf, verdictOf}
-use Rattle.model.specs.Verdict.{Verdict, accepted, ask, isAccepted}
-use Rattle.model.specs.Room.{wrote, refusal, outcomeOf, roomAfter, rowsIn}
-use Rattle.model.specs.Run.{written}
-use Rattle.model.proofs.Lists.{of-T}
-use Rattle.model.proofs.Accepted.{asked}
-use Rattle.model.proofs.Demands.{read-back}
-use Rattle.model.proofs.Room.{Wide, length-flat, length-listed, rows-back, rows-wide}
-use Rattle.order.specs.Order.{settlingOrder, settlesAll, orderVerdict, Ordering}
-use Rattle.model.specs.Claims.{Leader}
-use Rattle.order.specs.Reordered.{earlierBy}
-use Rattle.order.specs.RunBy.{resultBy, leadersBy}
+use Rattle.model.specs.{Lists.both, Lists.all, Lists.flat, Sheet.problemOf, Sheet.verdictOf, Verdict.Verdict, Verdict.accepted, Verdict.ask, Verdict.isAccepted, Room.wrote}
+use Rattle.model.specs.{Room.refusal, Room.outcomeOf, Room.roomAfter, Room.rowsIn, Run.written, Claims.Leader}
+use Rattle.model.proofs.{Lists.of-T, Accepted.asked, Accepted.is-accepted, Demands.read-back, Room.Wide, Room.length-flat, Room.length-listed, Room.rows-back, Room.rows-wide}
+use Rattle.order.specs.{Order.settlingOrder, Order.settlesAll, Order.orderVerdict, Order.Ordering, Reordered.earlierBy, RunBy.resultBy, RunBy.leadersBy}
 use Rattle.order.proofs.Demanded.{RanBy, ran-by}
-use Rattle.order.proofs.Demanded as D
 use Rattle.block.specs.Block.{blockLent}
 use Rattle.run_input.specs.Lent.{verdictLent, problemWith, orderLent, lentInput}
-use Rattle.run_input.proofs.Lent as L
-use Rattle.list_merge.specs.Merge.{ascends, mergedBy, merged, wholeLists, orderedVerdict, mergeVerdict}
-use Rattle.list_merge.specs.Meaning.{means}
-use Rattle.list_merge.specs.Calls.{CallMerge}
-use Rattle.list_merge.specs.declared.Answer.{Answer}
-use Rattle.list_merge.specs.declared.Answer.the-variants.{Written, Refused}
-use Rattle.list_merge.proofs.Asking.{union-length}
-use Rattle.list_merge.proofs.Claimed.{holds-by, ascends-by}
-use Rattle.run_state.specs.declared.Tally.{Tally}
-use Rattle.run_state.specs.Meaning.{endingOf}
-use Rattle.run.specs.Calls.{CallLent}
-use Rattle.promises.specs.Demands.{plansFrom}
-use Rattle.run_state.specs.declared.Ending.{Ending}
-use Rattle.run_state.specs.declared.Ending.the-variants.{Finished}
-use Rattle.run.specs.declared.Answer.the-variants.{Ended}
+use Rattle.list_merge.specs.{Merge.ascends, Merge.mergedBy, Merge.merged, Merge.wholeLists, Merge.orderedVerdict, Merge.mergeVerdict, Meaning.means, Calls.CallMerge}
+use Rattle.list_merge.specs.{declared.Answer.Answer, declared.Answer.the-variants.Written, declared.Answer.the-variants.Refused}
+use Rattle.list_merge.proofs.{Asking.union-length, Claimed.holds-by, Claimed.ascends-by}
+use Rattle.run_state.specs.{declared.Tally.Tally, Meaning.endingOf, declared.Ending.Ending, declared.Ending.the-variants.Finished}
+use Rattle.run.specs.{Calls.CallLent, declared.Answer.the-variants.Ended}
+use Rattle.promises.specs.{Demands.plansFrom, EitherCalls.plansOf, EitherCalls.plansBytes, EitherCalls.InMerged, EitherCalls.Either-calls}
 use Rattle.promises.proofs.Demands.{demands-lent}
-use Rattle.promises.specs.EitherCalls.{plansOf, plansBytes, InMerged, Either-calls}
+use Rattle.order.proofs.Demanded as D
+use Rattle.run_input.proofs.Lent as L
 
 ⊎-map : {A B C D : Type 0} → (A → C) → (B → D) → A ⊎ B → C ⊎ D
 ⊎-map f g (inl a) = inl (f a)
@@ -66,7 +41,8 @@ order-other n pairs v w t =
     let q28 = asked c28 28 0 (ask c29 29 0 (ask c30 30 0 v)) t in
     let q29 = asked c29 29 0 (ask c30 30 0 v) (q28 .1) in
     let q30 = asked c30 30 0 v (q29 .1) in
-    ap (λ (x : Bool). ask x 28 0 (ask c29 29 0 (ask c30 30 0 w))) (of-T c28 (q28 .0)) ∙ ap (λ (x : Bool). ask x 29 0 (ask c30 30 0 w)) (of-T c29 (q29 .0)) ∙ ap (λ (x : Bool). ask x 30 0 w) (of-T c30 (q30 .0))
+    ap (λ (x : Bool). ask x 28 0 (ask c29 29 0 (ask c30 30 0 w))) (of-T c28 (q28 .0)) ∙ ap (λ (x : Bool). ask x 29 0 (ask c30 30 0 w)) (of-T c29 (q29 .0)) ∙ ap (λ (x : Bool). ask x 30 0 w)
+    (of-T c30 (q30 .0))
 
 -- ---- a run that ended
 module _ (b pairs block : List ℕ) (limit : ℕ) (out : List ℕ) (tally : Tally) (e : Ending) (after : List ℕ) (tally′ : Tally) (x : CallLent b pairs block limit out tally (Ended e) after tally′) where
@@ -74,7 +50,7 @@ module _ (b pairs block : List ℕ) (limit : ℕ) (out : List ℕ) (tally : Tall
   ran = ran-by (lentInput b pairs block) limit out (endingOf e) (sym (x .answers))
 
   good : T (isAccepted (verdictLent b pairs block))
-  good = L.passed-all (verdictLent b pairs block) (ran .good)
+  good = is-accepted (verdictLent b pairs block) (ran .good)
 
   some : 1 ≤ problemOf b .variables
   some = L.well-sheet b pairs block good .some
@@ -87,7 +63,8 @@ module _ (b pairs block : List ℕ) (limit : ℕ) (out : List ℕ) (tally : Tall
 
   passes-pairs : (w : Verdict) → orderVerdict (problemOf b .variables) pairs w ≡ w
   unfolding verdictLent
-  passes-pairs w = order-other (problemOf b .variables) pairs (blockLent (problemOf b) block) w (L.both-passed (verdictOf b) (orderVerdict (problemOf b .variables) pairs (blockLent (problemOf b) block)) good .1)
+  passes-pairs w = order-other (problemOf b .variables) pairs (blockLent (problemOf b) block) w
+      (L.both-passed (verdictOf b) (orderVerdict (problemOf b .variables) pairs (blockLent (problemOf b) block)) good .1)
 
   rows : List (List ℕ)
   rows = resultBy (orderLent b pairs) (problemWith b block) limit (length out) .rows
@@ -136,7 +113,8 @@ is-wrote : (r : Answer) (k : ℕ) → means r ≡ wrote k → r ≡ Written k
 is-wrote (Written j) k h = cc
 is-wrote (Refused a b) k h = absurd (let z : _≡_ {A = ℕ} 0 1 = cc in omega arith)
 
-module _ (n : ℕ) (pairs a b : List ℕ) (xs ys : List (List ℕ)) (i j : ℕ) (some : 1 ≤ n) (few : n ≤ 12) (o : Ordering n (settlingOrder n pairs)) (passes : (w : Verdict) → orderVerdict n pairs w ≡ w) (f : Front n pairs a xs i) (g : Front n pairs b ys j) where
+module _ (n : ℕ) (pairs a b : List ℕ) (xs ys : List (List ℕ)) (i j : ℕ) (some : 1 ≤ n) (few : n ≤ 12) (o : Ordering n (settlingOrder n pairs)) (passes : (w : Verdict) → orderVerdict n pairs w ≡ w)
+    (f : Front n pairs a xs i) (g : Front n pairs b ys j) where
   abbrev text : List ℕ
   text = merged n pairs a b
 
@@ -174,7 +152,8 @@ module _ (n : ℕ) (pairs a b : List ℕ) (xs ys : List (List ℕ)) (i j : ℕ) 
   sorted : T (ascends (settlingOrder n pairs) (rowsIn n (merged n pairs a b)))
   unfolding merged
   sorted =
-      ascends-by n order a b some record { inside = o .inside; each = o .each } (subst (λ (l : List (List ℕ)). T (ascends order l)) (sym (f .rows-are)) (f .ascend)) (subst (λ (l : List (List ℕ)). T (ascends order l)) (sym (g .rows-are)) (g .ascend))
+      ascends-by n order a b some record { inside = o .inside; each = o .each } (subst (λ (l : List (List ℕ)). T (ascends order l)) (sym (f .rows-are)) (f .ascend))
+      (subst (λ (l : List (List ℕ)). T (ascends order l)) (sym (g .rows-are)) (g .ascend))
 
   -- a call
   module _ (room : List ℕ) (r : Answer) (room′ : List ℕ) (c : CallMerge n pairs a b room r room′) where

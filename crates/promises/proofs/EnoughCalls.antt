@@ -1,39 +1,19 @@
 -- What a caller of `at_least` holds (paper 02, #101). Assumes nothing.
-use mathlib.Core.Path.{_≡_, refl, sym, ap, _∙_, subst}
-use mathlib.Core.List.{List}
-use Prim.Native.Nat.{ℕ, suc, _≤_, _<_}
-use native.Mathlib.Nat.{mul-le-mul-right}
-use native.Mathlib.Decide.{decLt}
-use native.Mathlib.Omega.{arith}
-use lib.ListN.{length}
-use Rattle.model.specs.Lists.{keep}
-use Rattle.model.specs.Problem.{Problem}
-use Rattle.model.specs.Sheet.{problemOf}
-use Rattle.model.specs.Search.{nodes, isPlan}
-use Rattle.model.specs.Run.{plansIn}
-use Rattle.model.specs.Claims.{plansAmong}
+use Rattle.model.specs.Kit.{_≡_, refl, sym, ap, _∙_, subst, List, ℕ, suc, _≤_, _<_, mul-le-mul-right, decLt, arith, length}
+use Rattle.model.specs.{Lists.keep, Problem.Problem, Sheet.problemOf, Search.nodes, Search.isPlan, Run.plansIn, Claims.plansAmong}
 use Rattle.model.proofs.Room.{length-listed}
 use Rattle.order.specs.RunBy.{leadersBy}
 use Rattle.order.proofs.Demanded.{ran-by}
 use Rattle.run_input.specs.Lent.{problemWith, orderLent, problemLent, lentInput, listLent}
-use Rattle.run_enough.specs.AtLeast.{enough, tooFew, unknown}
-use Rattle.run_enough.specs.Lent.{enoughLent}
-use Rattle.run_enough.specs.LentClaims.{AgreesLent, FiguresLent}
-use Rattle.run_enough.proofs.AtLeast.{among-all, among-most}
-use Rattle.run_enough.proofs.LentEnough.{tree-leaders, enough-refused-lent, enough-none-lent, enough-agrees-lent, enough-figures-lent, enough-more-lent}
-use Rattle.run_state.specs.declared.Tally.{Tally}
-use Rattle.run.specs.Meaning.{means, saidEnough}
-use Rattle.run_state.specs.Meaning.{endingOf}
-use Rattle.run.specs.Calls.{CallLent, CallEnough}
-use Rattle.run_state.specs.declared.Ending.{Ending}
-use Rattle.run_state.specs.declared.Ending.the-variants as E
-use Rattle.run.specs.declared.Answer.{Answer}
-use Rattle.run.specs.declared.Answer.the-variants.{Ended}
-use Rattle.run.specs.declared.Enough.{Enough}
-use Rattle.run.specs.declared.Enough.the-variants as N
+use Rattle.run_enough.specs.{AtLeast.enough, AtLeast.tooFew, AtLeast.unknown, Lent.enoughLent, LentClaims.AgreesLent, LentClaims.FiguresLent}
+use Rattle.run_enough.proofs.{AtLeast.among-all, AtLeast.among-most, LentEnough.tree-leaders, LentEnough.enough-refused-lent, LentEnough.enough-none-lent}
+use Rattle.run_enough.proofs.LentEnough.{enough-agrees-lent, enough-figures-lent, enough-more-lent}
+use Rattle.run_state.specs.{declared.Tally.Tally, Meaning.endingOf, declared.Ending.Ending}
+use Rattle.run.specs.{Meaning.means, Meaning.saidEnough, Calls.CallLent, Calls.CallEnough, declared.Answer.Answer, declared.Answer.the-variants.Ended, declared.Enough.Enough}
 use Rattle.promises.specs.EnoughCalls.{Agrees, Roomy, EnoughHeld, Enough-calls}
-use Rattle.promises.proofs.RetypedCalls.{answer-known}
-use Rattle.promises.proofs.Demands.{demands-lent}
+use Rattle.promises.proofs.{RetypedCalls.answer-known, Demands.demands-lent}
+use Rattle.run_state.specs.declared.Ending.the-variants as E
+use Rattle.run.specs.declared.Enough.the-variants as N
 
 -- what is said is known by what it means
 said-known : (r : Enough) (s : Enough) → saidEnough r ≡ saidEnough s → r ≡ s
@@ -55,7 +35,8 @@ said-known (N.Spent a b) (N.No x y) h = absurd (let e : unknown a b ≡ tooFew x
 said-known (N.Spent a b) (N.Spent x y) h = let e : unknown a b ≡ unknown x y = cc in let f : a ≡ x = cc in let g : b ≡ y = cc in cc
 
 -- with room for all plans a run of k trials, k being no more than the tree has, lists the plans among the first k
-module _ (b pairs block : List ℕ) (k : ℕ) (out : List ℕ) (tally : Tally) (after : List ℕ) (tally′ : Tally) (roomy : Roomy b pairs block out) (inside : k ≤ length (nodes (problemLent b pairs block))) where
+module _ (b pairs block : List ℕ) (k : ℕ) (out : List ℕ) (tally : Tally) (after : List ℕ) (tally′ : Tally) (roomy : Roomy b pairs block out)
+    (inside : k ≤ length (nodes (problemLent b pairs block))) where
   abbrev p : Problem
   p = problemLent b pairs block
 
@@ -87,7 +68,11 @@ module _ (b pairs block : List ℕ) (limit m : ℕ) (r : Enough) (s : CallEnough
         yes-so = λ k t y. q .yes-so k t (told (N.Yes k t) y);
         no-so = λ k t y. q .no-so k t (told (N.No k t) y);
         decided = λ l k t y. q .decided l k t (told (N.Spent k t) y);
-        yes-exactly = λ l. (λ y. q .yes-exactly l .0 (y .0, y .1, told (N.Yes (y .0) (y .1)) (y .2)), λ g. let y = q .yes-exactly l .1 g in (y .0, y .1, said-known r (N.Yes (y .0) (y .1)) (s ∙ y .2)));
+        yes-exactly = λ l. (
+          λ y. q .yes-exactly l .0 (y .0, y .1, told (N.Yes (y .0) (y .1)) (y .2)),
+          λ g. let y = q .yes-exactly l .1 g in
+              (y .0, y .1, said-known r (N.Yes (y .0) (y .1)) (s ∙ y .2)),
+        );
       }
 
   abbrev figures : FiguresLent (enoughLent b pairs block limit m) b pairs block limit m
@@ -108,7 +93,8 @@ module _ (b pairs block : List ℕ) (limit m : ℕ) (r : Enough) (s : CallEnough
             (λ z. g ∙ ap (plansAmong q) z ∙ f .2, λ z. subst (λ (j : ℕ). j < m) (sym g) (f .3 k z)),
       )
     where
-      inside : (plans ≡ m) × (made ≤ limit) × (plansAmong (problemLent b pairs block) made ≡ m) × ((k : ℕ) → k < made → plansAmong (problemLent b pairs block) k < m) → made ≤ length (nodes (problemLent b pairs block))
+      inside : (plans ≡ m) × (made ≤ limit) × (plansAmong (problemLent b pairs block) made ≡ m) × ((k : ℕ) → k < made → plansAmong (problemLent b pairs block) k < m) → made ≤ length
+          (nodes (problemLent b pairs block))
       inside f = go (decLt (length (nodes q)) made)
         where
           go : Dec (length (nodes q) < made) → made ≤ length (nodes q)

@@ -1,31 +1,18 @@
 -- What callers of planner_question and planner_run hold (specs/Exported), from the contracts and `demands`. Assumes nothing.
-use mathlib.Core.Path.{_≡_, refl, sym, ap, _∙_, subst}
-use mathlib.Core.Bool.{Bool, true, false, not}
-use mathlib.Core.List.{List, [], _∷_}
-use Prim.Native.Nat.{ℕ, zero, suc, _+_, _*_, _^_, _<_}
-use native.Mathlib.Omega.{arith}
-use lib.Dec.{leb, ltb, eqb}
-use lib.ListN.{length}
-use borrow.Author.Tests.{eq-eqb, eqb-true, eqb-false}
-use Rattle.model.specs.Lists.{choose, both, all, at, below, ascending, rowsAscend}
-use Rattle.model.specs.Bytes.{fourBytes}
-use Rattle.model.specs.Problem.{Problem, respects}
-use Rattle.model.specs.Verdict.{Verdict, accepted, refused, ask, reply, kept}
-use Rattle.model.specs.Sheet.{Header, word, headerOf, problemOf, scopeAt, rowsAt, afterAt, headerVerdict, setsVerdict, constraintVerdict, constraintsVerdict, permutesPairs, offsetsFit, tablesFit, formVerdict, symmetriesVerdict, verdictOf}
-use Rattle.model.specs.Run as R
-use Rattle.model.specs.Run.{refusal, ended, finished, spent, full, answerOf, written, listOf}
-use Rattle.run_state.specs.Meaning.{endingOf}
-use Rattle.run.specs.Calls.{Call}
-use Rattle.run_state.specs.declared.Ending.{Ending}
-use Rattle.run_state.specs.declared.Ending.the-variants.{Finished, Spent, Full}
-use Rattle.run.specs.declared.Answer.{Answer}
-use Rattle.run.specs.declared.Answer.the-variants.{Ended}
+use Rattle.model.specs.Kit.{_≡_, refl, sym, ap, _∙_, subst, Bool, true, false, not, List, [], _∷_, ℕ, zero, suc, _+_, _*_, _^_, _<_, arith, leb, ltb, eqb, length, eq-eqb, eqb-true}
+use Rattle.model.specs.Kit.{eqb-false}
+use Rattle.model.specs.{Lists.choose, Lists.both, Lists.all, Lists.at, Lists.below, Lists.ascending, Lists.rowsAscend, Bytes.fourBytes, Problem.Problem, Problem.respects}
+use Rattle.model.specs.{Verdict.Verdict, Verdict.accepted, Verdict.refused, Verdict.ask, Verdict.reply, Verdict.kept, Sheet.Header, Sheet.word, Sheet.headerOf, Sheet.problemOf}
+use Rattle.model.specs.Sheet.{scopeAt, rowsAt, afterAt, headerVerdict, setsVerdict, constraintVerdict, constraintsVerdict, permutesPairs, offsetsFit, tablesFit, formVerdict}
+use Rattle.model.specs.{Sheet.symmetriesVerdict, Sheet.verdictOf, Run.refusal, Run.ended, Run.finished, Run.spent, Run.full, Run.answerOf, Run.written, Run.listOf}
+use Rattle.run_state.specs.{Meaning.endingOf, declared.Ending.Ending, declared.Ending.the-variants.Finished, declared.Ending.the-variants.Spent, declared.Ending.the-variants.Full}
+use Rattle.run.specs.{Calls.Call, declared.Answer.Answer, declared.Answer.the-variants.Ended}
 use Rattle.promises.proofs.Demands.{demands}
 use Rattle.wire.specs.Wire.{codeOf, wrongLength, threeNumbers, fourAt}
-use Rattle.export_run.specs.Run.{questionCode, endingBytes, answerCode, answerBytes, runCode, runList, runAnswer}
+use Rattle.export_run.specs.{Run.questionCode, Run.endingBytes, Run.answerCode, Run.answerBytes, Run.runCode, Run.runList, Run.runAnswer, Calls.CallExported}
 use Rattle.promises.specs.Exported.{Question-code, Tells, Exported}
-use Rattle.export_run.specs.Calls.{CallExported}
 use Rattle.export_run.proofs.Ran.{wrong-answer}
+use Rattle.model.specs.Run as R
 
 -- ---- no question has the number 0
 abbrev Named : Verdict → Type 0

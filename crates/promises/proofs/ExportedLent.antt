@@ -1,59 +1,38 @@
 -- What callers of planner_run_lent, planner_at_least and planner_closed hold (specs/ExportedLent), from the contracts and the theorems about the calls inside.
 -- Assumes nothing.
-use mathlib.Core.Path.{_≡_, refl, sym, ap, _∙_, subst, subst₂}
-use mathlib.Core.Bool.{Bool, true, false}
-use mathlib.Core.List.{List, [], _∷_, _++_}
-use Prim.Native.Nat.{ℕ, zero, suc, _+_, _*_, _%_, _<_}
-use native.Mathlib.Nat.{not-suc-le-zero}
-use native.Mathlib.Omega.{arith}
-use lib.Dec.{leb, ltb, eqb}
-use lib.ListN.{length}
+use Rattle.model.specs.Kit.{_≡_, refl, sym, ap, _∙_, subst, subst₂, Bool, true, false, List, [], _∷_, _++_, ℕ, zero, suc, _+_, _*_, _%_, _<_, not-suc-le-zero, arith, leb, ltb, eqb}
+use Rattle.model.specs.Kit.{length, eq-eqb, ne-eqb, eqb-true, eqb-false}
 use lib.Seq.{getD-append-add}
-use borrow.Author.Tests.{eq-eqb, ne-eqb, eqb-true, eqb-false}
-use Rattle.model.specs.Lists.{choose, all, both, at}
-use Rattle.model.specs.Bytes.{fourBytes}
-use Rattle.model.specs.Problem.{Problem, respects}
-use Rattle.model.specs.Verdict.{Verdict, accepted, refused, ask}
-use Rattle.model.specs.Sheet.{problemOf, permutesPairs, symmetriesVerdict, verdictOf}
-use Rattle.model.specs.Run as R
-use Rattle.model.specs.Run.{ended, finished, spent, full, nodesIn}
-use Rattle.order.specs.Order.{settlesAll, orderVerdict}
-use Rattle.order.specs.RunBy.{placeCounts, placeTally, talliedBy}
+use Rattle.model.specs.{Lists.choose, Lists.all, Lists.both, Lists.at, Bytes.fourBytes, Problem.Problem, Problem.respects, Verdict.Verdict, Verdict.accepted, Verdict.refused}
+use Rattle.model.specs.{Verdict.ask, Sheet.problemOf, Sheet.permutesPairs, Sheet.symmetriesVerdict, Sheet.verdictOf, Run.ended, Run.finished, Run.spent, Run.full, Run.nodesIn}
+use Rattle.order.specs.{Order.settlesAll, Order.orderVerdict, RunBy.placeCounts, RunBy.placeTally, RunBy.talliedBy}
 use Rattle.block.specs.Block.{blockTables, isBlock, blockVerdict, blockLent}
 use Rattle.sheet.specs.Meaning.{andThen}
 use Rattle.run_input.specs.Lent.{verdictLent, problemWith, orderLent, answerLent, listLent}
 use Rattle.run_input.proofs.Lent.{demanded-lent}
-use Rattle.run_state.specs.Meaning.{tallyIn}
-use Rattle.run_state.specs.declared.Tally.{Tally}
-use Rattle.run_enough.specs.AtLeast.{enough, tooFew, unknown}
-use Rattle.run_enough.specs.Lent.{EnoughAnswer, enoughLent}
-use Rattle.run_enough.specs.Lent as E
-use Rattle.families_closed.specs.Open.{none, two}
-use Rattle.families_closed.specs.Lent.{Told, refusal, answered, closedLent, means as closedMeans}
-use Rattle.families_closed.specs.declared.Answer as CA
-use Rattle.families_closed.specs.declared.Answer.the-variants as CV
+use Rattle.run_state.specs.{Meaning.tallyIn, declared.Tally.Tally, declared.Ending.Ending, declared.Ending.the-variants.Finished, declared.Ending.the-variants.Spent}
+use Rattle.run_state.specs.declared.Ending.the-variants.{Full}
+use Rattle.run_enough.specs.{AtLeast.enough, AtLeast.tooFew, AtLeast.unknown, Lent.EnoughAnswer, Lent.enoughLent}
+use Rattle.families_closed.specs.{Open.none, Open.two, Lent.Told, Lent.refusal, Lent.answered, Lent.closedLent, Lent.means as closedMeans}
 use Rattle.families_closed.proofs.Calls.{closed-calls}
-use Rattle.run.specs.Meaning.{saidEnough}
-use Rattle.run.specs.declared.Enough.{Enough}
-use Rattle.run.specs.declared.Enough.the-variants as N
-use Rattle.promises.proofs.EnoughCalls.{enough-calls}
-use Rattle.run.specs.Calls.{CallLent, noTally}
-use Rattle.run_state.specs.declared.Ending.{Ending}
-use Rattle.run_state.specs.declared.Ending.the-variants.{Finished, Spent, Full}
-use Rattle.run.specs.declared.Answer.the-variants.{Ended}
-use Rattle.promises.proofs.Demands.{demands-lent}
+use Rattle.run.specs.{Meaning.saidEnough, declared.Enough.Enough, Calls.CallLent, Calls.noTally, declared.Answer.the-variants.Ended}
+use Rattle.promises.proofs.{EnoughCalls.enough-calls, Demands.demands-lent, Exported.question-code, Exported.first-of, Exported.second-of, Exported.third-of}
+use Rattle.promises.proofs.Exported.{endingAs, ending-as, is-finish}
 use Rattle.wire.specs.Wire.{codeOf, wrongLength, threeNumbers, fourAt}
 use Rattle.export_run.specs.Run.{questionCode, endingBytes, answerCode}
-use Rattle.promises.specs.Exported.{Tells}
-use Rattle.promises.proofs.Exported.{question-code, first-of, second-of, third-of, endingAs, ending-as, is-finish}
-use Rattle.promises.proofs.Exported as X
+use Rattle.promises.specs.{Exported.Tells, ExportedLent.TellsCounts, ExportedLent.RunBytesHeld, ExportedLent.Run-bytes, ExportedLent.SaidTold, ExportedLent.Enough-bytes}
+use Rattle.promises.specs.ExportedLent.{ClosedTold, Closed-bytes}
 use Rattle.export_counts.specs.Tallied.{numbersOf}
-use Rattle.export_lent.specs.Lent.{placedBytes, lentRunCode, lentRunList, lentRunAnswer}
+use Rattle.export_lent.specs.{Lent.placedBytes, Lent.lentRunCode, Lent.lentRunList, Lent.lentRunAnswer, Calls.CallRunBytes}
 use Rattle.export_enough.specs.Enough.{saidCode, saidBytes, enoughCode, enoughBytes}
 use Rattle.export_closed.specs.Closed.{toldCode, toldBytes, closedCode, closedAnswer}
-use Rattle.export_lent.specs.Calls.{CallRunBytes}
-use Rattle.promises.specs.ExportedLent.{TellsCounts, RunBytesHeld, Run-bytes, SaidTold, Enough-bytes, ClosedTold, Closed-bytes}
 use Rattle.export_lent.proofs.Lent.{wrong-answer}
+use Rattle.model.specs.Run as R
+use Rattle.run_enough.specs.Lent as E
+use Rattle.families_closed.specs.declared.Answer as CA
+use Rattle.families_closed.specs.declared.Answer.the-variants as CV
+use Rattle.run.specs.declared.Enough.the-variants as N
+use Rattle.promises.proofs.Exported as X
 
 -- ---- numbers behind others
 shifted : (front l : List ℕ) (k o : ℕ) → length front ≡ k → fourAt (front ++ l) (k + o) ≡ fourAt l o
@@ -174,7 +153,8 @@ module _ (b pairs block : List ℕ) (limit : ℕ) (list answer : List ℕ) (code
     so a e = (
       c .0 ∙ ap {B = ℕ} (λ (t : Bool). choose t (answerCode (answerLent b pairs block limit list)) wrongLength) fit ∙ ap answerCode e,
       c .1 .0 ∙ ap {B = List ℕ} (λ (t : Bool). choose t (listLent b pairs block limit list) list) fit,
-      c .1 .1 ∙ ap {B = List ℕ} (λ (t : Bool). choose t (placedBytes b pairs block (answerLent b pairs block limit list) answer) answer) fit ∙ ap (λ (x : R.Answer). placedBytes b pairs block x answer) e,
+      c .1 .1 ∙ ap {B = List ℕ} (λ (t : Bool). choose t (placedBytes b pairs block (answerLent b pairs block limit list) answer) answer) fit ∙ ap
+          (λ (x : R.Answer). placedBytes b pairs block x answer) e,
     )
 
     refuses : (number item : ℕ) → verdictLent b pairs block ≡ refused number item → (code ≡ number * 256 + item) × (list′ ≡ list) × (answer′ ≡ answer)
@@ -213,7 +193,8 @@ module _ (b pairs block : List ℕ) (limit : ℕ) (list answer : List ℕ) (code
       twelve = demands-lent b pairs block limit list noTally (Ended e) list′ tally call .1 .tallied e refl .twelve
 
       tells-counts : TellsCounts answer′ tally
-      tells-counts x h = ap (λ (l : List ℕ). fourAt l (12 + 4 * x)) bytes ∙ shifted (endingBytes (ran .0)) (numbersOf (tally .counts)) 12 (4 * x) (ending-long (ran .0)) ∙ number-of (tally .counts) x (omega (arith, twelve))
+      tells-counts x h = ap (λ (l : List ℕ). fourAt l (12 + 4 * x)) bytes ∙ shifted (endingBytes (ran .0)) (numbersOf (tally .counts)) 12 (4 * x) (ending-long (ran .0)) ∙ number-of
+          (tally .counts) x (omega (arith, twelve))
 
   zero-so : code ≡ 0 → (length answer ≡ 60) × (verdictLent b pairs block ≡ accepted)
   zero-so z = let s = sixty (eqb (length answer) 60) refl in (s, good s (verdictLent b pairs block) refl)

@@ -1,30 +1,20 @@
 -- What callers hold of families (specs/FamilyCalls). Assumes nothing.
-use mathlib.Core.Path.{_≡_, refl, sym, ap, _∙_, subst}
-use mathlib.Core.Logic.{inr}
-use mathlib.Core.List.{List, []}
-use Prim.Native.Nat.{ℕ, _*_}
-use native.Mathlib.Omega.{arith}
-use lib.ListN.{length}
-use Rattle.run_state.specs.Meaning.{endingOf}
-use Rattle.model.specs.Verdict.{Verdict, accepted, refused, reply}
-use Rattle.model.specs.Sheet.{problemOf}
-use Rattle.model.specs.Run.{Ending, finished, spent, full, ended, listedPlans}
+use Rattle.model.specs.Kit.{_≡_, refl, sym, ap, _∙_, subst, inr, List, [], ℕ, _*_, arith, length}
+use Rattle.run_state.specs.{Meaning.endingOf, declared.Tally.Tally, declared.Ending.the-variants.Finished as Done}
+use Rattle.model.specs.{Verdict.Verdict, Verdict.accepted, Verdict.refused, Verdict.reply, Sheet.problemOf, Run.Ending, Run.finished, Run.spent, Run.full, Run.ended}
+use Rattle.model.specs.Run.{listedPlans}
 use Rattle.run_input.specs.Lent.{verdictLent, problemWith}
 use Rattle.families.specs.Families.{FamilyCount, familiesOf}
-use Rattle.families_figure.specs.Figure.{Figure, number, dash, figureFor, bareSheet, familiesLent}
-use Rattle.families_figure.specs.FigureClaims.{ranWith, ranBare, Finished, OneListedEach}
+use Rattle.families_figure.specs.{Figure.Figure, Figure.number, Figure.dash, Figure.figureFor, Figure.bareSheet, Figure.familiesLent, FigureClaims.ranWith, FigureClaims.ranBare}
+use Rattle.families_figure.specs.FigureClaims.{Finished, OneListedEach}
 use Rattle.families_figure.proofs.FamiliesLent.{families-lent, bare-run, one-of-each-lent, block-alone-one-each}
-use Rattle.run_state.specs.declared.Tally.{Tally}
-use Rattle.run.specs.Calls.{CallLent}
-use Rattle.run.specs.Meaning as M
-use Rattle.run_state.specs.declared.Ending.the-variants.{Finished as Done}
-use Rattle.run.specs.declared.Answer as SA
-use Rattle.run.specs.declared.Answer.the-variants.{Ended}
+use Rattle.run.specs.{Calls.CallLent, declared.Answer.the-variants.Ended}
 use Rattle.promises.proofs.Demands.{is-ended, is-finished}
-use Rattle.families_count.specs.Told.{refusal, told, countedLent, means}
-use Rattle.families_count.specs.declared.Answer.{Answer}
-use Rattle.families_count.specs.declared.Answer.the-variants.{Number, Dash, Refused}
+use Rattle.families_count.specs.{Told.refusal, Told.told, Told.countedLent, Told.means, declared.Answer.Answer, declared.Answer.the-variants.Number}
+use Rattle.families_count.specs.declared.Answer.the-variants.{Dash, Refused}
 use Rattle.promises.specs.FamilyCalls.{Families-calls, One-of-each-calls, Block-calls}
+use Rattle.run.specs.Meaning as M
+use Rattle.run.specs.declared.Answer as SA
 
 -- ---- families
 dash-is : (r : Answer) → means r ≡ told dash → r ≡ Dash
@@ -40,7 +30,8 @@ number-told (Refused n i) k e = absurd (let z : _≡_ {A = ℕ} 0 1 = cc in omeg
 -- an ending that means finished
 ended-finished : (a : SA.Answer) (plans nodes : ℕ) → M.means a ≡ ended (finished plans nodes) → a ≡ Ended (Done plans nodes)
 ended-finished a plans nodes h = let e = is-ended a (finished plans nodes) h in
-    e .1 ∙ ap Ended (is-finished (e .0) plans nodes (let q : ended (endingOf (e .0)) ≡ ended (finished plans nodes) = sym (ap M.means (e .1)) ∙ h in let y : endingOf (e .0) ≡ finished plans nodes = cc in y))
+    e .1 ∙ ap Ended (is-finished (e .0) plans nodes (let q : ended (endingOf (e .0)) ≡ ended (finished plans nodes) = sym (ap M.means (e .1)) ∙ h in let y : endingOf
+    (e .0) ≡ finished plans nodes = cc in y))
 
 refused-is : (r : Answer) (n i : ℕ) → means r ≡ refusal n i → r ≡ Refused n i
 refused-is (Number k) n i e = absurd (let z : _≡_ {A = ℕ} 0 1 = cc in omega arith)
@@ -85,27 +76,33 @@ families-calls b pairs block limit r call = record {
         length out ≡ room → M.means a ≡ ended (ranBare b pairs limit room)
     bare v out tally a after tally′ c l = c .answers ∙ bare-run b pairs block limit out v .0 ∙ ap (λ (k : ℕ). ended (ranBare b pairs limit k)) l
 
-    done : (v : verdictLent b pairs block ≡ accepted) (out : List ℕ) (tally : Tally) (a : SA.Answer) (after : List ℕ) (tally′ : Tally) → CallLent (bareSheet b) pairs [] limit out tally a after tally′ →
+    done : (v : verdictLent b pairs block ≡ accepted) (out : List ℕ) (tally : Tally) (a : SA.Answer) (after : List ℕ) (tally′ : Tally) → CallLent
+        (bareSheet b) pairs [] limit out tally a after tally′ →
         length out ≡ room → (plans nodes : ℕ) → a ≡ Ended (Done plans nodes) → Finished (ranBare b pairs limit room)
     done v out tally a after tally′ c l plans nodes e =
         let z : ended (ranBare b pairs limit room) ≡ ended (finished plans nodes) = sym (bare v out tally a after tally′ c l) ∙ ap M.means e in
         (plans, nodes, let y : ranBare b pairs limit room ≡ finished plans nodes = cc in y)
 
-    undone : (v : verdictLent b pairs block ≡ accepted) (out : List ℕ) (tally : Tally) (a : SA.Answer) (after : List ℕ) (tally′ : Tally) → CallLent (bareSheet b) pairs [] limit out tally a after tally′ →
+    undone : (v : verdictLent b pairs block ≡ accepted) (out : List ℕ) (tally : Tally) (a : SA.Answer) (after : List ℕ) (tally′ : Tally) → CallLent
+        (bareSheet b) pairs [] limit out tally a after tally′ →
         length out ≡ room → (d : Finished (ranBare b pairs limit room)) → a ≡ Ended (Done (d .0) (d .1))
     undone v out tally a after tally′ c l d = ended-finished a (d .0) (d .1) (bare v out tally a after tally′ c l ∙ ap ended (d .2))
 
     counted : (k : ℕ) → told (number k) ≡ countedLent b pairs block limit → (v : Verdict) → verdictLent b pairs block ≡ v → (k ≡ familiesOf (problemWith b block)) × FamilyCount (problemWith b block)
     counted k q accepted v =
-        let z : told (number k) ≡ told figure = q ∙ ap (λ (u : Verdict). reply u figure) v in
-        (number-is (ranWith b pairs block limit room) (ranBare b pairs limit room) (familiesOf (problemWith b block)) k (let y : figure ≡ number k = cc in y), families-lent b pairs block limit room v .count)
+        let z : told (number k) ≡ told figure = q ∙ ap (λ (u : Verdict). reply u figure) v in (
+          number-is (ranWith b pairs block limit room) (ranBare b pairs limit room) (familiesOf (problemWith b block)) k (let y : figure ≡ number k = cc in y),
+          families-lent b pairs block limit room v .count,
+        )
     counted k q (refused n i) v = absurd (let z : told (number k) ≡ refusal n i = q ∙ ap (λ (u : Verdict). reply u figure) v in let y : _≡_ {A = ℕ} 0 1 = cc in omega arith)
 
 -- ---- one of each family
 pub one-of-each-calls : One-of-each-calls
 one-of-each-calls b pairs block limit out tally r after tally′ x plans nodes e closed =
-    subst (λ (l : List ℕ). OneListedEach b pairs block plans (listedPlans (problemOf b .variables) plans l)) (sym (x .leaves)) (one-of-each-lent b pairs block limit out plans nodes closed (sym (x .answers) ∙ ap M.means e))
+    subst (λ (l : List ℕ). OneListedEach b pairs block plans (listedPlans (problemOf b .variables) plans l)) (sym (x .leaves))
+    (one-of-each-lent b pairs block limit out plans nodes closed (sym (x .answers) ∙ ap M.means e))
 
 pub block-calls : Block-calls
 block-calls b pairs block limit out tally r after tally′ x plans nodes e alone =
-    subst (λ (l : List ℕ). OneListedEach b pairs block plans (listedPlans (problemOf b .variables) plans l)) (sym (x .leaves)) (block-alone-one-each b pairs block limit out plans nodes alone (sym (x .answers) ∙ ap M.means e))
+    subst (λ (l : List ℕ). OneListedEach b pairs block plans (listedPlans (problemOf b .variables) plans l)) (sym (x .leaves))
+    (block-alone-one-each b pairs block limit out plans nodes alone (sym (x .answers) ∙ ap M.means e))

@@ -1,28 +1,16 @@
 -- The heads of finished ranges between cuts in order join (specs/JoinedClaims). Assumes nothing.
-use mathlib.Core.Path.{_≡_, refl, sym, ap, _∙_, subst}
-use mathlib.Core.Bool.{Bool, true, false}
-use mathlib.Core.Logic.{_⊎_, inl, inr}
-use mathlib.Core.List.{List, [], _∷_, map, List·Memᴰ, List·Memᴰ·head, List·Memᴰ·tail, List·Memᴰ·not-nil, Memᴰ·map}
-use Prim.Native.Nat.{ℕ, zero, suc, _≤_, _<_}
-use native.Mathlib.Omega.{arith}
-use lib.Dec.{T}
-use lib.ListN.{length, take}
-use Rattle.model.specs.Lists.{choose}
-use Rattle.model.specs.Verdict.{Verdict, accepted}
-use Rattle.model.specs.Run.{finished, spent, full, Answer, refusal, answered, ended}
+use Rattle.model.specs.Kit.{_≡_, refl, sym, ap, _∙_, subst, Bool, true, false, _⊎_, inl, inr, List, [], _∷_, map, List·Memᴰ, List·Memᴰ·head, List·Memᴰ·tail, List·Memᴰ·not-nil}
+use Rattle.model.specs.Kit.{Memᴰ·map, ℕ, zero, suc, _≤_, _<_, arith, T, length, take}
+use Rattle.model.specs.{Lists.choose, Verdict.Verdict, Verdict.accepted, Run.finished, Run.spent, Run.full, Run.Answer, Run.refusal, Run.answered, Run.ended}
 use Rattle.model.proofs.Lists.{place-of, mem-getD}
 use Rattle.run_cut.specs.Parts.{after, Cuts, lastOf}
 use Rattle.run_cut.proofs.Parts.{after-e, after-i, after-total}
-use Rattle.run_ranges.specs.Claims.{Part, Goes, Done}
-use Rattle.run_join.specs.Join.{fromAt, reachAt, headsIn, joinVerdict, standPath, beginOr, stands, joined, nearest}
-use Rattle.run_join.specs.Calls.{answerFor}
+use Rattle.run_ranges.specs.Claims.{Part, Done}
+use Rattle.run_join.specs.{Join.fromAt, Join.reachAt, Join.headsIn, Join.joinVerdict, Join.standPath, Join.beginOr, Join.stands, Join.joined, Join.nearest, Calls.answerFor}
 use Rattle.run_join.specs.declared.Answer.the-variants.{Joined, Missing}
-use Rattle.promises.specs.JoinedHeads.{HeadOf, partAt}
-use Rattle.promises.specs.JoinedClaims.{MissingHeld, rangesOf, Cuts-joined}
-use Rattle.promises.proofs.JoinedHeads.{many-held, heads-held}
-use Rattle.promises.proofs.JoinedTaken.{finished-reaches}
-use Rattle.promises.proofs.JoinedStuck.{missing-held}
-use Rattle.promises.proofs.JoinedLays.{laid}
+use Rattle.promises.specs.{JoinedHeads.HeadOf, JoinedHeads.partAt, JoinedClaims.MissingHeld, JoinedClaims.rangesOf, JoinedClaims.Cuts-joined}
+use Rattle.promises.proofs.{JoinedHeads.many-held, JoinedHeads.heads-held, JoinedTaken.finished-reaches, JoinedStuck.missing-held, JoinedLays.laid}
+use Rattle.run_ranges.proofs.Joined.{done-goes}
 
 -- paths in order are in order when cut to some values
 after-taken : (k : ℕ) (a b : List ℕ) → T (after (take k a) (take k b)) → T (after a b)
@@ -42,7 +30,8 @@ abbrev Next : List (List ℕ × List ℕ) → List ℕ → Type 0
 Next rs s = (a : List ℕ) × (c : List ℕ) × List·Memᴰ (a, c) rs × (take 12 a ≡ s) × T (after s (take 12 c))
 
 -- from every cut but the last a range goes on
-goes-on : (from : List ℕ) (cuts : List (List ℕ)) (s : List ℕ) → Cuts from cuts → (take 12 from ≡ s) ⊎ List·Memᴰ s (map (take 12) cuts) → (take 12 (lastOf from cuts) ≡ s → ⊥) → Next (rangesOf from cuts) s
+goes-on : (from : List ℕ) (cuts : List (List ℕ)) (s : List ℕ) → Cuts from cuts → (take 12 from ≡ s) ⊎ List·Memᴰ s (map (take 12) cuts) → (take 12 (lastOf from cuts) ≡ s → ⊥) → Next
+    (rangesOf from cuts) s
 unfolding lastOf
 goes-on from [] s o (inl e) d = absurd (d e)
 goes-on from [] s o (inr m) d = absurd (List·Memᴰ·not-nil m)
@@ -73,12 +62,6 @@ done-is (answered (finished plans made)) d = (plans, made, refl)
 done-is (answered (spent plans made)) d = absurd d
 done-is (answered (full plans made)) d = absurd d
 done-is (refusal number item) d = absurd d
-
-done-goes : (a : Answer) → Done a → Goes a
-done-goes (answered (finished plans made)) d = tt
-done-goes (answered (spent plans made)) d = absurd d
-done-goes (answered (full plans made)) d = absurd d
-done-goes (refusal number item) d = absurd d
 
 pub cuts-joined : Cuts-joined
 unfolding answerFor

@@ -1,44 +1,95 @@
 -- The examples of parts and their heads hold of the definitions. Assumes nothing.
-use mathlib.Core.Path.{_≡_, refl, sym, ap, _∙_, subst}
-use mathlib.Core.List.{List, [], _∷_, map, List·Memᴰ, List·Memᴰ·head, List·Memᴰ·tail, List·Memᴰ·not-nil}
-use Prim.Native.Nat.{ℕ, _<_}
-use native.Mathlib.Omega.{arith}
-use Rattle.model.specs.Bytes.{fourBytes}
-use Rattle.model.specs.Lists.{at, tabulate, total}
-use Rattle.model.specs.Run.{countsBy, tallyAt}
-use Rattle.model.specs.Examples.{sheetA, Each}
-use Rattle.model.specs.Verdict.{Verdict, accepted}
-use Rattle.model.proofs.Examples.{opened}
-use Rattle.model.proofs.Lists.{at-tabulate}
-use Rattle.order.specs.Order.{pairsIn, forerunners, canFollow, settledFirst, settlingOrder, settlesAll, orderVerdict}
-use Rattle.order.specs.Reordered.{position, read, write, valueOf, scopeIn, rowIn, renamed, symmetryIn}
+use Rattle.model.specs.Kit.{_≡_, refl, sym, ap, _∙_, subst, List, [], _∷_, map, List·Memᴰ, List·Memᴰ·head, List·Memᴰ·tail, List·Memᴰ·not-nil, ℕ, _<_, arith}
+use Rattle.model.specs.{Bytes.fourBytes, Lists.at, Lists.tabulate, Lists.total, Run.countsBy, Run.tallyAt, Examples.sheetA, Examples.Each, Verdict.Verdict, Verdict.accepted}
+use Rattle.model.proofs.{Examples.opened, Lists.at-tabulate}
+use Rattle.order.specs.{Order.pairsIn, Order.forerunners, Order.canFollow, Order.settledFirst, Order.settlingOrder, Order.settlesAll, Order.orderVerdict, Reordered.position}
+use Rattle.order.specs.Reordered.{read, write, valueOf, scopeIn, rowIn, renamed, symmetryIn}
 use Rattle.block.specs.Block.{tablesLent, blockLent}
 use Rattle.run_input.specs.Lent.{verdictLent}
 use Rattle.run_cut.specs.Parts.{after, nodesBetween, lastOf}
-use Rattle.run_ranges.specs.Ranges.{resultPart, answerPart, listPart, tallyPart, lastPart}
-use Rattle.run_ranges.specs.Claims.{Part, Call, Done}
+use Rattle.run_ranges.specs.{Ranges.resultPart, Ranges.answerPart, Ranges.listPart, Ranges.tallyPart, Ranges.lastPart, Claims.Part, Claims.Call, Claims.Done}
 use Rattle.wire.specs.Wire.{threeNumbers}
 use Rattle.export_counts.specs.Tallied.{numbersOf}
 use Rattle.export_parts.specs.Head.{digestFrom, digest, nameBytes, pathBytes, headOf}
 use Rattle.run_join.specs.Join.{pathAt, wholeHeads, pathShaped, headShaped, alike, joinVerdict, countOf, comes, mayTake, bestOf, stepOf, takenFrom, taken, standAfter, nearestOf}
-use Rattle.run_join.specs.Calls.{answerFor, figureFor, CallJoin}
-use Rattle.run_join.specs.declared.Answer.the-variants.{Joined}
-use Rattle.run_join.specs.declared.Joining.{Joining}
-use Rattle.promises.specs.JoinedHeads.{takenParts, partAt}
-use Rattle.promises.specs.JoinedClaims.{JoinedHeld, rangesOf, CutHeld}
-use Rattle.promises.specs.JoinedExamples.{partA, cutA, spentA, cutsA, headsA, joiningA, testsJoined, HeldA}
-use Rattle.promises.proofs.JoinedHeads.{heads-held}
-use Rattle.promises.proofs.JoinedHeld.{joined-held}
-use Rattle.promises.proofs.JoinedCut.{cuts-joined}
+use Rattle.run_join.specs.{Calls.answerFor, Calls.figureFor, Calls.CallJoin, declared.Answer.the-variants.Joined, declared.Joining.Joining}
+use Rattle.promises.specs.{JoinedHeads.takenParts, JoinedHeads.partAt, JoinedClaims.JoinedHeld, JoinedClaims.rangesOf, JoinedClaims.CutHeld, JoinedExamples.partA}
+use Rattle.promises.specs.JoinedExamples.{cutA, spentA, cutsA, headsA, joiningA, testsJoined, HeldA}
+use Rattle.promises.proofs.{JoinedHeads.heads-held, JoinedHeld.joined-held, JoinedCut.cuts-joined}
 
 -- every definition of parts and heads that computes
 unfoldable pub openedParts : ℕ
-unfolding opened countsBy tallyAt pairsIn forerunners canFollow settledFirst settlingOrder settlesAll orderVerdict position read write valueOf scopeIn rowIn renamed symmetryIn tablesLent blockLent verdictLent after nodesBetween lastOf resultPart answerPart listPart tallyPart lastPart threeNumbers numbersOf fourBytes digestFrom digest nameBytes pathBytes headOf pathAt wholeHeads pathShaped headShaped alike joinVerdict comes mayTake bestOf stepOf takenFrom taken standAfter nearestOf answerFor total
+unfolding opened countsBy tallyAt pairsIn forerunners canFollow settledFirst settlingOrder settlesAll orderVerdict position read write valueOf scopeIn rowIn renamed symmetryIn tablesLent blockLent
+    verdictLent after nodesBetween lastOf resultPart answerPart listPart tallyPart lastPart threeNumbers numbersOf fourBytes digestFrom digest nameBytes pathBytes headOf pathAt wholeHeads
+    pathShaped headShaped alike joinVerdict comes mayTake bestOf stepOf takenFrom taken standAfter nearestOf answerFor total
 openedParts = 0
 
 pub examples-joined : Each testsJoined
 unfolding openedParts
-examples-joined = (refl, (refl, (refl, (refl, (refl, (refl, (refl, (refl, (refl, (refl, (refl, (refl, (refl, (refl, (refl, (refl, (refl, (refl, (refl, (refl, (refl, (refl, (refl, (refl, (refl, (refl, (refl, (refl, (refl, (refl, (refl, (refl, (refl, tt)))))))))))))))))))))))))))))))))
+examples-joined = (
+  refl,
+  (
+    refl,
+    (
+      refl,
+      (
+        refl,
+        (
+          refl,
+          (
+            refl,
+            (
+              refl,
+              (
+                refl,
+                (
+                  refl,
+                  (
+                    refl,
+                    (
+                      refl,
+                      (
+                        refl,
+                        (
+                          refl,
+                          (
+                            refl,
+                            (
+                              refl,
+                              (
+                                refl,
+                                (
+                                  refl,
+                                  (
+                                    refl,
+                                    (
+                                      refl,
+                                      (
+                                        refl,
+                                        (
+                                          refl,
+                                          (refl, (refl, (refl, (refl, (refl, (refl, (refl, (refl, (refl, (refl, (refl, (refl, tt)))))))))))),
+                                        ),
+                                      ),
+                                    ),
+                                  ),
+                                ),
+                              ),
+                            ),
+                          ),
+                        ),
+                      ),
+                    ),
+                  ),
+                ),
+              ),
+            ),
+          ),
+        ),
+      ),
+    ),
+  ),
+)
 
 -- ---- what is supposed of joined heads is met
 own : (from upto : List ℕ) (limit room : ℕ) → Call sheetA [] [] (partA from upto limit room)

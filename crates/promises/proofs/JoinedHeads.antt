@@ -1,20 +1,13 @@
 -- The bytes of a head read back are what its call said. Assumes nothing.
-use mathlib.Core.Path.{_≡_, refl, sym, ap, _∙_, subst}
-use mathlib.Core.List.{List, [], _∷_, _++_, map, List·Memᴰ, List·Memᴰ·head, List·Memᴰ·tail}
-use Prim.Native.Nat.{ℕ, zero, suc, _+_, _*_, _%_, _<_}
-use native.Mathlib.Omega.{arith}
-use lib.ListN.{length, take, getD, length-append, length-take}
+use Rattle.model.specs.Kit.{_≡_, refl, sym, ap, _∙_, subst, List, [], _∷_, _++_, map, List·Memᴰ, List·Memᴰ·head, List·Memᴰ·tail, ℕ, zero, suc, _+_, _*_, _%_, _<_, arith, length}
+use Rattle.model.specs.Kit.{take, getD, length-append, length-take}
 use lib.Seq.{getD-append-add}
-use Rattle.model.specs.Lists.{at, flat, tabulate}
-use Rattle.model.specs.Bytes.{fourBytes}
-use Rattle.model.specs.Verdict.{Verdict, accepted, reply}
-use Rattle.model.specs.Run.{Ending, finished, spent, full, plansIn, nodesIn, search, Answer, ended, Tally, settledBy}
-use Rattle.model.proofs.Lists.{at-append, at-tabulate, at-take, at-ext, length-tabulate, mem-getD}
-use Rattle.model.proofs.Tally.{length-counts}
+use Rattle.model.specs.{Lists.at, Lists.flat, Lists.tabulate, Bytes.fourBytes, Verdict.Verdict, Verdict.accepted, Verdict.reply, Run.Ending, Run.finished, Run.spent, Run.full}
+use Rattle.model.specs.Run.{plansIn, nodesIn, search, Answer, ended, Tally, settledBy}
+use Rattle.model.proofs.{Lists.at-append, Lists.at-tabulate, Lists.at-take, Lists.at-ext, Lists.length-tabulate, Lists.mem-getD, Tally.length-counts}
 use Rattle.wire.specs.Wire.{threeNumbers}
 use Rattle.run_input.specs.Lent.{verdictLent, orderLent, problemLent}
-use Rattle.run_ranges.specs.Ranges.{partNodes, resultPart, answerPart, plansSaid, nodesSaid, madeBy, tallyPart}
-use Rattle.run_ranges.specs.Claims.{Part, Call}
+use Rattle.run_ranges.specs.{Ranges.partNodes, Ranges.resultPart, Ranges.answerPart, Ranges.plansSaid, Ranges.nodesSaid, Ranges.madeBy, Ranges.tallyPart, Claims.Part, Claims.Call}
 use Rattle.run_join.specs.Join.{fourAt, pathAt, headsIn}
 use Rattle.export_run.specs.Run.{endingBytes}
 use Rattle.export_counts.specs.Tallied.{numbersOf}

@@ -1,23 +1,12 @@
 -- Heads of calls of one lending, none of them full, pass the questions of `join` (specs/JoinedClaims). Assumes nothing.
-use mathlib.Core.Path.{_≡_, refl, sym, ap, _∙_}
-use mathlib.Core.Bool.{Bool, true}
-use mathlib.Core.List.{List, [], List·Memᴰ}
-use Prim.Native.Nat.{ℕ, suc, _+_, _*_, _%_, _≤_, _<_}
-use native.Mathlib.Omega.{arith}
-use lib.Dec.{eqb, leb}
-use lib.ListN.{length, take, length-take}
-use borrow.Author.Tests.{eq-eqb, le-leb}
-use Rattle.model.specs.Lists.{all, at, below, both}
-use Rattle.model.specs.Verdict.{accepted, ask}
-use Rattle.model.specs.Run.{finished, spent, full, Answer, refusal, answered}
-use Rattle.model.proofs.Lists.{at-tabulate, at-out, length-tabulate, mem-getD}
+use Rattle.model.specs.Kit.{_≡_, refl, sym, ap, _∙_, Bool, true, List, [], List·Memᴰ, ℕ, suc, _+_, _*_, _%_, _≤_, _<_, arith, eqb, leb, length, take, length-take, eq-eqb, le-leb}
+use Rattle.model.specs.{Lists.all, Lists.at, Lists.below, Lists.both, Verdict.accepted, Verdict.ask, Run.finished, Run.spent, Run.full, Run.Answer, Run.refusal, Run.answered}
+use Rattle.model.proofs.Lists.{at-tabulate, at-out, length-tabulate, mem-getD, both-yes}
 use Rattle.run_ranges.specs.Claims.{Part, Goes}
 use Rattle.export_parts.specs.Head.{pathBytes}
 use Rattle.run_join.specs.Join.{kindAt, headsIn, pathShaped, headShaped, alike, wholeHeads, joinVerdict}
-use Rattle.run_join.proofs.Orders.{all-below, both-yes, shaped-yes}
-use Rattle.run_join.proofs.Questions.{alike-yes, shape-paths, few-kinds}
-use Rattle.promises.specs.JoinedHeads.{kindSaid, HeldBytes, partAt}
-use Rattle.promises.specs.JoinedClaims.{Heads-accepted}
+use Rattle.run_join.proofs.{Orders.all-below, Orders.shaped-yes, Questions.alike-yes, Questions.shape-paths, Questions.few-kinds}
+use Rattle.promises.specs.{JoinedHeads.kindSaid, JoinedHeads.HeldBytes, JoinedHeads.partAt, JoinedClaims.Heads-accepted}
 use Rattle.promises.proofs.JoinedHeads.{Found, Pieces, twelve-counts, ends, bytes-pieces, length-name, size-held, many-held, call-held, found-held, heads-held}
 
 path-shaped : (l : List ℕ) (o : ℕ) (path : List ℕ) → Found l o (pathBytes path) → pathShaped l o ≡ true

@@ -1,29 +1,15 @@
 -- A spent part is a finished part of the range up to its last node, a full part is not (specs/JoinedClaims). Assumes nothing.
-use mathlib.Core.Path.{_≡_, refl, sym, ap, ap₂, _∙_, subst}
-use mathlib.Core.Bool.{Bool, true, false}
-use mathlib.Core.List.{List, [], _∷_, append-nil}
-use Prim.Native.Nat.{ℕ, suc, _+_, _*_, _≤_}
-use native.Mathlib.Omega.{arith}
-use lib.Dec.{ltb}
-use lib.ListN.{length, take, length-take}
-use lib.Seq.{take-all}
-use borrow.Author.Tests.{ltb-true, ltb-false}
-use Rattle.model.specs.Lists.{at, flat, keep, total}
-use Rattle.model.specs.Problem.{Problem}
-use Rattle.model.specs.Search.{isPlan}
-use Rattle.model.specs.Sheet.{problemOf}
-use Rattle.model.specs.Run.{Ending, finished, full, plansIn, search, Answer, ended, listedPlans}
+use Rattle.model.specs.Kit.{_≡_, refl, sym, ap, ap₂, _∙_, subst, Bool, true, false, List, [], _∷_, append-nil, ℕ, suc, _+_, _*_, _≤_, arith, ltb, length, take, length-take}
+use Rattle.model.specs.Kit.{take-all, ltb-true, ltb-false}
+use Rattle.model.specs.{Lists.at, Lists.flat, Lists.keep, Lists.total, Problem.Problem, Search.isPlan, Sheet.problemOf, Run.Ending, Run.finished, Run.full, Run.plansIn, Run.search}
+use Rattle.model.specs.Run.{Answer, ended, listedPlans}
 use Rattle.model.proofs.Runs.{Ended, Walk, walk}
 use Rattle.run_cut.specs.Parts.{nodesBetween, lastOf}
 use Rattle.run_input.specs.Lent.{problemLent}
-use Rattle.run_ranges.specs.Ranges.{plansSaid, nodesSaid}
-use Rattle.run_ranges.specs.Claims.{Goes, reachedFor, plansHeld}
-use Rattle.run_ranges.proofs.Between.{before-of, stop}
-use Rattle.run_ranges.proofs.Joined.{joined, finishes}
+use Rattle.run_ranges.specs.{Ranges.plansSaid, Ranges.nodesSaid, Claims.Goes, Claims.reachedFor, Claims.plansHeld}
+use Rattle.run_ranges.proofs.{Between.before-of, Between.stop, Joined.joined, Joined.finishes}
 use Rattle.promises.specs.JoinedClaims.{Spent-finished, Full-lacks}
-use Rattle.promises.proofs.JoinedTwelve.{small-lent}
-use Rattle.promises.proofs.JoinedHeads.{answered}
-use Rattle.promises.proofs.JoinedTaken.{last-is}
+use Rattle.promises.proofs.{JoinedTwelve.small-lent, JoinedHeads.answered, JoinedTaken.last-is}
 
 pub spent-finished : Spent-finished
 unfolding total flat

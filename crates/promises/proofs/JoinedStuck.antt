@@ -1,27 +1,18 @@
 -- Where `join` answers missing, no head goes on, and where it answers joined the heads taken come to the last path (specs/JoinedClaims): they reach further and further,
 -- so there are no more of them than heads. Assumes nothing.
-use mathlib.Core.Path.{_≡_, refl, sym, ap, ap₂, _∙_, subst}
-use mathlib.Core.Logic.{_⊎_, inl, inr}
-use mathlib.Core.Bool.{Bool, true, false}
-use mathlib.Core.List.{List, [], _∷_}
-use Prim.Native.Nat.{ℕ, zero, suc, _≤_, _<_}
-use native.Mathlib.Omega.{arith}
-use lib.Dec.{T, ltb}
-use lib.ListN.{length}
-use borrow.Author.Tests.{ltb-true, ltb-false}
-use Rattle.model.specs.Lists.{both, choose, same}
-use Rattle.model.specs.Verdict.{Verdict, accepted, refused}
+use Rattle.model.specs.Kit.{_≡_, refl, sym, ap, ap₂, _∙_, subst, _⊎_, inl, inr, Bool, true, false, List, [], _∷_, ℕ, zero, suc, _≤_, _<_, arith, T, ltb, length, ltb-true}
+use Rattle.model.specs.Kit.{ltb-false}
+use Rattle.model.specs.{Lists.both, Lists.choose, Lists.same, Verdict.Verdict, Verdict.accepted, Verdict.refused}
 use Rattle.model.proofs.Lists.{T-of, of-T, of-not, both-i, both-r, same-eq, same-refl}
 use Rattle.run_cut.specs.Parts.{after}
 use Rattle.run_cut.proofs.Parts.{after-trans, after-not}
-use Rattle.run_join.specs.Join.{fromAt, reachAt, headsIn, joinVerdict, goesOn, comes, leads, mayTake, standPath, reachOr, bestOf, stepOf, takenFrom, taken, standAfter, stands, joined, nearer, nearestOf, beginOr, nearest}
-use Rattle.run_join.proofs.Fewer.{further, fewer, further-few}
-use Rattle.run_join.proofs.Leads.{Next, comes-end, comes-next, comes-all, comes-out}
-use Rattle.run_join.specs.Calls.{answerFor}
-use Rattle.run_join.specs.declared.Answer.the-variants.{Joined, Missing}
+use Rattle.run_join.specs.Join.{fromAt, reachAt, headsIn, joinVerdict, goesOn, comes, leads, mayTake, standPath, reachOr, bestOf, stepOf, takenFrom, taken, standAfter, stands}
+use Rattle.run_join.specs.{Join.joined, Join.nearer, Join.nearestOf, Join.beginOr, Join.nearest, Calls.answerFor, declared.Answer.the-variants.Joined}
+use Rattle.run_join.specs.declared.Answer.the-variants.{Missing}
+use Rattle.run_join.proofs.{Fewer.further, Fewer.fewer, Fewer.further-few, Leads.Next, Leads.comes-end, Leads.comes-next, Leads.comes-all, Leads.comes-out}
 use Rattle.run_ranges.specs.Claims.{Chain}
-use Rattle.promises.specs.JoinedHeads.{takenParts}
-use Rattle.promises.specs.JoinedClaims.{HeadChain, Joined-exactly, MissingHeld, Missing-held, Missing-chain}
+use Rattle.promises.specs.{JoinedHeads.takenParts, JoinedClaims.HeadChain, JoinedClaims.Joined-exactly, JoinedClaims.MissingHeld, JoinedClaims.Missing-held}
+use Rattle.promises.specs.JoinedClaims.{Missing-chain}
 use Rattle.promises.proofs.JoinedTaken.{betters, step-goes, taken-chain}
 
 -- ---- one stands where no head goes on

@@ -1,33 +1,19 @@
 -- The heads that `join` takes are parts one behind the other. Assumes nothing.
-use mathlib.Core.Path.{_≡_, refl, sym, ap, _∙_, subst}
-use mathlib.Core.Bool.{Bool, true, false, not}
-use mathlib.Core.Logic.{_⊎_, inl, inr}
-use mathlib.Core.List.{List, [], _∷_, map, List·Memᴰ, List·Memᴰ·head, List·Memᴰ·tail, List·Memᴰ·not-nil}
-use Prim.Native.Nat.{ℕ, zero, suc, _≤_, _<_}
-use native.Mathlib.Omega.{arith}
-use lib.Dec.{T, leb}
-use lib.ListN.{length, take, length-take}
-use lib.Seq.{take-all}
-use borrow.Author.Tests.{leb-true}
-use Rattle.model.specs.Lists.{all, below, both, choose, same}
-use Rattle.model.specs.Problem.{Problem}
-use Rattle.model.specs.Verdict.{Verdict, accepted, ask}
-use Rattle.model.specs.Search.{nodes}
-use Rattle.model.specs.Run.{Ending, finished, spent, full, Answer, ended}
-use Rattle.model.proofs.Lists.{T-of, of-T, of-not, both-r, keep-e, same-eq}
+use Rattle.model.specs.Kit.{_≡_, refl, sym, ap, _∙_, subst, Bool, true, false, _⊎_, inl, inr, List, [], _∷_, map, List·Memᴰ, List·Memᴰ·head, List·Memᴰ·tail, List·Memᴰ·not-nil, ℕ}
+use Rattle.model.specs.Kit.{zero, suc, _≤_, _<_, arith, T, leb, length, take, length-take, take-all, leb-true}
+use Rattle.model.specs.{Lists.all, Lists.below, Lists.both, Lists.choose, Lists.same, Problem.Problem, Verdict.Verdict, Verdict.accepted, Verdict.ask, Search.nodes, Run.Ending}
+use Rattle.model.specs.Run.{finished, spent, full, Answer, ended}
+use Rattle.model.proofs.Lists.{T-of, keep-e, same-eq, both-second}
 use Rattle.run_cut.specs.Parts.{after, nodesBetween, lastOf}
-use Rattle.run_cut.proofs.Parts.{after-trans, after-asym, after-not}
-use Rattle.run_cut.proofs.Resume.{node-values, last-in, taken}
+use Rattle.run_cut.proofs.{Parts.after-trans, Parts.after-asym, Parts.after-not, Resume.node-values, Resume.last-in, Resume.taken}
 use Rattle.run_input.specs.Lent.{verdictLent, problemLent}
-use Rattle.run_ranges.specs.Ranges.{nodesSaid, madeBy, lastPart}
-use Rattle.run_ranges.specs.Claims.{Part, Call, Goes, reachedFor, reachedBy, Chain}
-use Rattle.run_ranges.proofs.Between.{between}
-use Rattle.run_join.specs.Join.{pathAt, kindAt, fromAt, reachAt, headsIn, headShaped, alike, wholeHeads, joinVerdict, standPath, mayTake, reachOr, bestOf, stepOf, takenFrom, standAfter}
-use Rattle.run_join.proofs.Orders.{each-below, both-first, both-second}
-use Rattle.run_join.proofs.Questions.{place-end, place-last}
+use Rattle.run_ranges.specs.{Ranges.nodesSaid, Ranges.madeBy, Ranges.lastPart, Claims.Part, Claims.Call, Claims.Goes, Claims.reachedFor, Claims.reachedBy, Claims.Chain}
+use Rattle.run_ranges.proofs.Between.{between, between-not}
+use Rattle.run_join.specs.Join.{pathAt, kindAt, fromAt, reachAt, headsIn, headShaped, alike, wholeHeads, joinVerdict, standPath, mayTake, reachOr, bestOf, stepOf, takenFrom}
+use Rattle.run_join.specs.Join.{standAfter}
+use Rattle.run_join.proofs.{Orders.each-below, Orders.both-first, Questions.place-end, Questions.place-last}
 use Rattle.promises.specs.JoinedHeads.{kindSaid, HeadOf, cutTwelve, HeldHeads}
-use Rattle.promises.proofs.JoinedTwelve.{small-lent, twelve-again, call-twelve}
-use Rattle.promises.proofs.JoinedHeads.{ends}
+use Rattle.promises.proofs.{JoinedTwelve.small-lent, JoinedTwelve.twelve-again, JoinedTwelve.call-twelve, JoinedHeads.ends}
 
 -- ---- the next head
 abbrev Onward : List ℕ → List ℕ → ℕ → Type 0
@@ -96,9 +82,6 @@ none-full l v k h =
     leb-true (kindAt l k) 2 (each-below (λ k. leb (kindAt l k) 2) (headsIn l) (p4 .0) k h)
 
 -- ---- where a part stands
-not-past : (a b t : List ℕ) → T (between a b t) → T (after b t) → ⊥
-not-past a b t u v = of-not (not (after b t)) (ap not (of-T (after b t) v)) (both-r (after a t) (not (after b t)) u)
-
 module _ (b pairs block : List ℕ) (c : Part) (so : verdictLent b pairs block ≡ accepted) (call : Call b pairs block c) where
   abbrev p : Problem
   p = problemLent b pairs block
@@ -179,7 +162,7 @@ module _ (b pairs block l : List ℕ) (part : ℕ → Part) (held : HeldHeads b 
               T (after (take 12 (part k .upto)) (take 12 (part k .from))) → ⊥
           back t (inl z) u = after-not (take 12 (part k .from)) (subst (λ (x : List ℕ). T (after (take 12 (part k .from)) x)) (z ∙ twelve-again (part k .from)) t)
           back t (inr m) u =
-              not-past (take 12 (part k .from)) (take 12 (part k .upto)) (part k .last) (m .1) (after-trans (take 12 (part k .upto)) (take 12 (part k .from)) (part k .last) u t)
+              between-not (take 12 (part k .from)) (take 12 (part k .upto)) (part k .last) (m .1) (after-trans (take 12 (part k .upto)) (take 12 (part k .from)) (part k .last) u t)
       go (full plans made) q = absurd (let n = none-full l v k i in let kind : kindAt l k ≡ 3 = h .kind ∙ ap kindSaid q in omega arith)
 
   pub taken-chain : (left stand : ℕ) →

@@ -1,24 +1,13 @@
 -- Twelve values of a path are enough: a call is a call with its paths cut to twelve values. Assumes nothing.
-use mathlib.Core.Path.{_≡_, sym, ap, ap₂, _∙_}
-use mathlib.Core.Bool.{Bool, not}
-use mathlib.Core.List.{List, [], map}
-use Prim.Native.Nat.{ℕ, _≤_}
-use native.Mathlib.Omega.{arith}
-use lib.ListN.{length, take, length-take}
-use lib.Seq.{take-all}
-use Rattle.model.specs.Lists.{both, at}
-use Rattle.model.specs.Problem.{Problem}
-use Rattle.model.specs.Search.{nodes}
-use Rattle.model.specs.Verdict.{accepted, reply, kept}
-use Rattle.model.specs.Sheet.{problemOf}
-use Rattle.model.specs.Run.{search, Answer, written, Tally, settledBy, countsBy}
-use Rattle.model.proofs.Lists.{keep-ext}
+use Rattle.model.specs.Kit.{_≡_, sym, ap, ap₂, _∙_, Bool, not, List, [], map, ℕ, _≤_, arith, length, take, length-take, take-all}
+use Rattle.model.specs.{Lists.both, Lists.at, Problem.Problem, Search.nodes, Verdict.accepted, Verdict.reply, Verdict.kept, Sheet.problemOf, Run.search, Run.Answer, Run.written}
+use Rattle.model.specs.Run.{Tally, settledBy, countsBy}
+use Rattle.model.proofs.{Lists.keep-ext, Accepted.is-accepted}
 use Rattle.order.specs.Reordered.{write}
 use Rattle.run_cut.specs.Parts.{nodesBetween, lastOf}
 use Rattle.run_input.specs.Lent.{verdictLent, orderLent, problemLent}
-use Rattle.run_input.proofs.Lent.{passed-all, well-lent}
-use Rattle.run_ranges.specs.Ranges.{partNodes, resultPart, answerPart, listPart, nodesSaid, tallyPart, lastPart}
-use Rattle.run_ranges.specs.Claims.{Part, Call}
+use Rattle.run_input.proofs.Lent.{well-lent}
+use Rattle.run_ranges.specs.{Ranges.partNodes, Ranges.resultPart, Ranges.answerPart, Ranges.listPart, Ranges.nodesSaid, Ranges.tallyPart, Ranges.lastPart, Claims.Part, Claims.Call}
 use Rattle.run_cut.proofs.Resume.{node-values}
 use Rattle.run_ranges.proofs.Between.{between, after-short}
 use Rattle.promises.specs.JoinedHeads.{cutTwelve}
@@ -55,7 +44,7 @@ module _ (b pairs block from upto from′ upto′ : List ℕ) (limit : ℕ) (out
       ∙ ap (λ (l : List ℕ). lastOf l (take (nodesSaid (answerPart b pairs block from′ upto′ limit out)) (partNodes b pairs block from′ upto′))) e
 
 pub small-lent : (b pairs block : List ℕ) → verdictLent b pairs block ≡ accepted → problemOf b .variables ≤ 12
-small-lent b pairs block so = well-lent b pairs block (passed-all (verdictLent b pairs block) so) .few
+small-lent b pairs block so = well-lent b pairs block (is-accepted (verdictLent b pairs block) so) .few
 
 pub call-twelve : (b pairs block : List ℕ) (c : Part) → verdictLent b pairs block ≡ accepted → Call b pairs block c → Call b pairs block (cutTwelve c)
 call-twelve b pairs block c so h =

@@ -1,29 +1,16 @@
 -- A run stopped after k of its trials (specs/Moments). Assumes nothing.
-use mathlib.Core.Path.{_≡_, refl, sym, ap, _∙_, subst, subst₂}
-use mathlib.Core.Bool.{Bool, true, false}
-use mathlib.Core.List.{List, [], _∷_, _++_}
-use Prim.Native.Nat.{ℕ, suc, _+_, _*_, _≤_}
-use native.Mathlib.Omega.{arith}
-use lib.Dec.{eqb, leb}
-use lib.ListN.{length, take, length-append}
+use Rattle.model.specs.Kit.{_≡_, refl, sym, ap, _∙_, subst, subst₂, Bool, true, false, List, [], _∷_, _++_, ℕ, suc, _+_, _*_, _≤_, arith, eqb, leb, length, take, length-append}
+use Rattle.model.specs.Kit.{eqb-true, eqb-false}
 use lib.Seq.{take-take}
-use borrow.Author.Tests.{eqb-true, eqb-false}
-use Rattle.model.specs.Lists.{keep}
-use Rattle.model.specs.Problem.{Problem}
-use Rattle.model.specs.Search.{nodes, isPlan}
-use Rattle.model.specs.Run.{Ending as Told, spent, full, plansIn, nodesIn, Result, search, resultOf}
+use Rattle.model.specs.{Lists.keep, Problem.Problem, Search.nodes, Search.isPlan, Run.Ending as Told, Run.spent, Run.full, Run.plansIn, Run.nodesIn, Run.Result, Run.search}
+use Rattle.model.specs.Run.{resultOf}
 use Rattle.model.proofs.Runs.{turn, search-turn, walk}
-use Rattle.order.specs.Reordered.{reordered}
-use Rattle.order.specs.RunBy.{resultBy, placeCounts, leadersBy}
-use Rattle.order.specs.Demanded.{Tallied}
+use Rattle.order.specs.{Reordered.reordered, RunBy.resultBy, RunBy.placeCounts, RunBy.leadersBy, Demanded.Tallied}
 use Rattle.order.proofs.Demanded.{RanBy, ran-by}
 use Rattle.run_input.specs.Lent.{problemWith, orderLent, lentInput}
-use Rattle.run.specs.Meaning.{means}
-use Rattle.run_state.specs.Meaning.{tallyIn, endingOf}
-use Rattle.run_state.specs.declared.Ending.{Ending}
-use Rattle.run.specs.declared.Answer.the-variants.{Ended}
-use Rattle.promises.specs.Demands.{Demands, TallyHeld}
-use Rattle.promises.specs.Moments.{Each-moment}
+use Rattle.run.specs.{Meaning.means, declared.Answer.the-variants.Ended}
+use Rattle.run_state.specs.{Meaning.tallyIn, Meaning.endingOf, declared.Ending.Ending}
+use Rattle.promises.specs.{Demands.Demands, Demands.TallyHeld, Moments.Each-moment}
 use Rattle.promises.proofs.Demands.{demands-lent}
 
 -- what is said of the two walks
@@ -37,12 +24,14 @@ module _ (p : Problem) (limit k room : ℕ) where
       let w = walk p l room ts made rows in
       omega (arith, w .counted ∙ ap length (w .listed) ∙ length-append rows (keep (isPlan p) (take (w .passed) ts)))
 
-  stopped : (ts : List (List ℕ)) (made : ℕ) (rows : List (List ℕ)) → made ≤ k → k ≤ nodesIn (search p limit room ts made rows .ending) → Stopped k (search p limit room ts made rows) (search p k room ts made rows)
+  stopped : (ts : List (List ℕ)) (made : ℕ) (rows : List (List ℕ)) → made ≤ k → k ≤ nodesIn (search p limit room ts made rows .ending) → Stopped k (search p limit room ts made rows)
+      (search p k room ts made rows)
   unfolding search
   stopped [] made rows low high = (omega arith, omega arith)
   stopped (t ∷ ts) made rows low high =
       subst₂ (Stopped k) (sym (search-turn p limit room t ts made rows)) (sym (search-turn p k room t ts made rows))
-      (go (eqb made k) refl (eqb made limit) refl (isPlan p t) (leb (suc (length rows) * p .variables) room) (subst (λ (r : Result). k ≤ nodesIn (r .ending)) (search-turn p limit room t ts made rows) high)
+      (go (eqb made k) refl (eqb made limit) refl (isPlan p t) (leb (suc (length rows) * p .variables) room)
+      (subst (λ (r : Result). k ≤ nodesIn (r .ending)) (search-turn p limit room t ts made rows) high)
       (stopped ts (suc made) rows) (stopped ts (suc made) (rows ++ (t ∷ []))) (keeps-rows limit ts (suc made) rows) (keeps-rows limit ts (suc made) (rows ++ (t ∷ []))))
     where
       S : Result

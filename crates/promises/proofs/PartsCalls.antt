@@ -1,18 +1,13 @@
 -- Parts of a run, of what callers hold (specs/PartsCalls). Assumes nothing.
-use mathlib.Core.Path.{_≡_, sym, ap, _∙_, subst}
-use mathlib.Core.List.{List}
-use Prim.Native.Nat.{ℕ}
-use lib.ListN.{length, replicate}
-use Rattle.model.specs.Verdict.{Verdict, reply}
-use Rattle.model.specs.Sheet.{problemOf}
-use Rattle.model.specs.Run.{Answer}
-use Rattle.model.specs.Run as Run
+use Rattle.model.specs.Kit.{_≡_, sym, ap, _∙_, subst, List, ℕ, length, replicate}
+use Rattle.model.specs.{Verdict.Verdict, Verdict.reply, Sheet.problemOf, Run.Answer}
 use Rattle.order.specs.RunBy.{resultBy, placeTally, answerBy, talliedBy}
 use Rattle.run_input.specs.Lent.{problemWith, orderLent, answerLent, listLent, tallyLent}
 use Rattle.run_state.specs.Meaning.{tallyIn}
 use Rattle.run_ranges.specs.Claims.{Together}
 use Rattle.run_ranges.proofs.Joined.{joined-run, whole-run}
 use Rattle.promises.specs.PartsCalls.{Parts-calls, Whole-calls}
+use Rattle.model.specs.Run as Run
 
 pub parts-calls : Parts-calls
 parts-calls b pairs block cs so chain limit out tally r after tally′ c l m =

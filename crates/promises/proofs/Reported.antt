@@ -1,27 +1,16 @@
 -- What the reader of a report holds (specs/Reported), from its definition and order's theorems. Assumes nothing.
-use mathlib.Core.Path.{_≡_, refl, sym, ap, ap₂, _∙_, subst, subst₂}
-use mathlib.Core.Bool.{Bool, true, false}
-use mathlib.Core.Logic.{_↔_, ⊎-elim}
-use mathlib.Core.List.{List, [], _∷_, _++_, map, List·Memᴰ, List·Memᴰ·head, List·Memᴰ·tail, List·Memᴰ·not-nil, List·Memᴰ·append-cases, Memᴰ·of-map, append-assoc}
-use Prim.Native.Nat.{ℕ, zero, suc, _+_, _*_, _/_, _%_, _<_}
-use native.Mathlib.Omega.{arith}
-use lib.Dec.{T, ltb, ltb→lt}
-use lib.ListN.{length, take, replicate, length-append, length-map, length-replicate}
-use borrow.Author.Tests.{ne-eqb}
-use Rattle.model.specs.Lists.{all, flat, at}
-use Rattle.model.specs.Problem.{Problem, isSolution}
-use Rattle.model.specs.Verdict.{Verdict, accepted, refused}
-use Rattle.model.specs.Sheet.{verdictOf, problemOf}
-use Rattle.model.specs.Run.{Ending, finished, spent, full, plansIn, ended, resultOf}
-use Rattle.model.specs.Claims.{CountsAt, Chain}
-use Rattle.model.proofs.Lists.{all-e}
-use Rattle.model.proofs.Room.{length-listed}
-use Rattle.order.specs.Reordered.{earlierBy}
-use Rattle.order.specs.RunBy.{sheetInput, answerBy, listBy}
-use Rattle.order.proofs.RunBy.{same-result}
-use Rattle.order.proofs.Demanded.{ran-by, held as rows-held, sound-sheet, demanded-sheet, sheet-run}
+use Rattle.model.specs.Kit.{_≡_, refl, sym, ap, ap₂, _∙_, subst, subst₂, Bool, true, false, _↔_, ⊎-elim, List, [], _∷_, _++_, map, List·Memᴰ, List·Memᴰ·head, List·Memᴰ·tail}
+use Rattle.model.specs.Kit.{List·Memᴰ·not-nil, Memᴰ·of-map, append-assoc, ℕ, zero, suc, _+_, _*_, _/_, _%_, _<_, arith, T, ltb, ltb→lt, length, take, replicate, length-append}
+use Rattle.model.specs.Kit.{length-map, length-replicate, ne-eqb}
+use mathlib.Core.List.{List·Memᴰ·append-cases}
+use Rattle.model.specs.{Lists.all, Lists.flat, Lists.at, Problem.Problem, Problem.isSolution, Verdict.Verdict, Verdict.accepted, Verdict.refused, Sheet.verdictOf, Sheet.problemOf}
+use Rattle.model.specs.{Run.Ending, Run.finished, Run.spent, Run.full, Run.plansIn, Run.ended, Run.resultOf, Claims.CountsAt, Claims.Chain}
+use Rattle.model.proofs.{Lists.all-e, Room.length-listed}
+use Rattle.order.specs.{Reordered.earlierBy, RunBy.sheetInput, RunBy.answerBy, RunBy.listBy}
+use Rattle.order.proofs.{RunBy.same-result, Demanded.ran-by, Demanded.held as rows-held, Demanded.sound-sheet, Demanded.demanded-sheet, Demanded.sheet-run}
 use Rattle.families_figure.specs.Figure.{Figure, number, dash, reportFigure}
 use Rattle.report.specs.Report.{digits, decimal, line, planWord, finishedWord, spentWord, fullWord, refusedWord, figureLine, endingLine, resultText, reportFor, reportOf}
+use Rattle.report.specs.Report.{REPORT-LIMIT}
 use Rattle.promises.specs.Reported.{onto, linesIn, sheetIn, leadersOf, ReportEnds, ReportFinished, ReportHeld, Reported}
 
 -- ---- a line: characters above the newline, and then it
@@ -173,8 +162,8 @@ module _ (input : List ℕ) where
   refuses n i e = ap linesIn (ap (λ (v : Verdict). reportFor v b) e) ∙ lines-last (line refusedWord (n ∷ i ∷ [])) (line-is refusedWord (n ∷ i ∷ []) plain-refused)
 
   module _ (good : verdictOf (sheetIn input) ≡ accepted) where
-    ran : (e : Ending) × (answerBy (sheetInput (sheetIn input)) 1000000 (replicate (4096 * problemOf (sheetIn input) .variables) 0) ≡ ended e)
-    ran = demanded-sheet b .ends good 1000000 room
+    ran : (e : Ending) × (answerBy (sheetInput (sheetIn input)) REPORT-LIMIT (replicate (4096 * problemOf (sheetIn input) .variables) 0) ≡ ended e)
+    ran = demanded-sheet b .ends good REPORT-LIMIT room
 
     abbrev e : Ending
     e = ran .0
@@ -182,50 +171,51 @@ module _ (input : List ℕ) where
     long : length {A = ℕ} (replicate (4096 * problemOf (sheetIn input) .variables) 0) ≡ 4096 * problemOf (sheetIn input) .variables
     long = length-replicate {A = ℕ} (4096 * problemOf b .variables) 0
 
-    listed : (resultOf (problemOf (sheetIn input)) 1000000 (4096 * problemOf (sheetIn input) .variables) .rows ≡ take (plansIn (ran .0)) (leadersOf (sheetIn input)))
-        × (resultOf (problemOf (sheetIn input)) 1000000 (4096 * problemOf (sheetIn input) .variables) .ending ≡ ran .0)
+    listed : (resultOf (problemOf (sheetIn input)) REPORT-LIMIT (4096 * problemOf (sheetIn input) .variables) .rows ≡ take (plansIn (ran .0)) (leadersOf (sheetIn input)))
+        × (resultOf (problemOf (sheetIn input)) REPORT-LIMIT (4096 * problemOf (sheetIn input) .variables) .ending ≡ ran .0)
     listed =
-        let s = same-result (problemOf b) (sound-sheet b good .well) 1000000 (length room) in (
-          ap (λ (k : ℕ). resultOf (problemOf b) 1000000 k .rows) (sym long) ∙ sym (s .1) ∙ sym (rows-held (sheetInput b) (sound-sheet b) 1000000 room e (ran .1)) ∙ demanded-sheet b .first-part 1000000 room e (ran .1),
-          ap (λ (k : ℕ). resultOf (problemOf b) 1000000 k .ending) (sym long) ∙ sym (s .0) ∙ ran-by (sheetInput b) 1000000 room e (ran .1) .so,
+        let s = same-result (problemOf b) (sound-sheet b good .well) REPORT-LIMIT (length room) in (
+          ap (λ (k : ℕ). resultOf (problemOf b) REPORT-LIMIT k .rows) (sym long) ∙ sym (s .1) ∙ sym (rows-held (sheetInput b) (sound-sheet b) REPORT-LIMIT room e (ran .1))
+              ∙ demanded-sheet b .first-part REPORT-LIMIT room e (ran .1),
+          ap (λ (k : ℕ). resultOf (problemOf b) REPORT-LIMIT k .ending) (sym long) ∙ sym (s .0) ∙ ran-by (sheetInput b) REPORT-LIMIT room e (ran .1) .so,
         )
 
-    text : reportOf input ≡ flat (map (line planWord) (take (plansIn (ran .0)) (leadersOf (sheetIn input)))) ++ endingLine (ran .0) (reportFigure (sheetIn input) 1000000)
+    text : reportOf input ≡ flat (map (line planWord) (take (plansIn (ran .0)) (leadersOf (sheetIn input)))) ++ endingLine (ran .0) (reportFigure (sheetIn input) REPORT-LIMIT)
     unfolding reportOf reportFor resultText
     text =
         ap (λ (v : Verdict). reportFor v b) good
-        ∙ ap₂ (λ (rows : List (List ℕ)) (x : Ending). flat (map (line planWord) rows) ++ endingLine x (reportFigure b 1000000)) (listed .0) (listed .1)
+        ∙ ap₂ (λ (rows : List (List ℕ)) (x : Ending). flat (map (line planWord) rows) ++ endingLine x (reportFigure b REPORT-LIMIT)) (listed .0) (listed .1)
 
     plan-is : (rows : List (List ℕ)) (l : List ℕ) → List·Memᴰ l (map (line planWord) rows) → Line l
     plan-is rows l m = let q = Memᴰ·of-map (line planWord) rows m in subst Line (q .2) (line-is planWord (q .0) plain-plan)
 
-    lines : linesIn (reportOf input) ≡ map (line planWord) (take (plansIn (ran .0)) (leadersOf (sheetIn input))) ++ (endingLine (ran .0) (reportFigure (sheetIn input) 1000000) ∷ [])
+    lines : linesIn (reportOf input) ≡ map (line planWord) (take (plansIn (ran .0)) (leadersOf (sheetIn input))) ++ (endingLine (ran .0) (reportFigure (sheetIn input) REPORT-LIMIT) ∷ [])
     lines =
         let rows = take (plansIn e) (leadersOf b) in
-        ap linesIn text ∙ lines-text (map (line planWord) rows) (endingLine e (reportFigure b 1000000)) (plan-is rows) (ending-is e (reportFigure b 1000000))
+        ap linesIn text ∙ lines-text (map (line planWord) rows) (endingLine e (reportFigure b REPORT-LIMIT)) (plan-is rows) (ending-is e (reportFigure b REPORT-LIMIT))
 
     ends : ReportEnds (sheetIn input) (linesIn (reportOf input)) (ran .0)
     ends =
-        let c = demanded-sheet b .counts 1000000 room e (ran .1) in
-        record { lines-are = lines; allowed = c .0; counts = subst₂ (λ (p : Problem) (k : ℕ). CountsAt p 1000000 k e) (sheet-run b .tree good) long (c .1) }
+        let c = demanded-sheet b .counts REPORT-LIMIT room e (ran .1) in
+        record { lines-are = lines; allowed = c .0; counts = subst₂ (λ (p : Problem) (k : ℕ). CountsAt p REPORT-LIMIT k e) (sheet-run b .tree good) long (c .1) }
 
     -- an ending that is finished
     whole : (plans made : ℕ) → ran .0 ≡ finished plans made → (ls : List (List ℕ)) →
         ls ≡ map (line planWord) (take (plansIn (ran .0)) (leadersOf (sheetIn input))) → ReportFinished (sheetIn input) ls
     whole plans made f ls q =
         let d = demanded-sheet b in
-        let a : answerBy (sheetInput b) 1000000 room ≡ ended (finished plans made) = ran .1 ∙ ap ended f in
-        let lists = d .lists-leaders 1000000 room plans made a in
-        let all : take (plansIn e) (leadersOf b) ≡ leadersOf b = ap (λ (x : Ending). take (plansIn x) (leadersOf b)) f ∙ sym (d .first-part 1000000 room (finished plans made) a) ∙ lists in
+        let a : answerBy (sheetInput b) REPORT-LIMIT room ≡ ended (finished plans made) = ran .1 ∙ ap ended f in
+        let lists = d .lists-leaders REPORT-LIMIT room plans made a in
+        let all : take (plansIn e) (leadersOf b) ≡ leadersOf b = ap (λ (x : Ending). take (plansIn x) (leadersOf b)) f ∙ sym (d .first-part REPORT-LIMIT room (finished plans made) a) ∙ lists in
         let is : ls ≡ map (line planWord) (leadersOf b) = q ∙ ap (map (line planWord)) all in
-        let some : length (leadersOf b) ≡ plans = ap length (sym lists) ∙ length-listed (problemOf b .variables) plans (listBy (sheetInput b) 1000000 room) in
-        let n = d .nothing-listed 1000000 room plans made a in
+        let some : length (leadersOf b) ≡ plans = ap length (sym lists) ∙ length-listed (problemOf b .variables) plans (listBy (sheetInput b) REPORT-LIMIT room) in
+        let n = d .nothing-listed REPORT-LIMIT room plans made a in
         record {
           accepts = good;
           all-leaders = is;
           chains = λ s l.
               subst (λ (ls : List (List ℕ)). T (isSolution (problemOf b) s) ↔ ∥ ((x : List ℕ) × List·Memᴰ x ls × Chain (earlierBy (sheetInput b .order)) (problemOf b) x s) ∥₁) lists
-              (d .chains 1000000 room plans made a s l);
+              (d .chains REPORT-LIMIT room plans made a s l);
           nothing = (
             λ z. n .0 (sym some ∙ sym (length-map (leadersOf b) (line planWord)) ∙ sym (ap length is) ∙ ap length z),
             λ none. is ∙ empty (map (line planWord) (leadersOf b)) (length-map (leadersOf b) (line planWord) ∙ some ∙ n .1 none),
@@ -235,13 +225,13 @@ module _ (input : List ℕ) where
     says : (before : List (List ℕ)) (last : List ℕ) → linesIn (reportOf input) ≡ before ++ (last ∷ []) → SaysFinished last → ReportFinished (sheetIn input) before
     says before last h w = go (ran .0) refl
       where
-        split : (before ≡ map (line planWord) (take (plansIn (ran .0)) (leadersOf (sheetIn input)))) × (last ≡ endingLine (ran .0) (reportFigure (sheetIn input) 1000000))
-        split = last-same before (map (line planWord) (take (plansIn e) (leadersOf b))) last (endingLine e (reportFigure b 1000000)) (sym h ∙ lines)
+        split : (before ≡ map (line planWord) (take (plansIn (ran .0)) (leadersOf (sheetIn input)))) × (last ≡ endingLine (ran .0) (reportFigure (sheetIn input) REPORT-LIMIT))
+        split = last-same before (map (line planWord) (take (plansIn e) (leadersOf b))) last (endingLine e (reportFigure b REPORT-LIMIT)) (sym h ∙ lines)
 
         go : (x : Ending) → ran .0 ≡ x → ReportFinished (sheetIn input) before
         go (finished plans made) q = whole plans made q before (split .0)
-        go (spent plans made) q = absurd (not-spent plans made (reportFigure b 1000000) (subst SaysFinished (split .1 ∙ ap (λ (x : Ending). endingLine x (reportFigure b 1000000)) q) w))
-        go (full plans made) q = absurd (not-full plans made (reportFigure b 1000000) (subst SaysFinished (split .1 ∙ ap (λ (x : Ending). endingLine x (reportFigure b 1000000)) q) w))
+        go (spent plans made) q = absurd (not-spent plans made (reportFigure b REPORT-LIMIT) (subst SaysFinished (split .1 ∙ ap (λ (x : Ending). endingLine x (reportFigure b REPORT-LIMIT)) q) w))
+        go (full plans made) q = absurd (not-full plans made (reportFigure b REPORT-LIMIT) (subst SaysFinished (split .1 ∙ ap (λ (x : Ending). endingLine x (reportFigure b REPORT-LIMIT)) q) w))
 
   held : ReportHeld input
   held = record {

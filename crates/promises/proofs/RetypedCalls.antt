@@ -1,26 +1,16 @@
 -- Two callers whose sheets differ only in the order of their exchanges hold the same (paper 02, #109). Assumes nothing.
-use mathlib.Core.Path.{_≡_, sym, ap, _∙_}
-use mathlib.Core.List.{List}
-use Prim.Native.Nat.{ℕ}
-use native.Mathlib.Omega.{arith}
-use lib.ListN.{length}
-use Rattle.model.specs.Run.{plansIn, listedPlans, ended, Answer as Told, Tally as Counts, tallyFor}
-use Rattle.model.specs.Sheet.{problemOf}
-use Rattle.model.specs.Verdict.{reply}
+use Rattle.model.specs.Kit.{_≡_, sym, ap, _∙_, List, ℕ, arith, length}
+use Rattle.model.specs.{Run.plansIn, Run.listedPlans, Run.ended, Run.Answer as Told, Run.Tally as Counts, Run.tallyFor, Sheet.problemOf, Verdict.reply}
 use Rattle.order.specs.RunBy.{resultBy, placeTally, answerBy, talliedBy}
 use Rattle.run_input.specs.Lent.{verdictLent, problemWith, orderLent, answerLent, listLent, tallyLent}
-use Rattle.run_input.proofs.Lent.{passed-all, lent-passed}
-use Rattle.run_retyped.proofs.Retyped.{same-symmetries}
-use Rattle.run_retyped.proofs.LentRetyped.{retyped-lent, retyped-accepted-lent}
-use Rattle.run_state.specs.Meaning.{tallyIn, endingOf}
-use Rattle.run_state.specs.declared.Ending.{Ending}
-use Rattle.run_state.specs.declared.Ending.the-variants.{Finished, Spent, Full}
-use Rattle.run.specs.declared.Answer.{Answer}
-use Rattle.run.specs.declared.Answer.the-variants.{Refused, Ended}
-use Rattle.run.specs.Meaning.{means}
-use Rattle.run.specs.Calls.{CallLent}
+use Rattle.run_input.proofs.Lent.{lent-passed}
+use Rattle.run_retyped.proofs.{Retyped.same-symmetries, LentRetyped.retyped-lent, LentRetyped.retyped-accepted-lent}
+use Rattle.run_state.specs.{Meaning.tallyIn, Meaning.endingOf, declared.Ending.Ending, declared.Ending.the-variants.Finished, declared.Ending.the-variants.Spent}
+use Rattle.run_state.specs.declared.Ending.the-variants.{Full}
+use Rattle.run.specs.{declared.Answer.Answer, declared.Answer.the-variants.Refused, declared.Answer.the-variants.Ended, Meaning.means, Calls.CallLent}
 use Rattle.promises.specs.RetypedCalls.{Retyped-calls}
 use Rattle.promises.proofs.Demands.{demands-lent}
+use Rattle.model.proofs.Accepted.{is-accepted}
 
 -- an answer is known by what it means
 ending-known : (d e : Ending) → endingOf d ≡ endingOf e → d ≡ e
@@ -45,7 +35,8 @@ room-alone : (b pairs block : List ℕ) (limit : ℕ) (out out₂ : List ℕ) �
 unfolding answerBy
 room-alone b pairs block limit out out₂ l = ap (λ (n : ℕ). reply (verdictLent b pairs block) (resultBy (orderLent b pairs) (problemWith b block) limit n .ending)) l
 
-tally-alone : (b pairs block : List ℕ) (limit : ℕ) (out out₂ : List ℕ) (e : Ending) (t t₂ : Counts) → answerLent b pairs block limit out ≡ ended (endingOf e) → answerLent b pairs block limit out₂ ≡ ended (endingOf e)
+tally-alone : (b pairs block : List ℕ) (limit : ℕ) (out out₂ : List ℕ) (e : Ending) (t t₂ : Counts) → answerLent b pairs block limit out ≡ ended (endingOf e)
+    → answerLent b pairs block limit out₂ ≡ ended (endingOf e)
     → tallyLent b pairs block limit out₂ t₂ ≡ tallyLent b pairs block limit out t
 unfolding talliedBy
 tally-alone b pairs block limit out out₂ e t t₂ h h₂ =
@@ -70,7 +61,7 @@ retyped-calls b c pairs block v s limit out tally r after tally′ x out₂ tall
         record { answers = y .answers ∙ same .answers limit out₂; leaves = y .leaves ∙ same .lists limit out₂; counts = y .counts ∙ same .tallies limit out₂ (tallyIn tally₂) }
 
     width : problemOf c .variables ≡ problemOf b .variables
-    width = same-symmetries b c (lent-passed b pairs block (passed-all (verdictLent b pairs block) v) .sheet) s .variables
+    width = same-symmetries b c (lent-passed b pairs block (is-accepted (verdictLent b pairs block) v) .sheet) s .variables
 
     same-answer : r₂ ≡ r
     same-answer = answer-known r₂ r (z .answers ∙ room-alone b pairs block limit out out₂ l ∙ sym (x .answers))

@@ -1,8 +1,6 @@
 -- Of what a caller of `run_counted` holds. proofs/CountedCalls has the theorem.
-use mathlib.Core.List.{List}
-use Prim.Native.Nat.{ℕ}
-use Rattle.run.specs.Calls.{CallLent, CallCounted, noTally}
-use Rattle.run.specs.declared.CountedRun.{CountedRun}
+use Rattle.model.specs.Kit.{List, ℕ}
+use Rattle.run.specs.{Calls.CallLent, Calls.CallCounted, Calls.noTally, declared.CountedRun.CountedRun}
 
 -- all that is said of a call of `run_lent` holds of one of `run_counted`: `demands-lent` and its like
 abbrev pub Counted-calls : Type 0

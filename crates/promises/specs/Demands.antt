@@ -1,29 +1,14 @@
 -- What a caller of `run`, `run_with` or `run_lent` may rely on (paper 01's demands, and the counts of paper 02, #107), in terms of what it holds: what it lent, the answer, and the
 -- list and the tally as they came and at the end. It is said once, of what the run was given (order's `Input`): a sheet, settled in the order of its variables, for `run` and
 -- `run_with`; for `run_lent` a sheet, pairs and a block. "Reads earlier" goes by the order of the run; rows and counts go by variable number. proofs/Demands has the theorems.
-use mathlib.Core.Path.{_≡_}
-use mathlib.Core.Logic.{_↔_}
-use mathlib.Core.List.{List, map, List·Memᴰ, Sublistᴰ}
-use Prim.Native.Nat.{ℕ, _*_, _≤_}
-use lib.ListN.{length, take, drop}
-use lib.Dec.{T}
-use Rattle.model.specs.Lists.{rowsAscend}
-use Rattle.model.specs.Problem.{isSolution}
-use Rattle.model.specs.Verdict.{accepted, refused}
-use Rattle.model.specs.Sheet.{problemOf}
-use Rattle.model.specs.Run.{listedPlans, plansIn, nodesIn}
-use Rattle.model.specs.Claims.{CountsAt, Chain, OneMore}
-use Rattle.order.specs.Reordered.{read, earlierBy, reordered}
-use Rattle.order.specs.RunBy.{Input, sheetInput, leadersBy}
-use Rattle.order.specs.Demanded.{Tallied}
+use Rattle.model.specs.Kit.{_≡_, _↔_, List, map, List·Memᴰ, ℕ, _*_, _≤_, length, take, drop, T}
+use mathlib.Core.List.{Sublistᴰ}
+use Rattle.model.specs.{Lists.rowsAscend, Problem.isSolution, Verdict.accepted, Verdict.refused, Sheet.problemOf, Run.listedPlans, Run.plansIn, Run.nodesIn, Claims.CountsAt}
+use Rattle.model.specs.Claims.{Chain, OneMore}
+use Rattle.order.specs.{Reordered.read, Reordered.earlierBy, Reordered.reordered, RunBy.Input, RunBy.sheetInput, RunBy.leadersBy, Demanded.Tallied}
 use Rattle.run_input.specs.Lent.{lentInput}
-use Rattle.run_state.specs.Meaning.{tallyIn, endingOf}
-use Rattle.run.specs.Calls.{Call, CallWith, CallLent}
-use Rattle.run_state.specs.declared.Tally.{Tally}
-use Rattle.run_state.specs.declared.Ending.{Ending}
-use Rattle.run_state.specs.declared.Ending.the-variants.{Finished}
-use Rattle.run.specs.declared.Answer.{Answer}
-use Rattle.run.specs.declared.Answer.the-variants.{Refused, Ended}
+use Rattle.run_state.specs.{Meaning.tallyIn, Meaning.endingOf, declared.Tally.Tally, declared.Ending.Ending, declared.Ending.the-variants.Finished}
+use Rattle.run.specs.{Calls.Call, Calls.CallWith, Calls.CallLent, declared.Answer.Answer, declared.Answer.the-variants.Refused, declared.Answer.the-variants.Ended}
 
 -- the listed plans: as many rows of n bytes at the front of the list as the ending carries
 abbrev pub plansFrom : List ℕ → ℕ → List ℕ → List (List ℕ)

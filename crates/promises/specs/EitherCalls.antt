@@ -1,28 +1,13 @@
 -- One list from two runs (paper 02, #106 with #108 and #111), of what two callers of `run_lent` and one of `merge` hold: two sheets for the same number
 -- of places, both lent the same pairs and block, whatever the endings. proofs/EitherCalls has the theorem.
-use mathlib.Core.Path.{_≡_}
-use mathlib.Core.Logic.{_⊎_, _↔_}
-use mathlib.Core.List.{List, List·Memᴰ}
-use Prim.Native.Nat.{ℕ, _+_, _*_, _≤_}
-use lib.Dec.{T}
-use lib.ListN.{length, take, drop}
-use Rattle.model.specs.Sheet.{problemOf}
-use Rattle.model.specs.Room.{rowsIn}
-use Rattle.model.specs.Run.{plansIn}
-use Rattle.model.specs.Claims.{Leader}
+use Rattle.model.specs.Kit.{_≡_, _⊎_, _↔_, List, List·Memᴰ, ℕ, _+_, _*_, _≤_, T, length, take, drop}
+use Rattle.model.specs.{Sheet.problemOf, Room.rowsIn, Run.plansIn, Claims.Leader}
 use Rattle.order.specs.Reordered.{earlierBy}
 use Rattle.run_input.specs.Lent.{problemWith, orderLent}
-use Rattle.list_merge.specs.Merge.{ascends}
-use Rattle.list_merge.specs.Calls.{CallMerge}
-use Rattle.list_merge.specs.declared.Answer.{Answer}
-use Rattle.list_merge.specs.declared.Answer.the-variants.{Written, Refused}
-use Rattle.run_state.specs.declared.Tally.{Tally}
-use Rattle.run_state.specs.Meaning.{endingOf}
-use Rattle.run.specs.Calls.{CallLent}
+use Rattle.list_merge.specs.{Merge.ascends, Calls.CallMerge, declared.Answer.Answer, declared.Answer.the-variants.Written, declared.Answer.the-variants.Refused}
+use Rattle.run_state.specs.{declared.Tally.Tally, Meaning.endingOf, declared.Ending.Ending, declared.Ending.the-variants.Finished}
+use Rattle.run.specs.{Calls.CallLent, declared.Answer.the-variants.Ended}
 use Rattle.promises.specs.Demands.{plansFrom}
-use Rattle.run_state.specs.declared.Ending.{Ending}
-use Rattle.run_state.specs.declared.Ending.the-variants.{Finished}
-use Rattle.run.specs.declared.Answer.the-variants.{Ended}
 
 -- how many plans an ending counts
 abbrev pub plansOf : Ending → ℕ

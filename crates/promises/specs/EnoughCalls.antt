@@ -1,23 +1,12 @@
 -- At least m plans (paper 02, #101), of what a caller of `at_least` holds, and beside it a caller of `run_lent` with the same sheet, pairs and block.
 -- proofs/EnoughCalls has the theorem.
-use mathlib.Core.Path.{_≡_}
-use mathlib.Core.Logic.{_↔_}
-use mathlib.Core.List.{List}
-use Prim.Native.Nat.{ℕ, _*_, _≤_, _<_}
-use lib.ListN.{length}
-use Rattle.model.specs.Run.{plansIn}
-use Rattle.model.specs.Verdict.{accepted, refused}
-use Rattle.model.specs.Sheet.{problemOf}
+use Rattle.model.specs.Kit.{_≡_, _↔_, List, ℕ, _*_, _≤_, _<_, length}
+use Rattle.model.specs.{Run.plansIn, Verdict.accepted, Verdict.refused, Sheet.problemOf}
 use Rattle.order.specs.RunBy.{leadersBy}
 use Rattle.run_input.specs.Lent.{verdictLent, problemWith, orderLent}
-use Rattle.run_state.specs.Meaning.{endingOf}
-use Rattle.run.specs.Calls.{CallLent, CallEnough}
-use Rattle.run_state.specs.declared.Tally.{Tally}
-use Rattle.run_state.specs.declared.Ending.{Ending}
+use Rattle.run_state.specs.{Meaning.endingOf, declared.Tally.Tally, declared.Ending.Ending}
+use Rattle.run.specs.{Calls.CallLent, Calls.CallEnough, declared.Answer.Answer, declared.Answer.the-variants.Ended, declared.Enough.Enough}
 use Rattle.run_state.specs.declared.Ending.the-variants as E
-use Rattle.run.specs.declared.Answer.{Answer}
-use Rattle.run.specs.declared.Answer.the-variants.{Ended}
-use Rattle.run.specs.declared.Enough.{Enough}
 use Rattle.run.specs.declared.Enough.the-variants as N
 
 -- beside a finished run that listed so many plans after so many trials: yes and no agree with its list; yes or no is said where the limit allows its trials
@@ -45,7 +34,8 @@ pub record EnoughHeld (b pairs block : List ℕ) (limit m : ℕ) (r : Enough) : 
       (k ≡ made → plansIn (endingOf e) ≡ m) × (k < made → plansIn (endingOf e) < m))
   -- no and spent tell the plans and the trials of a run with the same allowance and room for all plans
   pub on-no : (plans made : ℕ) → r ≡ N.No plans made →
-      (out : List ℕ) (tally : Tally) (a : Answer) (after : List ℕ) (tally′ : Tally) → CallLent b pairs block limit out tally a after tally′ → Roomy b pairs block out → a ≡ Ended (E.Finished plans made)
+      (out : List ℕ) (tally : Tally) (a : Answer) (after : List ℕ) (tally′ : Tally) → CallLent b pairs block limit out tally a after tally′ → Roomy b pairs block out → a ≡ Ended
+      (E.Finished plans made)
   pub on-spent : (plans made : ℕ) → r ≡ N.Spent plans made →
       (out : List ℕ) (tally : Tally) (a : Answer) (after : List ℕ) (tally′ : Tally) → CallLent b pairs block limit out tally a after tally′ → Roomy b pairs block out → a ≡ Ended (E.Spent plans made)
   -- the same is said under a larger limit, unless it was spent

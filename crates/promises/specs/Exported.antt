@@ -1,19 +1,12 @@
 -- What callers of planner_question and planner_run hold: the code that comes back, the list and the twelve bytes of the answer, as they came and at the
 -- end. proofs/Exported has the theorems.
-use mathlib.Core.Path.{_≡_}
-use mathlib.Core.Logic.{_↔_}
-use mathlib.Core.List.{List}
-use Prim.Native.Nat.{ℕ, _+_, _*_}
-use lib.ListN.{length}
+use Rattle.model.specs.Kit.{_≡_, _↔_, List, ℕ, _+_, _*_, length}
 use Rattle.export_run.specs.Calls.{CallCode, CallExported}
-use Rattle.model.specs.Verdict.{accepted, refused}
-use Rattle.model.specs.Sheet.{verdictOf}
+use Rattle.model.specs.{Verdict.accepted, Verdict.refused, Sheet.verdictOf}
 use Rattle.order.specs.RunBy.{sheetInput}
-use Rattle.run.specs.Calls.{Call}
+use Rattle.run.specs.{Calls.Call, declared.Answer.the-variants.Ended}
 use Rattle.promises.specs.Demands.{AtEnd, AtFinish}
-use Rattle.run_state.specs.declared.Ending.{Ending}
-use Rattle.run_state.specs.declared.Ending.the-variants.{Finished, Spent, Full}
-use Rattle.run.specs.declared.Answer.the-variants.{Ended}
+use Rattle.run_state.specs.{declared.Ending.Ending, declared.Ending.the-variants.Finished, declared.Ending.the-variants.Spent, declared.Ending.the-variants.Full}
 use Rattle.wire.specs.Wire.{wrongLength, fourAt}
 
 -- 0 exactly for an accepted sheet, else the number and item of the first "no"
@@ -44,4 +37,5 @@ pub record ExportedHeld (b : List ℕ) (limit : ℕ) (list answer : List ℕ) (c
   pub at-finish : code ≡ 0 → fourAt answer′ 0 ≡ 1 → AtFinish (sheetInput b) (fourAt answer′ 4) list′
 
 abbrev pub Exported : Type 0
-Exported = (b : List ℕ) (limit : ℕ) (list answer : List ℕ) (code : ℕ) (list′ answer′ : List ℕ) → CallExported b limit list answer code list′ answer′ → ExportedHeld b limit list answer code list′ answer′
+Exported = (b : List ℕ) (limit : ℕ) (list answer : List ℕ) (code : ℕ) (list′ answer′ : List ℕ) → CallExported b limit list answer code list′ answer′
+    → ExportedHeld b limit list answer code list′ answer′

@@ -1,30 +1,20 @@
 -- What callers of planner_run_lent, planner_at_least and planner_closed hold: the code that comes back, the list and the bytes of the answer, as they came
 -- and at the end. proofs/ExportedLent has the theorems.
-use mathlib.Core.Path.{_≡_}
-use mathlib.Core.List.{List}
-use Prim.Native.Nat.{ℕ, _+_, _*_, _<_}
-use lib.ListN.{length}
-use Rattle.model.specs.Lists.{at}
-use Rattle.model.specs.Verdict.{accepted, refused}
+use Rattle.model.specs.Kit.{_≡_, List, ℕ, _+_, _*_, _<_, length}
+use Rattle.model.specs.{Lists.at, Verdict.accepted, Verdict.refused}
 use Rattle.run_input.specs.Lent.{verdictLent, lentInput}
-use Rattle.run_state.specs.declared.Tally.{Tally}
+use Rattle.run_state.specs.{declared.Tally.Tally, Meaning.tallyIn, Meaning.endingOf, declared.Ending.Ending}
 use Rattle.order.specs.Demanded.{Tallied}
-use Rattle.run_state.specs.Meaning.{tallyIn, endingOf}
-use Rattle.run.specs.Calls.{CallLent, noTally, CallEnough}
-use Rattle.promises.specs.Demands.{AtEnd, AtFinish}
-use Rattle.promises.specs.EnoughCalls.{EnoughHeld}
-use Rattle.run.specs.declared.Enough.{Enough}
-use Rattle.run.specs.declared.Enough.the-variants as N
+use Rattle.run.specs.{Calls.CallLent, Calls.noTally, Calls.CallEnough, declared.Enough.Enough, declared.Answer.the-variants.Ended}
+use Rattle.promises.specs.{Demands.AtEnd, Demands.AtFinish, EnoughCalls.EnoughHeld, Exported.Tells}
 use Rattle.families_closed.specs.Calls.{CallClosed, ClosedHeld}
-use Rattle.families_closed.specs.declared.Answer as CA
-use Rattle.families_closed.specs.declared.Answer.the-variants as CV
-use Rattle.run_state.specs.declared.Ending.{Ending}
-use Rattle.run.specs.declared.Answer.the-variants.{Ended}
 use Rattle.wire.specs.Wire.{wrongLength, fourAt}
-use Rattle.promises.specs.Exported.{Tells}
 use Rattle.export_lent.specs.Calls.{CallRunBytes}
 use Rattle.export_enough.specs.Calls.{CallEnoughBytes}
 use Rattle.export_closed.specs.Calls.{CallClosedBytes}
+use Rattle.run.specs.declared.Enough.the-variants as N
+use Rattle.families_closed.specs.declared.Answer as CA
+use Rattle.families_closed.specs.declared.Answer.the-variants as CV
 
 -- the bytes from 12 on tell twelve counts, four bytes each
 abbrev pub TellsCounts : List ℕ → Tally → Type 0

@@ -1,25 +1,16 @@
 -- Families (paper 02, #104) and one plan of each (#112), of what callers hold: of `families`, and of `run_lent` with the same sheet, pairs and block.
 -- proofs/FamilyCalls has the theorems.
-use mathlib.Core.Path.{_≡_}
-use mathlib.Core.Logic.{_↔_}
-use mathlib.Core.List.{List, []}
-use Prim.Native.Nat.{ℕ, _*_}
-use lib.ListN.{length}
-use Rattle.families_count.specs.Calls.{CallFamilies}
-use Rattle.model.specs.Verdict.{accepted, refused}
-use Rattle.model.specs.Sheet.{headerOf, problemOf}
+use Rattle.model.specs.Kit.{_≡_, _↔_, List, [], ℕ, _*_, length}
+use Rattle.families_count.specs.{Calls.CallFamilies, declared.Answer.Answer, declared.Answer.the-variants.Number, declared.Answer.the-variants.Dash}
+use Rattle.families_count.specs.declared.Answer.the-variants.{Refused}
+use Rattle.model.specs.{Verdict.accepted, Verdict.refused, Sheet.headerOf, Sheet.problemOf}
 use Rattle.run_input.specs.Lent.{verdictLent, problemWith}
 use Rattle.families.specs.Families.{Closed, FamilyCount, familiesOf}
-use Rattle.families_figure.specs.Figure.{bareSheet}
-use Rattle.families_figure.specs.FigureClaims.{OneListedEach}
+use Rattle.families_figure.specs.{Figure.bareSheet, FigureClaims.OneListedEach}
 use Rattle.promises.specs.Demands.{plansFrom}
-use Rattle.run.specs.Calls.{CallLent}
-use Rattle.run_state.specs.declared.Tally.{Tally}
-use Rattle.run_state.specs.declared.Ending.the-variants.{Finished as Done}
+use Rattle.run.specs.{Calls.CallLent, declared.Answer.the-variants.Ended}
+use Rattle.run_state.specs.{declared.Tally.Tally, declared.Ending.the-variants.Finished as Done}
 use Rattle.run.specs.declared.Answer as SA
-use Rattle.run.specs.declared.Answer.the-variants.{Ended}
-use Rattle.families_count.specs.declared.Answer.{Answer}
-use Rattle.families_count.specs.declared.Answer.the-variants.{Number, Dash, Refused}
 
 -- ---- families
 pub record FamiliesHeld (b pairs block : List ℕ) (limit : ℕ) (r : Answer) : Type 0 where
@@ -29,9 +20,11 @@ pub record FamiliesHeld (b pairs block : List ℕ) (limit : ℕ) (r : Answer) : 
   pub counts : (k : ℕ) → r ≡ Number k → (k ≡ familiesOf (problemWith b block)) × FamilyCount (problemWith b block)
   -- beside a run of the sheet without exchanges, with the same pairs, this limit and room for 4,096 plans: a number is told where it is finished, and the
   -- dash exactly where it isn't
-  pub numbered : verdictLent b pairs block ≡ accepted → (out : List ℕ) (tally : Tally) (a : SA.Answer) (after : List ℕ) (tally′ : Tally) → CallLent (bareSheet b) pairs [] limit out tally a after tally′ →
+  pub numbered : verdictLent b pairs block ≡ accepted → (out : List ℕ) (tally : Tally) (a : SA.Answer) (after : List ℕ) (tally′ : Tally) → CallLent
+      (bareSheet b) pairs [] limit out tally a after tally′ →
       length out ≡ 4096 * problemOf b .variables → (plans nodes : ℕ) → a ≡ Ended (Done plans nodes) → r ≡ Number (familiesOf (problemWith b block))
-  pub dashed : verdictLent b pairs block ≡ accepted → (out : List ℕ) (tally : Tally) (a : SA.Answer) (after : List ℕ) (tally′ : Tally) → CallLent (bareSheet b) pairs [] limit out tally a after tally′ →
+  pub dashed : verdictLent b pairs block ≡ accepted → (out : List ℕ) (tally : Tally) (a : SA.Answer) (after : List ℕ) (tally′ : Tally) → CallLent
+      (bareSheet b) pairs [] limit out tally a after tally′ →
       length out ≡ 4096 * problemOf b .variables → (r ≡ Dash) ↔ ((plans nodes : ℕ) → a ≡ Ended (Done plans nodes) → ⊥)
 
 abbrev pub Families-calls : Type 0

@@ -1,28 +1,16 @@
 -- What the holder of all parts of a run has, by what `join` answered to their heads; the statements can be read without the proofs. That the heads are of calls
 -- of one sheet, one list of pairs and one block is supposed (HeldHeads): heads whose names differ are refused, and who has the bytes can compare them.
-use mathlib.Core.Path.{_≡_}
-use mathlib.Core.Logic.{_↔_}
-use mathlib.Core.List.{List, [], _∷_, map, List·Memᴰ}
-use Prim.Native.Nat.{ℕ, suc, _*_, _≤_, _<_}
-use lib.Dec.{T}
-use lib.ListN.{length, take}
-use Rattle.model.specs.Lists.{at, rowsAscend}
-use Rattle.model.specs.Problem.{isSolution}
-use Rattle.model.specs.Sheet.{problemOf}
-use Rattle.model.specs.Verdict.{accepted}
-use Rattle.model.specs.Run.{finished, spent, full, ended, written, Tally}
+use Rattle.model.specs.Kit.{_≡_, _↔_, List, [], _∷_, map, List·Memᴰ, ℕ, suc, _*_, _≤_, _<_, T, length, take}
+use Rattle.model.specs.{Lists.at, Lists.rowsAscend, Problem.isSolution, Sheet.problemOf, Verdict.accepted, Run.finished, Run.spent, Run.full, Run.ended, Run.written, Run.Tally}
 use Rattle.model.specs.Claims.{Leader}
-use Rattle.model.specs.Claims as Reads
 use Rattle.order.specs.Reordered.{read, earlierBy}
 use Rattle.run_input.specs.Lent.{verdictLent, problemWith, orderLent, problemLent, answerLent, listLent, tallyLent}
-use Rattle.run_ranges.specs.Ranges.{nodesSaid}
-use Rattle.run_ranges.specs.Claims.{Part, Call, plansHeld, Goes, Done, Chain, allPlans}
+use Rattle.run_ranges.specs.{Ranges.nodesSaid, Claims.Part, Claims.Call, Claims.plansHeld, Claims.Goes, Claims.Done, Claims.Chain, Claims.allPlans}
 use Rattle.run_cut.specs.Parts.{after, nodesBetween, Cuts, lastOf}
-use Rattle.run_join.specs.Join.{fromAt, reachAt, headsIn, joinVerdict, standPath, beginOr}
-use Rattle.run_join.specs.Calls.{CallJoin}
-use Rattle.run_join.specs.declared.Answer.the-variants.{Joined, Missing}
-use Rattle.run_join.specs.declared.Joining.{Joining}
+use Rattle.run_join.specs.{Join.fromAt, Join.reachAt, Join.headsIn, Join.joinVerdict, Join.standPath, Join.beginOr, Calls.CallJoin, declared.Answer.the-variants.Joined}
+use Rattle.run_join.specs.{declared.Answer.the-variants.Missing, declared.Joining.Joining}
 use Rattle.promises.specs.JoinedHeads.{HeadOf, cutTwelve, HeldHeads, takenParts, headBytes, HeldBytes, partAt}
+use Rattle.model.specs.Claims as Reads
 
 -- ---- twelve values
 -- a path's values behind the twelfth bound no range, so a call is a call with both paths cut to twelve values

@@ -1,20 +1,11 @@
 -- Parts of a run of sheet A and their heads, as one list of statements about the definitions. One theorem says that each holds (proofs/JoinedExamples).
 -- A's tree has six nodes: 0; 0 1, a plan; 0 2, a plan; 1; 1 2, a plan; 2.
-use mathlib.Core.Path.{_≡_}
-use mathlib.Core.Bool.{true, false}
-use mathlib.Core.List.{List, [], _∷_, map}
-use Prim.Native.Nat.{ℕ}
-use lib.ListN.{length, replicate}
-use Rattle.model.specs.Lists.{flat, tabulate}
-use Rattle.model.specs.Run.{finished, spent, full, ended}
-use Rattle.model.specs.Verdict.{accepted, refused}
-use Rattle.model.specs.Examples.{sheetA}
+use Rattle.model.specs.Kit.{_≡_, true, false, List, [], _∷_, map, ℕ, length, replicate}
+use Rattle.model.specs.{Lists.flat, Lists.tabulate, Run.finished, Run.spent, Run.full, Run.ended, Verdict.accepted, Verdict.refused, Examples.sheetA}
 use Rattle.run_ranges.specs.Claims.{Part, allPlans}
 use Rattle.export_parts.specs.Parts.{partOf}
-use Rattle.run_join.specs.Join.{joinVerdict, taken, joined, plansOf, nodesOf, countOf, missingFrom, missingUpto}
-use Rattle.run_join.specs.Calls.{CallJoin}
-use Rattle.run_join.specs.declared.Answer.the-variants.{Joined}
-use Rattle.run_join.specs.declared.Joining.{Joining}
+use Rattle.run_join.specs.{Join.joinVerdict, Join.taken, Join.joined, Join.plansOf, Join.nodesOf, Join.countOf, Join.missingFrom, Join.missingUpto, Calls.CallJoin}
+use Rattle.run_join.specs.{declared.Answer.the-variants.Joined, declared.Joining.Joining}
 use Rattle.promises.specs.JoinedHeads.{headBytes, HeldBytes, takenParts, partAt}
 
 abbrev many : ℕ

@@ -1,17 +1,10 @@
 -- The heads of calls of parts, as their holder lends them to `join`. Beyond the bytes this says what each number in a head is, in terms of the call.
-use mathlib.Core.Path.{_≡_}
-use mathlib.Core.List.{List, [], map, List·Memᴰ}
-use Prim.Native.Nat.{ℕ, _+_, _*_, _<_}
-use lib.ListN.{take, getD}
-use Rattle.model.specs.Lists.{at, flat}
-use Rattle.model.specs.Run.{finished, spent, full, Answer, refusal, answered}
-use Rattle.model.specs.Verdict.{accepted}
+use Rattle.model.specs.Kit.{_≡_, List, [], map, List·Memᴰ, ℕ, _+_, _*_, _<_, take, getD}
+use Rattle.model.specs.{Lists.at, Lists.flat, Run.finished, Run.spent, Run.full, Run.Answer, Run.refusal, Run.answered, Verdict.accepted}
 use Rattle.run_input.specs.Lent.{verdictLent}
-use Rattle.run_ranges.specs.Ranges.{plansSaid, nodesSaid}
-use Rattle.run_ranges.specs.Claims.{Part, Call}
+use Rattle.run_ranges.specs.{Ranges.plansSaid, Ranges.nodesSaid, Claims.Part, Claims.Call}
 use Rattle.run_join.specs.Join.{fourAt, pathAt, kindAt, fromAt, headsIn, taken}
-use Rattle.export_parts.specs.Head.{headFor}
-use Rattle.export_parts.specs.Parts.{partOf}
+use Rattle.export_parts.specs.{Head.headFor, Parts.partOf}
 
 -- ---- a call and its head
 -- 1 finished, 2 spent, 3 full; a refused call has no head

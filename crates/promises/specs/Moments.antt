@@ -1,21 +1,12 @@
 -- The tally at every moment of a run (paper 02, #107), of what two callers of `run_lent` hold: a run, and the same run stopped after k of its trials.
 -- proofs/Moments has the theorem.
-use mathlib.Core.Path.{_≡_}
-use mathlib.Core.List.{List}
-use Prim.Native.Nat.{ℕ, _≤_}
-use lib.ListN.{length, take}
-use Rattle.model.specs.Lists.{at, total}
-use Rattle.model.specs.Sheet.{problemOf}
-use Rattle.model.specs.Run.{plansIn, nodesIn}
+use Rattle.model.specs.Kit.{_≡_, List, ℕ, _≤_, length, take}
+use Rattle.model.specs.{Lists.at, Lists.total, Sheet.problemOf, Run.plansIn, Run.nodesIn}
 use Rattle.order.specs.RunBy.{placeCounts}
 use Rattle.run_input.specs.Lent.{problemWith, orderLent}
-use Rattle.run_state.specs.declared.Tally.{Tally}
-use Rattle.run_state.specs.Meaning.{endingOf}
-use Rattle.run.specs.Calls.{CallLent}
+use Rattle.run_state.specs.{declared.Tally.Tally, Meaning.endingOf, declared.Ending.Ending}
+use Rattle.run.specs.{Calls.CallLent, declared.Answer.Answer, declared.Answer.the-variants.Ended}
 use Rattle.promises.specs.Demands.{plansFrom}
-use Rattle.run_state.specs.declared.Ending.{Ending}
-use Rattle.run.specs.declared.Answer.{Answer}
-use Rattle.run.specs.declared.Answer.the-variants.{Ended}
 
 -- the run ended with e and left `after`; stopped after k trials it answers r₂ and leaves after₂ and tally₂
 pub record Moment (b pairs block : List ℕ) (e : Ending) (after : List ℕ) (k : ℕ) (r₂ : Answer) (after₂ : List ℕ) (tally₂ : Tally) : Type 0 where

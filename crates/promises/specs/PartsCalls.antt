@@ -1,20 +1,12 @@
 -- What is claimed of parts of a run that are run apart, of what callers of `run_part` hold, and beside them a caller of `run_lent` with the same sheet, pairs
 -- and block. The statements can be read without the proofs.
-use mathlib.Core.Path.{_≡_}
-use mathlib.Core.List.{List, [], _∷_}
-use Prim.Native.Nat.{ℕ, _*_, _≤_}
-use lib.ListN.{length}
-use Rattle.model.specs.Verdict.{accepted}
-use Rattle.model.specs.Sheet.{problemOf}
+use Rattle.model.specs.Kit.{_≡_, List, [], _∷_, ℕ, _*_, _≤_, length}
+use Rattle.model.specs.{Verdict.accepted, Sheet.problemOf}
 use Rattle.run_input.specs.Lent.{verdictLent}
-use Rattle.run_state.specs.Meaning.{tallyIn}
-use Rattle.run_state.specs.declared.Tally.{Tally}
-use Rattle.run.specs.Meaning.{means}
-use Rattle.run.specs.Calls.{CallLent}
-use Rattle.run.specs.declared.Answer.{Answer}
+use Rattle.run_state.specs.{Meaning.tallyIn, declared.Tally.Tally}
+use Rattle.run.specs.{Meaning.means, Calls.CallLent, declared.Answer.Answer}
 use Rattle.run_ranges.specs.Claims.{Part, Chain, sumPlans, sumNodes, Together}
-use Rattle.run_part.specs.Calls.{CallPart}
-use Rattle.run_part.specs.declared.PartRun.{PartRun}
+use Rattle.run_part.specs.{Calls.CallPart, declared.PartRun.PartRun}
 
 -- parts that go one behind the other from the empty path to the path 255, each finished or spent, whatever their limits and lists: a run with limit and room
 -- enough is finished; its plans are theirs, one behind the other, its nodes and each of its counts are the sums

@@ -1,21 +1,11 @@
 -- The report's text (paper 01, "The report"), of what its reader holds: bytes, by their lines. Demands 2 and 3 of these; `planner_report` leaves this text.
 -- proofs/Reported has the theorem.
-use mathlib.Core.Path.{_≡_}
-use mathlib.Core.Bool.{true, false}
-use mathlib.Core.Logic.{_↔_}
-use mathlib.Core.List.{List, [], _∷_, _++_, map, List·Memᴰ}
-use Prim.Native.Nat.{ℕ, _*_, _≤_}
-use lib.ListN.{length, take}
-use lib.Dec.{T, eqb}
-use Rattle.model.specs.Problem.{isSolution}
-use Rattle.model.specs.Verdict.{accepted, refused}
-use Rattle.model.specs.Sheet.{verdictOf, problemOf}
-use Rattle.model.specs.Run.{Ending, plansIn, nodesIn}
-use Rattle.model.specs.Claims.{CountsAt, Chain}
-use Rattle.order.specs.Reordered.{earlierBy}
-use Rattle.order.specs.RunBy.{sheetInput, leadersBy}
+use Rattle.model.specs.Kit.{_≡_, true, false, _↔_, List, [], _∷_, _++_, map, List·Memᴰ, ℕ, _*_, _≤_, length, take, T, eqb}
+use Rattle.model.specs.{Problem.isSolution, Verdict.accepted, Verdict.refused, Sheet.verdictOf, Sheet.problemOf, Run.Ending, Run.plansIn, Run.nodesIn, Claims.CountsAt}
+use Rattle.model.specs.Claims.{Chain}
+use Rattle.order.specs.{Reordered.earlierBy, RunBy.sheetInput, RunBy.leadersBy}
 use Rattle.families_figure.specs.Figure.{reportFigure}
-use Rattle.report.specs.Report.{line, planWord, finishedWord, refusedWord, endingLine, reportOf}
+use Rattle.report.specs.Report.{line, planWord, finishedWord, refusedWord, endingLine, reportOf, REPORT-LIMIT}
 
 -- the lines of a text, each with its newline
 abbrev pub onto : ℕ → List (List ℕ) → List (List ℕ)
@@ -37,16 +27,17 @@ leadersOf b = leadersBy (sheetInput b .order) (problemOf b)
 -- a report that ended so: a line for each of the first leaders, as many as the ending carries, in reading order; then the ending's line with its figures,
 -- whose counts are those of the tree up to where the run ended, within the allowance of a million
 pub record ReportEnds (b : List ℕ) (lines : List (List ℕ)) (e : Ending) : Type 0 where
-  pub lines-are : lines ≡ map (line planWord) (take (plansIn e) (leadersOf b)) ++ (endingLine e (reportFigure b 1000000) ∷ [])
-  pub allowed : nodesIn e ≤ 1000000
-  pub counts : CountsAt (problemOf b) 1000000 (4096 * problemOf b .variables) e
+  pub lines-are : lines ≡ map (line planWord) (take (plansIn e) (leadersOf b)) ++ (endingLine e (reportFigure b REPORT-LIMIT) ∷ [])
+  pub allowed : nodesIn e ≤ REPORT-LIMIT
+  pub counts : CountsAt (problemOf b) REPORT-LIMIT (4096 * problemOf b .variables) e
 
 -- before the last line, which begins with "finished", the lines are those of all leaders; s is a solution exactly when one of these becomes s by
 -- symmetries, one after another, each giving a solution that reads later; there is none exactly when there is no solution
 pub record ReportFinished (b : List ℕ) (before : List (List ℕ)) : Type 0 where
   pub accepts : verdictOf b ≡ accepted
   pub all-leaders : before ≡ map (line planWord) (leadersOf b)
-  pub chains : (s : List ℕ) → length s ≡ problemOf b .variables → T (isSolution (problemOf b) s) ↔ ∥ ((l : List ℕ) × List·Memᴰ l (leadersOf b) × Chain (earlierBy (sheetInput b .order)) (problemOf b) l s) ∥₁
+  pub chains : (s : List ℕ) → length s ≡ problemOf b .variables → T (isSolution (problemOf b) s) ↔ ∥
+      ((l : List ℕ) × List·Memᴰ l (leadersOf b) × Chain (earlierBy (sheetInput b .order)) (problemOf b) l s) ∥₁
   pub nothing : (before ≡ []) ↔ ((s : List ℕ) → T (isSolution (problemOf b) s) → ⊥)
 
 pub record ReportHeld (input : List ℕ) : Type 0 where

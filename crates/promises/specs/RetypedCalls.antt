@@ -1,21 +1,12 @@
 -- Retyped exchanges (paper 02, #109), of what two callers of `run_lent` hold: their sheets differ only in the order of the exchanges, and they lend the
 -- same pairs and block under one limit, with lists of one length, whatever stands in these and in the tallies. proofs/RetypedCalls has the theorem.
-use mathlib.Core.Path.{_≡_}
-use mathlib.Core.List.{List}
-use Prim.Native.Nat.{ℕ, _*_}
-use lib.ListN.{length, drop}
-use Rattle.model.specs.Run.{plansIn}
-use Rattle.model.specs.Verdict.{accepted}
-use Rattle.model.specs.Sheet.{problemOf}
+use Rattle.model.specs.Kit.{_≡_, List, ℕ, _*_, length, drop}
+use Rattle.model.specs.{Run.plansIn, Verdict.accepted, Sheet.problemOf}
 use Rattle.run_input.specs.Lent.{verdictLent}
 use Rattle.run_retyped.specs.Retyped.{SameButOrder}
-use Rattle.run_state.specs.Meaning.{endingOf}
-use Rattle.run.specs.Calls.{CallLent}
+use Rattle.run_state.specs.{Meaning.endingOf, declared.Tally.Tally, declared.Ending.Ending}
+use Rattle.run.specs.{Calls.CallLent, declared.Answer.Answer, declared.Answer.the-variants.Ended}
 use Rattle.promises.specs.Demands.{plansFrom}
-use Rattle.run_state.specs.declared.Tally.{Tally}
-use Rattle.run_state.specs.declared.Ending.{Ending}
-use Rattle.run.specs.declared.Answer.{Answer}
-use Rattle.run.specs.declared.Answer.the-variants.{Ended}
 
 -- the first caller has sheet b, a list that came as out, answer r, list and tally at the end; the second has sheet c, and the others with a 2
 pub record RetypedHeld (b out : List ℕ) (r : Answer) (after : List ℕ) (tally : Tally) (c out₂ : List ℕ) (r₂ : Answer) (after₂ : List ℕ) (tally₂ : Tally) : Type 0 where

@@ -1,26 +1,11 @@
 -- Constraints on two variables by variable: what the search's tables say of them, and that they take nothing where the arcs hold. Assumes nothing.
-use mathlib.Core.Path.{_≡_, refl, sym, subst}
-use mathlib.Core.Bool.{Bool, true, false}
-use mathlib.Core.Logic.{inl, inr}
-use mathlib.Core.List.{List, [], _∷_, List·Memᴰ, List·Memᴰ·head, List·Memᴰ·tail, List·Memᴰ·not-nil}
-use Prim.Native.Nat.{ℕ, _<_}
+use Rattle.model.specs.Kit.{_≡_, refl, sym, subst, Bool, true, false, inl, inr, List, [], _∷_, List·Memᴰ, List·Memᴰ·head, List·Memᴰ·tail, List·Memᴰ·not-nil, ℕ, _<_, arith}
+use Rattle.model.specs.Kit.{ℕ-discrete, T, eqb, ltb, eqb→eq, length, ltb-true, ltb-false}
 use native.Mathlib.Nat.{le-of-lt}
-use native.Mathlib.Omega.{arith}
-use native.Mathlib.Decide.{ℕ-discrete}
-use lib.Dec.{T, eqb, ltb, eqb→eq}
-use lib.ListN.{length}
-use borrow.Author.Tests.{ltb-true, ltb-false}
-use Rattle.model.specs.Lists.{any, at, same}
-use Rattle.model.specs.ValueSets.{has}
-use Rattle.model.specs.Problem.{Problem}
-use Rattle.model.specs.Search.{supported}
+use Rattle.model.specs.{Lists.any, Lists.at, Lists.same, ValueSets.has, ValueSets.Inside, Problem.Problem, Problem.constraintAt, Search.supported, WellFormed.GoodConstraint}
 use Rattle.model.proofs.Lists.{of-not, any-e, among-i, same-eq, list-2, ascending-sorted}
-use Rattle.model.specs.Pruning.{Inside}
-use Rattle.model.specs.WellFormed.{GoodConstraint}
-use Rattle.arrays.specs.Places.{LINKED}
-use Rattle.arrays.specs.Layout.{constraintAt}
-use Rattle.arrays.specs.Tables.{linkOf, byRows, allowed, goes, Linked}
-use Rattle.arrays.specs.Pruning.{Fixed, Arc}
+use Rattle.arrays.specs.{inner.Places.LINKED, inner.Tables.linkOf, inner.Tables.byRows, inner.Tables.allowed, inner.Tables.goes, inner.Tables.Linked, inner.Pruning.Fixed}
+use Rattle.arrays.specs.inner.Pruning.{Arc}
 use Rattle.arrays.proofs.Links.{scope-order, link-scope, by-rows-link, by-rows-two, link-by-rows, allowed-none, allowed-is, goes-up, goes-down}
 use Rattle.prune_constraints.proofs.Rows.{RowIn, PairIn, supported-i, supported-out}
 
@@ -43,8 +28,10 @@ module _ (p : Problem) where
   pub goes-unlinked : (numbers : List ℕ) → Linked p numbers → (x v y w : ℕ) → has (at numbers LINKED) x ≡ false → T (goes p x v y w)
   goes-unlinked numbers l x v y w f =
       goes-free x v y w
-      (λ h. of-not (has (at numbers LINKED) x) f (l .linked x (linkOf p x y) h (link-by-rows p x y h) (subst (λ (s : List ℕ). T (any (eqb x) s)) (sym (link-scope p x y h)) (among-i x (x ∷ y ∷ []) (List·Memᴰ·head refl)))))
-      (λ h. of-not (has (at numbers LINKED) x) f (l .linked x (linkOf p y x) h (link-by-rows p y x h) (subst (λ (s : List ℕ). T (any (eqb x) s)) (sym (link-scope p y x h)) (among-i x (y ∷ x ∷ []) (List·Memᴰ·tail (List·Memᴰ·head refl))))))
+      (λ h. of-not (has (at numbers LINKED) x) f (l .linked x (linkOf p x y) h (link-by-rows p x y h)
+      (subst (λ (s : List ℕ). T (any (eqb x) s)) (sym (link-scope p x y h)) (among-i x (x ∷ y ∷ []) (List·Memᴰ·head refl)))))
+      (λ h. of-not (has (at numbers LINKED) x) f (l .linked x (linkOf p y x) h (link-by-rows p y x h)
+      (subst (λ (s : List ℕ). T (any (eqb x) s)) (sym (link-scope p y x h)) (among-i x (y ∷ x ∷ []) (List·Memᴰ·tail (List·Memᴰ·head refl))))))
 
   -- ---- arcs
   pub arc-kept : (ds es : List ℕ) (x : ℕ) → Inside es ds → at es x ≡ at ds x → Arc p ds x → Arc p es x

@@ -1,31 +1,18 @@
 -- The values below one taken from some of sixteen sets: the loop of `cut`, and what it is for a block. Assumes nothing.
-use mathlib.Core.Path.{_≡_, refl, sym, ap, _∙_, subst}
-use mathlib.Core.Bool.{Bool, true, false, not}
-use mathlib.Core.List.{List}
-use mathlib.Core.Logic.{⊎-elim}
-use Prim.Native.Nat.{ℕ, suc, _-_, _*_, _/_, _%_, _^_, _≤_, _<_}
-use native.Mathlib.Nat.{lt-of-le-of-lt, mod-eq-of-lt}
-use native.Mathlib.Omega.{arith}
-use native.Mathlib.Decide.{ℕ-discrete}
-use lib.Dec.{T, T-not, eqb, ltb}
-use lib.Bits.{bitAnd, bitOr, and-le-l}
-use lib.Count.{trailingZeros}
-use lib.ListN.{length, set, take, length-set}
-use lib.Pow.{pow-lt, pow-pos}
-use borrow.Author.Tests.{eqb-true, eq-eqb, ne-eqb, ltb-true, ltb-false, lt-ltb, le-ltb}
-use Rattle.model.specs.Lists.{both, at}
-use Rattle.model.specs.ValueSets.{has, maskOf, fullMask, oneIf}
-use Rattle.model.specs.Pruning.{Sets}
-use Rattle.model.proofs.Lists.{both-l, both-r, T-of, of-T, of-not, not-of, at-ext, at-out, at-set, at-set-other, at-tabulate, length-tabulate}
-use Rattle.model.proofs.Sets.{has-none, pow2, has-mask, mask-lt, mask-ext}
-use Rattle.model.proofs.Masks.{contains-op, has-and, has-not, has-one, has-ones, has-oneIf, is-mask}
-use Rattle.model.proofs.Members.{both-yes, Rest, rest-begin, rest-low, rest-turn, rest-has, rest-i, or-e}
+use Rattle.model.specs.Kit.{_≡_, refl, sym, ap, _∙_, subst, Bool, true, false, not, List, ⊎-elim, ℕ, suc, _-_, _*_, _/_, _%_, _^_, _≤_, _<_, lt-of-le-of-lt, mod-eq-of-lt, arith}
+use Rattle.model.specs.Kit.{ℕ-discrete, T, T-not, eqb, ltb, bitAnd, bitOr, and-le-l, trailingZeros, length, set, take, length-set, pow-lt, eqb-true, eq-eqb, ne-eqb, ltb-true}
+use Rattle.model.specs.Kit.{ltb-false, lt-ltb, le-ltb}
+use lib.Pow.{pow-pos}
+use Rattle.model.specs.{Lists.both, Lists.at, ValueSets.has, ValueSets.maskOf, ValueSets.fullMask, ValueSets.oneIf, inner.Pruning.Sets}
+use Rattle.model.proofs.Lists.{both-l, both-r, T-of, of-T, of-not, not-of, at-ext, at-out, at-set, at-set-other, at-tabulate, length-tabulate, both-true}
+use Rattle.model.proofs.{Sets.has-none, Sets.pow2, Sets.has-mask, Sets.mask-lt, Sets.mask-ext, Masks.contains-op, Masks.has-and, Masks.has-not, Masks.has-one, Masks.has-ones}
+use Rattle.model.proofs.{Masks.has-oneIf, Masks.is-mask, Members.Rest, Members.rest-begin, Members.rest-low, Members.rest-turn, Members.rest-has, Members.rest-i, Members.or-e}
 use Rattle.model.proofs.Firsts.{take-at, take-length}
-use Rattle.arrays.specs.Places.{DEAD}
+use Rattle.arrays.specs.inner.Places.{DEAD}
 use Rattle.prune_constraints.proofs.Stores.{Moves, moves-more}
 use Rattle.block.specs.BlockSets.{cutAfter}
 use Rattle.block.proofs.BlockSets.{cut-sets}
-use Rattle.prune.specs.Steps.{Differ, cutBelow, CutOr}
+use Rattle.prune.specs.inner.Steps.{Differ, cutBelow, CutOr}
 
 -- ---- one set
 pub not-below : (s v : ℕ) → s < 2 ^ 16 → bitAnd s ((2 ^ 16 - 1) - fullMask v) ≡ maskOf (λ u. both (has s u) (not (ltb u v)))
@@ -44,7 +31,7 @@ module _ (some v : ℕ) (sets : List ℕ) (s : Sets 16 sets) where
   length-below = length-tabulate (length sets) _ ∙ s .0
 
   pub below-same : (y : ℕ) → y < 16 → has some y ≡ false → at (cutBelow some v sets) y ≡ at sets y
-  below-same y l e = at-below y l ∙ sym (is-mask (at sets y) _ (s .1 y) (λ u h. sym (ap (λ (b : Bool). both (has (at sets y) u) (not (both b (ltb u v)))) e ∙ both-yes (has (at sets y) u))))
+  below-same y l e = at-below y l ∙ sym (is-mask (at sets y) _ (s .1 y) (λ u h. sym (ap (λ (b : Bool). both (has (at sets y) u) (not (both b (ltb u v)))) e ∙ both-true (has (at sets y) u))))
 
   pub below-cut : (y : ℕ) → y < 16 → T (has some y) → at (cutBelow some v sets) y ≡ maskOf (λ u. both (has (at sets y) u) (not (ltb u v)))
   below-cut y l t =
@@ -155,7 +142,8 @@ module _ (some v : ℕ) (sets₀ : List ℕ) (s₀ : Sets 16 sets₀) (inside : 
           few : (x : ℕ) → T (has (bitOr changed moved) x) → T (has some x)
           few x t =
               ⊎-elim {C = T (has some x)} (c .few x)
-              (λ q. subst (λ (y : ℕ). T (has some y)) (sym (eqb-true x low (of-T (eqb x low) (both-r (not (eqb kept (at sets low))) (eqb x low) (subst T (ap (λ (d : ℕ). has d x) m ∙ has-oneIf (not (eqb kept (at sets low))) low x) q))))) (low-in .0))
+              (λ q. subst (λ (y : ℕ). T (has some y)) (sym (eqb-true x low (of-T (eqb x low)
+              (both-r (not (eqb kept (at sets low))) (eqb x low) (subst T (ap (λ (d : ℕ). has d x) m ∙ has-oneIf (not (eqb kept (at sets low))) low x) q))))) (low-in .0))
               (or-e changed moved x t)
 
   pub cutting-end : {sets : List ℕ} {left changed : ℕ} → Cutting some v sets₀ sets left changed → left ≡ 0 → CutOr sets₀ (cutBelow some v sets₀) sets some changed
@@ -178,7 +166,8 @@ pub bit-out : (s k : ℕ) → (bitAnd (s / 2 ^ k) 1 ≡ 1 → ⊥) → has s k �
 bit-out s k e = sym (contains-op s k) ∙ ne-eqb (bitAnd (s / 2 ^ k) 1) 1 e
 
 pub two-some : (k : ℕ) → k < 12 → 1 ≤ 2 * 2 ^ k % 2 ^ 64
-two-some k h = let q : suc k < 64 = omega arith in let f : 2 ^ suc k < 2 ^ 64 = pow-lt q in subst (λ (n : ℕ). 1 ≤ n) (sym (mod-eq-of-lt (subst (λ (n : ℕ). n < 2 ^ 64) (pow2 k) f))) (omega (arith, pow-pos k))
+two-some k h = let q : suc k < 64 = omega arith in let f : 2 ^ suc k < 2 ^ 64 = pow-lt q in subst (λ (n : ℕ). 1 ≤ n) (sym (mod-eq-of-lt (subst (λ (n : ℕ). n < 2 ^ 64) (pow2 k) f)))
+    (omega (arith, pow-pos k))
 
 module _ (block k v : ℕ) (sets : List ℕ) (s : Sets 16 sets) where
   at-after : (y : ℕ) → y < 16 → at (cutAfter (has block) k v sets) y ≡ maskOf (λ u. both (has (at sets y) u) (not (both (both (has block k) (has block y)) (both (ltb k y) (ltb u v)))))
@@ -218,7 +207,8 @@ module _ (block k v : ℕ) (sets : List ℕ) (s : Sets 16 sets) where
       same : cutAfter (has block) k v sets ≡ sets
       same =
           at-ext (cutAfter (has block) k v sets) sets (length-after ∙ sym (s .0))
-          (λ y l. let h : y < 16 = omega (arith, length-after) in at-after y h ∙ sym (is-mask (at sets y) _ (s .1 y) (λ u h. sym (ap (λ (b : Bool). both (has (at sets y) u) (not (both (both b (has block y)) (both (ltb k y) (ltb u v))))) e ∙ both-yes (has (at sets y) u)))))
+          (λ y l. let h : y < 16 = omega (arith, length-after) in at-after y h ∙ sym (is-mask (at sets y) _ (s .1 y)
+          (λ u h. sym (ap (λ (b : Bool). both (has (at sets y) u) (not (both (both b (has block y)) (both (ltb k y) (ltb u v))))) e ∙ both-true (has (at sets y) u)))))
 
   -- k is one of them: those after it
   module _ (few : k < 12) (t : T (has block k)) (small : (y : ℕ) → T (has block y) → y < 16) (later : ℕ) (e : later ≡ bitAnd block ((2 ^ 64 - 1) - (2 * 2 ^ k % 2 ^ 64 - 1))) where
@@ -241,7 +231,8 @@ module _ (block k v : ℕ) (sets : List ℕ) (s : Sets 16 sets) where
         flip false q = let z = ltb-false y (suc k) q in sym (lt-ltb k y (omega arith))
 
     pub later-small : (y : ℕ) → T (has later y) → y < 16
-    later-small y q = small y (both-l (has block y) (has ((2 ^ 64 - 1) - (2 * 2 ^ k % 2 ^ 64 - 1)) y) (subst T (ap (λ (n : ℕ). has n y) e ∙ has-and block ((2 ^ 64 - 1) - (2 * 2 ^ k % 2 ^ 64 - 1)) y) q))
+    later-small y q = small y (both-l (has block y) (has ((2 ^ 64 - 1) - (2 * 2 ^ k % 2 ^ 64 - 1)) y)
+        (subst T (ap (λ (n : ℕ). has n y) e ∙ has-and block ((2 ^ 64 - 1) - (2 * 2 ^ k % 2 ^ 64 - 1)) y) q))
 
     in-block : (y : ℕ) → T (has later y) → T (has block y)
     in-block y q = both-l (has block y) (ltb k y) (subst T (has-later y (later-small y q)) q)

@@ -1,35 +1,17 @@
 -- The sets of a child once the block's later variables are cut: what may be pruned from there, and a set that is empty. Assumes nothing.
-use mathlib.Core.Path.{_≡_, refl, sym, ap, _∙_, subst}
-use mathlib.Core.Bool.{Bool, true, false, not}
-use mathlib.Core.List.{List}
-use mathlib.Core.Logic.{⊎-elim}
-use Prim.Native.Nat.{ℕ, _+_, _-_, _*_, _≤_, _<_}
-use native.Mathlib.Omega.{arith}
-use lib.Dec.{T}
-use lib.Bits.{bitAnd, bitOr}
-use lib.ListN.{length, take}
-use borrow.Author.Tests.{eq-eqb}
-use Rattle.model.specs.Lists.{either, at}
-use Rattle.model.specs.ValueSets.{has}
-use Rattle.model.specs.Problem.{Problem, withSymmetries}
-use Rattle.model.specs.Pruning.{Sets, Inside, Way}
-use Rattle.model.proofs.Lists.{T-of, T-ext, of-not, not-of, both-l, either-l, either-r, either-e}
-use Rattle.model.proofs.Sets.{empty-i, mask-ext}
-use Rattle.model.proofs.Masks.{has-and, has-or}
-use Rattle.model.proofs.Firsts.{take-at, take-sets, take-length, take-full, full-take}
-use Rattle.model.proofs.Tree.{well-sized}
-use Rattle.arrays.specs.Places.{BLOCK, LINKED, MARKS, DEAD}
-use Rattle.arrays.specs.Pruning.{Given, setsOf}
-use Rattle.prune_constraints.specs.Steps.{Touched}
+use Rattle.model.specs.Kit.{_≡_, refl, sym, ap, _∙_, subst, Bool, true, false, not, List, ⊎-elim, ℕ, _+_, _-_, _*_, _≤_, _<_, arith, T, bitAnd, bitOr, length, take, eq-eqb}
+use Rattle.model.specs.{Lists.either, Lists.at, ValueSets.has, ValueSets.Inside, Problem.Problem, Problem.withSymmetries, inner.Pruning.Sets, inner.Pruning.Way}
+use Rattle.model.proofs.{Lists.T-of, Lists.T-ext, Lists.of-not, Lists.not-of, Lists.both-l, Lists.either-l, Lists.either-r, Lists.either-e, Sets.empty-i, Sets.mask-ext}
+use Rattle.model.proofs.{Masks.has-and, Masks.has-or, Firsts.take-at, Firsts.take-sets, Firsts.take-length, Firsts.take-full, Firsts.full-take, Tree.well-sized}
+use Rattle.arrays.specs.{inner.Places.BLOCK, inner.Places.LINKED, inner.Places.MARKS, inner.Places.DEAD, inner.Pruning.Given, inner.Pruning.setsOf}
+use Rattle.prune_constraints.specs.inner.Steps.{Touched}
 use Rattle.prune_symmetries.proofs.Marks.{mark-mono}
 use Rattle.block.specs.BlockSets.{Ascends, cutAfter}
 use Rattle.block.proofs.BlockSets.{cut-sets, cut-e, cut-i}
-use Rattle.prune.specs.Node.{blockOf}
-use Rattle.prune.specs.Steps.{ArraysHold, Blocked, LiveSets, Startable, BeforeFixpoint, LastSettled, AfterFixpoint, CutOr}
-use Rattle.prune.proofs.Pending.{take-less, still-fixed, touched-known, still-arc}
-use Rattle.prune.proofs.FilterLoop.{kept-none}
-use Rattle.prune.proofs.FixpointLoop.{not-live, dead, same-at}
-use Rattle.prune.proofs.BlockCut.{after-take}
+use Rattle.prune.specs.{inner.Node.blockOf, inner.Steps.ArraysHold, inner.Steps.Blocked, inner.Steps.LiveSets, inner.Steps.Startable, inner.Steps.BeforeFixpoint}
+use Rattle.prune.specs.inner.Steps.{LastSettled, AfterFixpoint, CutOr}
+use Rattle.prune.proofs.{Pending.take-less, Pending.still-fixed, Pending.touched-known, Pending.still-arc, FilterLoop.kept-none, FixpointLoop.not-live, FixpointLoop.dead}
+use Rattle.prune.proofs.{FixpointLoop.same-at, BlockCut.after-take}
 
 module _ {p : Problem} {gs : List (List ℕ)} {supports tables numbers : List ℕ} (st : ArraysHold p supports tables numbers) (bl : Blocked p gs numbers) {ds : List ℕ}
     (b : LiveSets p ds) (k v : ℕ) {cut : List ℕ} {changed : ℕ} (c : CutOr ds (cutAfter (blockOf numbers) k v ds) cut (at numbers BLOCK) changed) where
@@ -81,7 +63,8 @@ module _ {p : Problem} {gs : List (List ℕ)} {supports tables numbers : List �
         kept : at cut x ≡ at ds x
         kept =
             mask-ext 16 (at cut x) (at ds x) (cut-16 .1 x) (b .sixteen .1 x)
-            (λ u l. T-ext (has (at cut x) u) (has (at ds x) u) (less x u) (λ t. subst (λ (l : List ℕ). T (has (at l x) u)) (sym cut-is) (cut-i (blockOf numbers) k v ds x u l t (λ f g i. absurd (omega arith)))))
+            (λ u l. T-ext (has (at cut x) u) (has (at ds x) u) (less x u) (λ t. subst (λ (l : List ℕ). T (has (at l x) u)) (sym cut-is)
+            (cut-i (blockOf numbers) k v ds x u l t (λ f g i. absurd (omega arith)))))
 
     some : (x : ℕ) → x < p .variables → at cut x ≡ 0 → ⊥
     some x h e = full-take (p .variables) ds (b .sixteen) n-16 (b .full) x h (go (has (at numbers BLOCK) x) refl)
@@ -100,7 +83,8 @@ module _ {p : Problem} {gs : List (List ℕ)} {supports tables numbers : List �
     pub cut-inside : Inside (setsOf p cut) (setsOf p ds)
     cut-inside = take-less st ds cut (b .sixteen) cut-16 less
 
-    module _ {work : List ℕ} {j todo dirty left todo′ dirty′ : ℕ} (s : Startable p work numbers ds j todo dirty) (u : Touched numbers changed left) (t : todo′ ≡ bitOr todo left) (d : dirty′ ≡ bitOr dirty (bitAnd changed (at numbers LINKED))) where
+    module _ {work : List ℕ} {j todo dirty left todo′ dirty′ : ℕ} (s : Startable p work numbers ds j todo dirty) (u : Touched numbers changed left) (t : todo′ ≡ bitOr todo left)
+        (d : dirty′ ≡ bitOr dirty (bitAnd changed (at numbers LINKED))) where
       given : Given p cut
       given = record { sixteen = cut-16; full = cut-live .full; inside = λ x u t. s .pending .given .inside x u (cut-inside x u t) }
 
@@ -122,11 +106,14 @@ module _ {p : Problem} {gs : List (List ℕ)} {supports tables numbers : List �
         live = cut-live;
         pending = record {
           given = given;
-          known = λ i q. ⊎-elim {C = i < length (p .constraints)} (s .pending .known i) (touched-known st changed left u (c .differ alive .few) i) (either-e (has todo i) (has left i) (subst T (has-todo i) q));
+          known = λ i q. ⊎-elim {C = i < length (p .constraints)} (s .pending .known i) (touched-known st changed left u (c .differ alive .few) i)
+              (either-e (has todo i) (has left i) (subst T (has-todo i) q));
           others = λ i h f r.
               let n = neither (has todo i) (has left i) (has todo′ i) (has-todo i) f in
               still-fixed st ds cut changed left (b .sixteen) cut-16 same-x u i h (n .1) r (s .pending .others i h (n .0) r);
-          inner = λ x q. ⊎-elim {C = x < p .variables} (s .pending .inner x) (λ m. bl .few x (c .few alive x (both-l (has changed x) (has (at numbers LINKED) x) (subst T (has-and changed (at numbers LINKED) x) m)))) (either-e (has dirty x) (has (bitAnd changed (at numbers LINKED)) x) (subst T (has-dirty x) q));
+          inner = λ x q. ⊎-elim {C = x < p .variables} (s .pending .inner x) (λ m. bl .few x
+              (c .few alive x (both-l (has changed x) (has (at numbers LINKED) x) (subst T (has-and changed (at numbers LINKED) x) m))))
+              (either-e (has dirty x) (has (bitAnd changed (at numbers LINKED)) x) (subst T (has-dirty x) q));
           arcs = λ x h f.
               let n = neither (has dirty x) (has (bitAnd changed (at numbers LINKED)) x) (has dirty′ x) (has-dirty x) f in
               still-arc st ds cut changed (bitAnd changed (at numbers LINKED)) (s .pending .given) given less same-x refl x h (n .1) (s .pending .arcs x h (n .0));
@@ -142,7 +129,8 @@ module _ {p : Problem} {gs : List (List ℕ)} {supports tables numbers : List �
         some = omega arith;
         value = let q : k ≡ k + 1 - 1 = omega arith in e ∙ ap (at work) q;
         clean = λ y h. not-of (has dirty′ y)
-            (λ q. ⊎-elim (λ i. let g = f y i in omega arith) (λ i. of-not (has changed y) (early y (omega arith)) (both-l (has changed y) (has (at numbers LINKED) y) (subst T (has-and changed (at numbers LINKED) y) i)))
+            (λ q. ⊎-elim (λ i. let g = f y i in omega arith) (λ i. of-not (has changed y) (early y (omega arith))
+            (both-l (has changed y) (has (at numbers LINKED) y) (subst T (has-and changed (at numbers LINKED) y) i)))
             (either-e (has dirty y) (has (bitAnd changed (at numbers LINKED)) y) (subst T (has-dirty y) q)));
       }
 

@@ -1,19 +1,11 @@
 -- The loops that store one number after another, and the one that compares sets. Assumes nothing.
-use mathlib.Core.Path.{_≡_, refl, ap, _∙_}
-use mathlib.Core.Bool.{not}
-use mathlib.Core.List.{List}
-use Prim.Native.Nat.{ℕ, _+_, _*_, _≤_, _<_}
-use native.Mathlib.Omega.{arith}
-use lib.Dec.{eqb}
-use lib.ListN.{length, set}
-use lib.Bits.{bitOr}
-use Rattle.model.specs.Lists.{at}
-use Rattle.model.specs.ValueSets.{oneIf}
-use Rattle.model.specs.Filling as filling
-use Rattle.model.proofs.Filling as loops
-use Rattle.arrays.specs.Places.{MARKS}
-use Rattle.prune.specs.Steps.{Differ, Stored, MarksCopied}
+use Rattle.model.specs.Kit.{_≡_, refl, ap, _∙_, not, List, ℕ, _+_, _*_, _≤_, _<_, arith, eqb, length, set, bitOr}
+use Rattle.model.specs.{Lists.at, ValueSets.oneIf}
+use Rattle.arrays.specs.inner.Places.{MARKS}
+use Rattle.prune.specs.inner.Steps.{Differ, Stored, MarksCopied}
 use Rattle.prune.proofs.FilterLoop.{kept-none}
+use Rattle.model.specs.inner.Filling as filling
+use Rattle.model.proofs.Filling as loops
 
 -- ---- i numbers stored from a base on
 abbrev pub Filled : (ℕ → ℕ) → ℕ → List ℕ → List ℕ → ℕ → Type 0

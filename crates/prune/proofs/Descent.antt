@@ -1,19 +1,10 @@
 -- Going down a path: the sets of depth k with one value of variable k's left and the block's later variables cut, of which nothing is known. Assumes nothing.
-use mathlib.Core.Path.{_≡_, refl, sym, subst}
-use mathlib.Core.Bool.{Bool, true}
-use mathlib.Core.List.{List, []}
-use Prim.Native.Nat.{ℕ, _+_, _%_}
-use native.Mathlib.Omega.{arith}
-use lib.ListN.{take, set}
-use Rattle.model.specs.Lists.{at}
-use Rattle.model.specs.ValueSets.{onlyMask}
-use Rattle.model.specs.Problem.{Problem, withSymmetries}
-use Rattle.model.specs.Pruning.{Sets, Way}
-use Rattle.arrays.specs.Places.{BLOCK, DEAD}
-use Rattle.arrays.specs.Pruning.{setsOf}
+use Rattle.model.specs.Kit.{_≡_, refl, sym, subst, Bool, true, List, [], ℕ, _+_, _%_, arith, take, set}
+use Rattle.model.specs.{Lists.at, ValueSets.onlyMask, Problem.Problem, Problem.withSymmetries, inner.Pruning.Sets, inner.Pruning.Way}
+use Rattle.arrays.specs.{inner.Places.BLOCK, inner.Places.DEAD, inner.Pruning.setsOf}
 use Rattle.block.specs.BlockSets.{Ascends, cutAfter}
-use Rattle.prune.specs.Node.{AtNode, Reached, longer, blockOf}
-use Rattle.prune.specs.Steps.{LiveSets, Unpruned, CutOr, Loaded}
+use Rattle.prune.specs.{inner.Node.AtNode, inner.Node.Reached, inner.Node.longer, inner.Node.blockOf, inner.Steps.LiveSets, inner.Steps.Unpruned, inner.Steps.CutOr}
+use Rattle.prune.specs.inner.Steps.{Loaded}
 use Rattle.prune.proofs.Starts.{arrays-hold, blocked, ready-few, reached-dead, longer-is, in-initial, start-live, start-initial, start-way}
 use Rattle.prune.proofs.ChildCut.{whole-is, cut-dead, cut-sets-are, cut-live, cut-inside}
 

@@ -1,34 +1,17 @@
 -- The loop over the symmetries: what their filters have left before each turn, one turn, and both ends. Assumes nothing.
-use mathlib.Core.Path.{_≡_, refl, sym, ap, _∙_, subst}
-use mathlib.Core.Bool.{Bool, true, false}
-use mathlib.Core.List.{List, []}
-use Prim.Native.Nat.{ℕ, _+_, _*_, _%_, _≤_, _<_}
-use native.Mathlib.Omega.{arith}
-use native.Mathlib.Decide.{ℕ-discrete}
-use lib.Dec.{T, ltb}
-use lib.ListN.{length, set, take, length-set}
-use lib.Seq.{length-take-le}
-use borrow.Author.Tests.{ltb-true, ltb-false, ne-eqb, eq-eqb}
-use Rattle.model.specs.Lists.{at}
-use Rattle.model.specs.ValueSets.{has, anyEmpty}
-use Rattle.model.specs.Problem.{Problem}
-use Rattle.model.specs.Nogood.{filtered}
-use Rattle.model.specs.Search.{nogoodsOf}
-use Rattle.model.proofs.Lists.{T-of, at-ext, at-set, at-set-other, at-take, mem-getD, place-of}
-use Rattle.model.proofs.Sets.{inside-antisym, has-at-lt}
-use Rattle.model.specs.Pruning.{Sets, Inside, Prunes}
-use Rattle.model.proofs.Firsts.{take-sets, take-e, take-i, full-take}
-use Rattle.model.proofs.Filter.{filtered-inside}
-use Rattle.model.proofs.Prune.{filter-removal}
-use Rattle.model.proofs.Prunes.{prunes-none, prunes-then, removal-prunes}
-use Rattle.arrays.specs.Places.{ENTAILED, FAILED, MARKS, SYMMETRIES, WORK}
-use Rattle.arrays.specs.Layout.{symmetryAt}
-use Rattle.arrays.specs.Pruning.{setsOf}
+use Rattle.model.specs.Kit.{_≡_, refl, sym, ap, _∙_, subst, Bool, true, false, List, [], ℕ, _+_, _*_, _%_, _≤_, _<_, arith, ℕ-discrete, T, ltb, length, set, take, length-set}
+use Rattle.model.specs.Kit.{length-take-le, ltb-true, ltb-false, ne-eqb, eq-eqb}
+use Rattle.model.specs.{Lists.at, ValueSets.has, ValueSets.anyEmpty, ValueSets.Inside, Problem.Problem, Problem.symmetryAt, Nogood.filtered, Search.nogoodsOf, inner.Pruning.Sets}
+use Rattle.model.specs.inner.Pruning.{Prunes}
+use Rattle.model.proofs.{Lists.T-of, Lists.at-ext, Lists.at-set, Lists.at-set-other, Lists.at-take, Lists.mem-getD, Lists.place-of, Sets.inside-antisym, Sets.has-at-lt}
+use Rattle.model.proofs.{Firsts.take-sets, Firsts.take-e, Firsts.take-i, Firsts.full-take, Filter.filtered-inside, Prune.filter-removal, Prunes.prunes-none, Prunes.prunes-then}
+use Rattle.model.proofs.Prunes.{removal-prunes}
+use Rattle.arrays.specs.{inner.Places.ENTAILED, inner.Places.FAILED, inner.Places.MARKS, inner.Places.SYMMETRIES, inner.Places.WORK, inner.Pruning.setsOf}
 use Rattle.filter.specs.Marks.{Vacuous}
-use Rattle.prune_symmetries.specs.Levels.{Mark, Resumes, FilterRequires, FilterEnsures, leaves}
+use Rattle.prune_symmetries.specs.inner.Levels.{Mark, Resumes, FilterRequires, FilterEnsures, leaves}
 use Rattle.prune_symmetries.proofs.Marks.{mark-mono, mark-skips, mark-resumes}
-use Rattle.prune.specs.Node.{MarksRight}
-use Rattle.prune.specs.Steps.{ArraysHold, PrefixHeld, LiveSets, AllFiltered, AllFilteredOr, OnlyMarks}
+use Rattle.prune.specs.{inner.Node.MarksRight, inner.Steps.ArraysHold, inner.Steps.PrefixHeld, inner.Steps.LiveSets, inner.Steps.AllFiltered, inner.Steps.AllFilteredOr}
+use Rattle.prune.specs.inner.Steps.{OnlyMarks}
 
 -- ---- what of `work` is kept
 pub kept-none : (work : List ℕ) (k : ℕ) → OnlyMarks work work k
@@ -56,7 +39,8 @@ same-take work work′ k j l r h =
 take-take : (work : List ℕ) (j k : ℕ) → length work ≡ WORK → j ≤ k → k ≤ 16 → take j (take k work) ≡ take j work
 take-take work j k l h f =
     at-ext (take j (take k work)) (take j work) (length-take-le j (take k work) (omega (arith, take-length work k l f)) ∙ sym (take-length work j l (omega arith)))
-    (λ i m. let m′ : i < j = subst (λ (n : ℕ). i < n) (length-take-le j (take k work) (omega (arith, take-length work k l f))) m in at-take j (take k work) i m′ ∙ at-take k work i (omega arith) ∙ sym (at-take j work i m′))
+    (λ i m. let m′ : i < j = subst (λ (n : ℕ). i < n) (length-take-le j (take k work) (omega (arith, take-length work k l f))) m in at-take j (take k work) i m′ ∙ at-take k work i (omega arith)
+    ∙ sym (at-take j work i m′))
 
 -- ---- what holds before the turn of symmetry e
 pub record FilteredSoFar (p : Problem) (k : ℕ) (work₀ ds work es : List ℕ) (e : ℕ) : Type 0 where
@@ -79,7 +63,8 @@ module _ {p : Problem} {supports tables numbers : List ℕ} (st : ArraysHold p s
         live = s .live;
         less = s .less;
         way = s .way;
-        fixed = λ q t m. let r = place-of (p .symmetries) t [] m in subst (λ (z : List ℕ). filtered (setsOf p ds) (nogoodsOf p z (take k work₀)) ≡ setsOf p ds) (r .2) (s .fixed q (r .0) (omega (arith, r .1, st .indexed .numbered .symmetries)));
+        fixed = λ q t m. let r = place-of (p .symmetries) t [] m in subst (λ (z : List ℕ). filtered (setsOf p ds) (nogoodsOf p z (take k work₀)) ≡ setsOf p ds) (r .2)
+            (s .fixed q (r .0) (omega (arith, r .1, st .indexed .numbered .symmetries)));
       }
 
   -- ---- one turn
@@ -125,7 +110,8 @@ module _ {p : Problem} {supports tables numbers : List ℕ} (st : ArraysHold p s
       live = s .live;
       less = s .less;
       way = s .way;
-      fixed = fixed-turn es (s .live .sixteen) (λ x v t. t) (sym (mark-skips p (setsOf p es) (take k work₀) e (at work (16 * k + MARKS + e)) (omega (arith, depth-is, k-few)) mark (rw depth-is q) es-sets (s .live .full)));
+      fixed = fixed-turn es (s .live .sixteen) (λ x v t. t) (sym (mark-skips p (setsOf p es) (take k work₀) e (at work (16 * k + MARKS + e)) (omega (arith, depth-is, k-few)) mark
+          (rw depth-is q) es-sets (s .live .full)));
       marking = s .marking;
       kept = s .kept;
     }
@@ -153,7 +139,8 @@ module _ {p : Problem} {supports tables numbers : List ℕ} (st : ArraysHold p s
         unused = s .live .unused;
         begun = begun;
         vacuous = subst (λ (z : List ℕ). Vacuous (setsOf p es) (nogoodsOf p (symmetryAt p e) z))
-            (take-take work₀ (at work (16 * k + MARKS + e) % ENTAILED) k (g .work-length) begun (omega (arith, k-few)) ∙ sym (same-take work₀ work k (at work (16 * k + MARKS + e) % ENTAILED) (g .work-length) (s .kept) (omega (arith, k-few, begun)))) (resumes .vacuous);
+            (take-take work₀ (at work (16 * k + MARKS + e) % ENTAILED) k (g .work-length) begun (omega (arith, k-few)) ∙ sym
+            (same-take work₀ work k (at work (16 * k + MARKS + e) % ENTAILED) (g .work-length) (s .kept) (omega (arith, k-few, begun)))) (resumes .vacuous);
       }
 
       -- what the filter leaves, at the prefix
@@ -163,12 +150,16 @@ module _ {p : Problem} {supports tables numbers : List ℕ} (st : ArraysHold p s
       left-way : Prunes p (take k work₀) (setsOf p ds) (filtered (setsOf p es) (nogoodsOf p (symmetryAt p e) (take k work₀)))
       left-way =
           prunes-then p (take k work₀) (setsOf p ds) (setsOf p es) (filtered (setsOf p es) (nogoodsOf p (symmetryAt p e) (take k work₀))) (s .way)
-          (removal-prunes p (take k work₀) (setsOf p es) (filtered (setsOf p es) (nogoodsOf p (symmetryAt p e) (take k work₀))) (filter-removal p (take k work₀) (setsOf p es) es-sets (symmetryAt p e) (mem-getD (p .symmetries) e [] e-lt)))
+          (removal-prunes p (take k work₀) (setsOf p es) (filtered (setsOf p es) (nogoodsOf p (symmetryAt p e) (take k work₀)))
+          (filter-removal p (take k work₀) (setsOf p es) es-sets (symmetryAt p e) (mem-getD (p .symmetries) e [] e-lt)))
 
       module _ {fs : List ℕ} {r : ℕ} (f : FilterEnsures p es work e k fs r) where
         pub filtered-dead : r ≡ FAILED → AllFilteredOr p k work₀ ds work fs true
         filtered-dead q = record {
-          ended = λ _. (filtered (setsOf p es) (nogoodsOf p (symmetryAt p e) (take k work₀)), (left-way, T-of (anyEmpty (filtered (setsOf p es) (nogoodsOf p (symmetryAt p e) (take k work₀)))) (ap anyEmpty (sym leaves-is) ∙ sym (f .answers) ∙ eq-eqb r FAILED q)));
+          ended = λ _. (
+            filtered (setsOf p es) (nogoodsOf p (symmetryAt p e) (take k work₀)),
+            (left-way, T-of (anyEmpty (filtered (setsOf p es) (nogoodsOf p (symmetryAt p e) (take k work₀)))) (ap anyEmpty (sym leaves-is) ∙ sym (f .answers) ∙ eq-eqb r FAILED q)),
+          );
           all-filtered = λ z. absurd (subst T z tt);
           marking = λ z. absurd (subst T z tt);
           kept = s .kept;
@@ -190,7 +181,8 @@ module _ {p : Problem} {supports tables numbers : List ℕ} (st : ArraysHold p s
               go : (b : Bool) → ltb x (p .variables) ≡ b → T (has (at es x) v)
               go true q =
                   let i = take-i (p .variables) fs sixteen n-few x v (ltb-true x (p .variables) q) t in
-                  take-e (p .variables) es (s .live .sixteen) n-few x v (filtered-inside (setsOf p es) (nogoodsOf p (symmetryAt p e) (take k work₀)) x v (subst (λ (l : List ℕ). T (has (at l x) v)) here i)) .1
+                  take-e (p .variables) es (s .live .sixteen) n-few x v (filtered-inside (setsOf p es) (nogoodsOf p (symmetryAt p e) (take k work₀)) x v
+                  (subst (λ (l : List ℕ). T (has (at l x) v)) here i)) .1
               go false q =
                   let o = ltb-false x (p .variables) q in
                   let i : x < 16 = subst (λ (z : ℕ). x < z) (f .sixteen) (has-at-lt fs x v t) in

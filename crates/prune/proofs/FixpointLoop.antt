@@ -1,52 +1,36 @@
 -- Filters and constraints by turns: the loop of `alternate` and its ends, and the look-ups, the cuts by variable and the constraints in front of it. Assumes nothing.
-use mathlib.Core.Path.{_≡_, refl, sym, ap, _∙_, subst}
-use mathlib.Core.Bool.{Bool, true, false, not}
-use mathlib.Core.Logic.{⊎-elim}
-use mathlib.Core.List.{List, [], List·Memᴰ·head}
-use Prim.Native.Nat.{ℕ, _+_, _-_, _*_, _^_, _≤_, _<_}
-use native.Mathlib.Nat.{lt-of-le-of-lt}
-use native.Mathlib.Omega.{arith}
-use lib.Dec.{T, eqb, ltb}
-use lib.ListN.{length, take}
-use lib.Bits.{bitAnd, bitOr, and-le-l}
-use lib.Seq.{length-take-le}
-use borrow.Author.Tests.{ltb-true, ltb-false, eqb-true, eq-eqb}
-use Rattle.model.specs.Lists.{at, ascending}
-use Rattle.model.specs.ValueSets.{has, anyEmpty}
-use Rattle.model.specs.Problem.{Problem, Constraint, withSymmetries}
-use Rattle.model.specs.Search.{pruned, setsAt, isLive, supported}
+use Rattle.model.specs.Kit.{_≡_, refl, sym, ap, _∙_, subst, Bool, true, false, not, ⊎-elim, List, [], List·Memᴰ·head, ℕ, _+_, _-_, _*_, _^_, _≤_, _<_, lt-of-le-of-lt, arith, T}
+use Rattle.model.specs.Kit.{eqb, ltb, length, take, bitAnd, bitOr, and-le-l, length-take-le, ltb-true, ltb-false, eqb-true, eq-eqb}
+use Rattle.model.specs.{Lists.at, Lists.ascending, ValueSets.has, ValueSets.anyEmpty, ValueSets.Inside, Problem.Problem, Problem.Constraint, Problem.withSymmetries}
+use Rattle.model.specs.{Problem.constraintAt, Search.pruned, Search.setsAt, Search.isLive, Search.supported, inner.Pruning.Sets, inner.Pruning.closed, inner.Pruning.Way}
+use Rattle.model.specs.inner.Pruning.{Prunes}
 use Rattle.model.proofs.Lists.{T-of, of-T, not-of, of-not, at-ext, at-take, both-l, place-of, list-3, ascending-sorted}
-use Rattle.model.proofs.Sets.{has-none, mask-ext, member, empty-inside, inside-antisym, size, size-inside, size-strict}
-use Rattle.model.specs.Pruning.{Sets, Inside, closed, Way, Prunes}
-use Rattle.model.proofs.Masks.{has-and}
-use Rattle.model.proofs.Members.{has-0, or-e, and-e}
-use Rattle.model.proofs.Firsts.{take-sets, take-i, full-take}
-use Rattle.model.proofs.Prune.{narrowed-e, Sized, Kept, fixed-i, largest, live-is, way-live, way-end}
-use Rattle.model.proofs.Tree.{well-sized}
-use Rattle.arrays.specs.Places.{DEAD, LINKED, LOOKS, MARKS, SYMMETRIES, WORK}
-use Rattle.arrays.specs.Layout.{constraintAt}
-use Rattle.arrays.specs.Tables.{LooksUp}
+use Rattle.model.proofs.{Sets.has-none, Sets.mask-ext, Sets.member, Sets.empty-inside, Sets.inside-antisym, Sets.size, Sets.size-inside, Sets.size-strict, Masks.has-and}
+use Rattle.model.proofs.{Members.has-0, Members.or-e, Members.and-e, Firsts.take-sets, Firsts.take-i, Firsts.full-take, Prune.narrowed-e, Prune.Sized, Prune.Kept, Prune.fixed-i}
+use Rattle.model.proofs.{Prune.largest, Prune.live-is, Prune.way-live, Prune.way-end, Tree.well-sized}
+use Rattle.arrays.specs.{inner.Places.DEAD, inner.Places.LINKED, inner.Places.LOOKS, inner.Places.MARKS, inner.Places.SYMMETRIES, inner.Places.WORK, inner.Tables.LooksUp}
+use Rattle.arrays.specs.inner.Pruning.{Given, Ended, setsOf}
 use Rattle.arrays.proofs.Links.{good}
-use Rattle.arrays.specs.Pruning.{Given, Ended, setsOf}
-use Rattle.prune_pairs.specs.Links.{Settled, ArcsMade}
+use Rattle.prune_pairs.specs.inner.Links.{Settled, ArcsMade}
 use Rattle.prune_pairs.proofs.Settled.{settled-stays}
-use Rattle.prune_constraints.specs.Steps.{Touched}
-use Rattle.prune_constraints.specs.LookUps.{Alone, LookUp, LookUpsPending, LookedUp}
+use Rattle.prune_constraints.specs.{inner.Steps.Touched, inner.LookUps.Alone, inner.LookUps.LookUp, inner.LookUps.LookUpsPending, inner.LookUps.LookedUp}
 use Rattle.prune_constraints.proofs.Touching.{touchedOf, touched-of, touched-parts}
 use Rattle.prune_symmetries.proofs.Marks.{mark-mono}
 use Rattle.block.specs.BlockSets.{Ascends}
 use Rattle.block.proofs.BlockSets.{ascends-less, way-prunes-own, fixed-whole}
-use Rattle.prune.specs.Node.{MarksRight, blockOf}
-use Rattle.prune.specs.Steps.{ArraysHold, Blocked, Pending, PrunedSoFar, AllConstrained, LiveSets, AllFiltered, EndedAt, OnlyMarks, Startable, BeforeFixpoint, LastSettled, AfterFixpoint, Differ}
-use Rattle.prune.proofs.Pending.{pruned-none, pruned-more, nothing-due, take-less, still-fixed, touched-known, still-arc, constraints-pending, looked-few, looks-turn, arcs-pruned, arcs-turn}
-use Rattle.prune.proofs.FilterLoop.{same-take, kept-none, kept-trans, filtered-begin, filtered-end}
+use Rattle.prune.specs.{inner.Node.MarksRight, inner.Node.blockOf, inner.Steps.ArraysHold, inner.Steps.Blocked, inner.Steps.Pending, inner.Steps.PrunedSoFar}
+use Rattle.prune.specs.inner.Steps.{AllConstrained, LiveSets, AllFiltered, EndedAt, OnlyMarks, Startable, BeforeFixpoint, LastSettled, AfterFixpoint, Differ}
+use Rattle.prune.proofs.Pending.{pruned-none, pruned-more, nothing-due, take-less, still-fixed, touched-known, still-arc, constraints-pending, looked-few, looks-turn}
+use Rattle.prune.proofs.{Pending.arcs-pruned, Pending.arcs-turn, FilterLoop.same-take, FilterLoop.kept-none, FilterLoop.kept-trans, FilterLoop.filtered-begin}
+use Rattle.prune.proofs.FilterLoop.{filtered-end}
 
 -- ---- a set is empty, so the prefix is dead
 pub not-live : (p : Problem) (prefix es : List ℕ) → Way p prefix es → Sized p → T (anyEmpty es) → isLive p prefix ≡ false
 not-live p prefix es w s t =
     live-is p prefix ∙ ap not (of-T (anyEmpty (closed p prefix)) (empty-inside (p .variables) (closed p prefix) es (largest p prefix s .sets) (w .sets) (w .over) t))
 
-pub dead : (p : Problem) (gs : List (List ℕ)) (k : ℕ) (work work′ sets : List ℕ) → OnlyMarks work work′ k → isLive (withSymmetries p gs) (take k work) ≡ false → AfterFixpoint p gs k work work′ sets true
+pub dead : (p : Problem) (gs : List (List ℕ)) (k : ℕ) (work work′ sets : List ℕ) → OnlyMarks work work′ k → isLive (withSymmetries p gs) (take k work) ≡ false
+    → AfterFixpoint p gs k work work′ sets true
 dead p gs k work work′ sets r e = record { answers = sym (ap not e); sets-are = λ q. absurd (subst T q tt); live = λ q. absurd (subst T q tt); marking = λ q. absurd (subst T q tt); kept = r }
 
 -- ---- which sets differ
@@ -63,7 +47,8 @@ module _ (ds es : List ℕ) (s : Sets 16 ds) (t : Sets 16 es) (changed : ℕ) (d
 
   some-differs : changed < 2 ^ 64 → (changed ≡ 0 → ⊥) → es ≡ ds → ⊥
   some-differs h n e =
-      n (mask-ext 64 changed 0 h (omega arith) (λ x l. not-of (has changed x) (λ q. subst T (d .differ x (d .few x q) ∙ ap not (eq-eqb (at es x) (at ds x) (ap (λ (z : List ℕ). at z x) e))) q) ∙ sym (has-none x)))
+      n (mask-ext 64 changed 0 h (omega arith) (λ x l. not-of (has changed x) (λ q. subst T (d .differ x (d .few x q) ∙ ap not (eq-eqb (at es x) (at ds x) (ap (λ (z : List ℕ). at z x) e))) q)
+      ∙ sym (has-none x)))
 
   pub fewer : changed < 2 ^ 64 → (changed ≡ 0 → ⊥) → Inside es ds → size es < size ds
   fewer h n i = go (ltb (size es) (size ds)) refl
@@ -73,7 +58,8 @@ module _ (ds es : List ℕ) (s : Sets 16 ds) (t : Sets 16 es) (changed : ℕ) (d
       go false q = absurd (some-differs h n (inside-antisym 16 es ds t s i (size-strict es ds (t .0 ∙ sym (s .0)) (s .1) i (ltb-false (size es) (size ds) q))))
 
 -- ---- what is said of work's prefix is said of another with the same prefix
-module _ {p : Problem} {supports tables numbers : List ℕ} (st : ArraysHold p supports tables numbers) {work₀ work : List ℕ} {k : ℕ} (l : length work₀ ≡ WORK) (h : k ≤ p .variables) (r : OnlyMarks work₀ work k) where
+module _ {p : Problem} {supports tables numbers : List ℕ} (st : ArraysHold p supports tables numbers) {work₀ work : List ℕ} {k : ℕ} (l : length work₀ ≡ WORK) (h : k ≤ p .variables)
+    (r : OnlyMarks work₀ work k) where
   same-prefix : take k work ≡ take k work₀
   same-prefix = same-take work₀ work k k l r (omega (arith, h, st .wellFormed .few))
 
@@ -87,7 +73,8 @@ module _ {p : Problem} {supports tables numbers : List ℕ} (st : ArraysHold p s
   }
 
 -- ---- the constraints prune
-module _ {p : Problem} {gs : List (List ℕ)} {supports tables numbers : List ℕ} (st : ArraysHold p supports tables numbers) (bl : Blocked p gs numbers) {work ds : List ℕ} {k todo dirty : ℕ} (n : BeforeFixpoint p gs work numbers ds k todo dirty) where
+module _ {p : Problem} {gs : List (List ℕ)} {supports tables numbers : List ℕ} (st : ArraysHold p supports tables numbers) (bl : Blocked p gs numbers) {work ds : List ℕ} {k todo dirty : ℕ}
+    (n : BeforeFixpoint p gs work numbers ds k todo dirty) where
   n-few : p .variables ≤ 16
   n-few = omega (arith, st .wellFormed .few)
 
@@ -111,7 +98,8 @@ module _ {p : Problem} {gs : List (List ℕ)} {supports tables numbers : List �
 
     marking-1 : MarksRight p (setsOf p es) (take k work) work k
     marking-1 e l =
-        mark-mono p (setsOf p ds) (setsOf p es) (take k work) e (at work (16 * k + MARKS + e)) (take-sets (p .variables) es (g .sixteen) n-few .0 ∙ sym (take-sets (p .variables) ds (n .startable .live .sixteen) n-few .0))
+        mark-mono p (setsOf p ds) (setsOf p es) (take k work) e (at work (16 * k + MARKS + e))
+        (take-sets (p .variables) es (g .sixteen) n-few .0 ∙ sym (take-sets (p .variables) ds (n .startable .live .sixteen) n-few .0))
         inside-1 (n .startable .marking e l)
 
     way-1 : Way (withSymmetries p gs) (take k work) (setsOf p es)
@@ -127,11 +115,16 @@ module _ {p : Problem} {gs : List (List ℕ)} {supports tables numbers : List �
   -- the look-ups are done
   pub looks-done : {fs : List ℕ} {looks looked : ℕ} → LookedUp p numbers supports ds fs todo looks looked → (looked ≡ DEAD → ⊥) →
       BeforeFixpoint p gs work numbers fs k (bitOr (bitAnd todo ((2 ^ 64 - 1) - looks)) (touchedOf numbers looked)) (bitOr dirty (bitAnd looked (at numbers LINKED)))
-  looks-done {fs = fs} {looked = looked} l live = let w = looks-turn st (n .startable .pending) l live in pruned-start (pruned-more p ds ds fs looked (pruned-none p ds) (l .lessened live)) (w .given) w
+  looks-done {fs = fs} {looked = looked} l live = let w = looks-turn st (n .startable .pending) l live in pruned-start (pruned-more p ds ds fs looked (pruned-none p ds) (l .lessened live))
+      (w .given) w
 
   -- a settled variable has one value, that of the prefix
   settled : (x : ℕ) → x < k → Alone (at ds x) (at work x)
-  settled x h = (record { some = some; only = λ u v s t. value u s ∙ sym (value v t) }, let m = member (at ds x) (n .startable .live .sixteen .1 x) some in subst (λ (u : ℕ). T (has (at ds x) u)) (value (m .0) (m .2)) (m .2))
+  settled x h = (
+    record { some = some; only = λ u v s t. value u s ∙ sym (value v t) },
+    let m = member (at ds x) (n .startable .live .sixteen .1 x) some in subst (λ (u : ℕ). T (has (at ds x) u))
+        (value (m .0) (m .2)) (m .2),
+  )
     where
       some : at ds x ≡ 0 → ⊥
       some = full-take (p .variables) ds (n .startable .live .sixteen) n-few (n .startable .live .full) x (omega (arith, n .startable .prefix-held .depth))
@@ -143,11 +136,13 @@ module _ {p : Problem} {gs : List (List ℕ)} {supports tables numbers : List �
           ∙ at-take k work x h
 
   -- the look-ups leave the variables that were settled before as they are
-  pub looks-settled : {fs : List ℕ} {v looks looked : ℕ} → LastSettled work k v dirty → LookedUp p numbers supports ds fs todo looks looked → (looked ≡ DEAD → ⊥) → Settled fs (bitOr dirty (bitAnd looked (at numbers LINKED))) (k - 1)
+  pub looks-settled : {fs : List ℕ} {v looks looked : ℕ} → LastSettled work k v dirty → LookedUp p numbers supports ds fs todo looks looked → (looked ≡ DEAD → ⊥) → Settled fs
+      (bitOr dirty (bitAnd looked (at numbers LINKED))) (k - 1)
   looks-settled {fs = fs} {looked = looked} a l live = record {
     clean = λ y h. not-of (has (bitOr dirty (bitAnd looked (at numbers LINKED))) y)
         (λ q. ⊎-elim (of-not (has dirty y) (a .clean y h))
-        (λ i. of-not (has looked y) (settled-stays p ds n-few (n .startable .live .sixteen) y (settled y (omega arith) .0 .only) (l .lessened live) (l .changed live)) (and-e looked (at numbers LINKED) y i .0))
+        (λ i. of-not (has looked y) (settled-stays p ds n-few (n .startable .live .sixteen) y (settled y (omega arith) .0 .only) (l .lessened live) (l .changed live))
+        (and-e looked (at numbers LINKED) y i .0))
         (or-e dirty (bitAnd looked (at numbers LINKED)) y q));
     single = λ y h u v s t. settled y (omega arith) .0 .only u v (l .less y u s) (l .less y v t);
   }
@@ -172,14 +167,16 @@ module _ {p : Problem} {gs : List (List ℕ)} {supports tables numbers : List �
   constrained-size {es = es} c = size-inside es ds (c .given .sixteen .0 ∙ sym (n .startable .live .sixteen .0)) (c .so-far .less)
 
 -- ---- one turn: no constraint takes anything from es, and the filters leave fs
-module _ {p : Problem} {gs : List (List ℕ)} {supports tables numbers : List ℕ} (st : ArraysHold p supports tables numbers) (bl : Blocked p gs numbers) {work es : List ℕ} {k : ℕ} (n : BeforeFixpoint p gs work numbers es k 0 0) where
+module _ {p : Problem} {gs : List (List ℕ)} {supports tables numbers : List ℕ} (st : ArraysHold p supports tables numbers) (bl : Blocked p gs numbers) {work es : List ℕ} {k : ℕ}
+    (n : BeforeFixpoint p gs work numbers es k 0 0) where
   at-rest : AllConstrained p es es
   at-rest = nothing-due st (pruned-none p es) (n .startable .pending) refl refl
 
   pub filters-dead : (work′ fs : List ℕ) → OnlyMarks work work′ k → EndedAt p (take k work) es → AfterFixpoint p gs k work work′ fs true
   filters-dead work′ fs r e = dead p gs k work work′ fs r (ends st bl n (e .0) (stays st bl n (setsOf p es) (e .0) (e .1 .0) (n .way)) (e .1 .1))
 
-  module _ {work′ fs : List ℕ} (s : AllFiltered p (take k work) es fs) (m : MarksRight p (setsOf p fs) (take k work) work′ k) (r : OnlyMarks work work′ k) {changed : ℕ} (d : Differ es fs changed) where
+  module _ {work′ fs : List ℕ} (s : AllFiltered p (take k work) es fs) (m : MarksRight p (setsOf p fs) (take k work) work′ k) (r : OnlyMarks work work′ k) {changed : ℕ}
+      (d : Differ es fs changed) where
     way-2 : Way (withSymmetries p gs) (take k work) (setsOf p fs)
     way-2 = stays st bl n (setsOf p es) (setsOf p fs) (s .way) (n .way)
 
@@ -202,12 +199,14 @@ module _ {p : Problem} {gs : List (List ℕ)} {supports tables numbers : List �
         kept : (x v : ℕ) → T (has (at (setsOf p es) x) v) → Kept p (take k work) (setsOf p es) x v
         kept x v t = record {
           member = t;
-          rows = λ a i. let q = place-of (p .constraints) a (record { scope = []; rows = [] }) i in subst (λ (z : Constraint). T (supported (setsOf p es) x v z)) (q .2) (at-rest .fixed (q .0) (q .1) x v t);
+          rows = λ a i. let q = place-of (p .constraints) a (record { scope = []; rows = [] }) i in subst (λ (z : Constraint). T (supported (setsOf p es) x v z)) (q .2)
+              (at-rest .fixed (q .0) (q .1) x v t);
           filters = λ g i. subst (λ (z : List ℕ). T (has (at z x) v)) (sym (s .fixed same g i)) t;
         }
 
         fixed-own : pruned p (take k work) (setsOf p fs) ≡ setsOf p fs
-        fixed-own = subst (λ (z : List ℕ). pruned p (take k work) (setsOf p z) ≡ setsOf p z) (sym same) (fixed-i p (take k work) (setsOf p es) (take-sets (p .variables) es (at-rest .given .sixteen) (n-few st bl n)) kept)
+        fixed-own = subst (λ (z : List ℕ). pruned p (take k work) (setsOf p z) ≡ setsOf p z) (sym same)
+            (fixed-i p (take k work) (setsOf p es) (take-sets (p .variables) es (at-rest .given .sixteen) (n-few st bl n)) kept)
 
         fixed : pruned (withSymmetries p gs) (take k work) (setsOf p fs) ≡ setsOf p fs
         fixed = fixed-whole p (st .wellFormed) (blockOf numbers) gs (bl .block) (take k work) (setsOf p fs) (way-2 .sets) (way-2 .inside) ascends-2 (s .live .full) fixed-own
@@ -218,7 +217,8 @@ module _ {p : Problem} {gs : List (List ℕ)} {supports tables numbers : List �
         live : T (isLive (withSymmetries p gs) (take k work))
         live =
             T-of (isLive (withSymmetries p gs) (take k work))
-            (live-is (withSymmetries p gs) (take k work) ∙ ap not (ap anyEmpty (sym (way-end (withSymmetries p gs) (take k work) (well-sized p (st .wellFormed)) (setsOf p fs) way-2 fixed)) ∙ s .live .full))
+            (live-is (withSymmetries p gs) (take k work) ∙ ap not (ap anyEmpty (sym (way-end (withSymmetries p gs) (take k work) (well-sized p (st .wellFormed)) (setsOf p fs) way-2 fixed))
+            ∙ s .live .full))
 
     -- something moved: the constraints of the changed variables are due
     module _ {left moved : ℕ} (u : Touched numbers changed left) (q : moved ≡ bitAnd changed (at numbers LINKED)) where
@@ -226,7 +226,12 @@ module _ {p : Problem} {gs : List (List ℕ)} {supports tables numbers : List �
       same-at-x x l e = same-at es fs (at-rest .given .sixteen) (s .live .sixteen) changed d x (omega (arith, n-few st bl n)) e
 
       given : Given p fs
-      given = record { sixteen = s .live .sixteen; full = s .live .full; inside = λ x v t. at-rest .given .inside x v (take-less st es fs (at-rest .given .sixteen) (s .live .sixteen) (s .less) x v t) }
+      given = record {
+        sixteen = s .live .sixteen;
+        full = s .live .full;
+        inside = λ x v t. at-rest .given .inside x v
+            (take-less st es fs (at-rest .given .sixteen) (s .live .sixteen) (s .less) x v t);
+      }
 
       prefix-is : take k work′ ≡ take k work
       prefix-is = same-take work work′ k k (n .startable .prefix-held .work-length) r (omega (arith, n .startable .prefix-held .depth, n-few st bl n))
@@ -280,12 +285,19 @@ module _ {p : Problem} {gs : List (List ℕ)} {supports tables numbers : List �
       none = record { few = λ x t. absurd (has-0 x t); differ = λ x l. has-none x ∙ sym (ap not (eq-eqb (at es x) (at es x) refl)) }
 
 -- ---- before the turns: the look-ups, and then the constraints by variable
-module _ {p : Problem} {gs : List (List ℕ)} {supports tables numbers : List ℕ} (st : ArraysHold p supports tables numbers) (bl : Blocked p gs numbers) {work ds : List ℕ} {k todo dirty : ℕ} (n : BeforeFixpoint p gs work numbers ds k todo dirty) (wide : todo < 2 ^ 64) where
+module _ {p : Problem} {gs : List (List ℕ)} {supports tables numbers : List ℕ} (st : ArraysHold p supports tables numbers) (bl : Blocked p gs numbers) {work ds : List ℕ} {k todo dirty : ℕ}
+    (n : BeforeFixpoint p gs work numbers ds k todo dirty) (wide : todo < 2 ^ 64) where
   pub looks-pending : {v : ℕ} → LastSettled work k v dirty → LookUpsPending p numbers supports ds todo (bitAnd todo (at numbers (LOOKS + k))) v
   looks-pending {v} a = record { pending = constraints-pending st (n .startable .pending); wide = wide; looks = look }
     where
       look : (c : ℕ) → T (has (bitAnd todo (at numbers (LOOKS + k))) c) → LookUp p ds c v
-      look c t = record { known = l .known; three = l .three; first = settled st bl n (at (constraintAt p c .scope) 0) (omega (arith, l .second, order)) .0; second = subst (Alone (at ds second)) told (settled st bl n second (omega (arith, l .second))) }
+      look c t = record {
+        known = l .known;
+        three = l .three;
+        first = settled st bl n (at (constraintAt p c .scope) 0) (omega (arith, l .second, order)) .0;
+        second = subst
+            (Alone (at ds second)) told (settled st bl n second (omega (arith, l .second)));
+      }
         where
           l : LooksUp p k c
           l = st .indexed .looks k c (omega (arith, n .startable .prefix-held .depth, st .wellFormed .few)) (and-e todo (at numbers (LOOKS + k)) c t .1)
@@ -297,10 +309,12 @@ module _ {p : Problem} {gs : List (List ℕ)} {supports tables numbers : List �
           told = let e : second ≡ k - 1 = omega (arith, l .second) in ap (at work) e ∙ sym (a .value)
 
           order : at (constraintAt p c .scope) 0 < at (constraintAt p c .scope) 1
-          order = ascending-sorted _ (subst (λ (z : List ℕ). T (ascending z)) (list-3 (constraintAt p c .scope) _ _ _ (l .three) refl refl refl) (good (st .wellFormed) c (l .known) .ordered)) .0 _ (List·Memᴰ·head refl)
+          order = ascending-sorted _ (subst (λ (z : List ℕ). T (ascending z)) (list-3 (constraintAt p c .scope) _ _ _ (l .three) refl refl refl) (good (st .wellFormed) c (l .known) .ordered)) .0 _
+              (List·Memᴰ·head refl)
 
   -- both are done: the rest that is due may be done from there
-  pub cuts-done : {fs hs : List ℕ} {looked cut t : ℕ} → LookedUp p numbers supports ds fs todo (bitAnd todo (at numbers (LOOKS + k))) looked → (looked ≡ DEAD → ⊥) → ArcsMade p fs hs cut → (cut ≡ DEAD → ⊥) → t < 2 ^ 64 → Touched numbers (bitOr looked cut) t →
+  pub cuts-done : {fs hs : List ℕ} {looked cut t : ℕ} → LookedUp p numbers supports ds fs todo (bitAnd todo (at numbers (LOOKS + k))) looked → (looked ≡ DEAD → ⊥) → ArcsMade p fs hs cut →
+      (cut ≡ DEAD → ⊥) → t < 2 ^ 64 → Touched numbers (bitOr looked cut) t →
       BeforeFixpoint p gs work numbers hs k (bitOr (bitAnd todo ((2 ^ 64 - 1) - bitAnd todo (at numbers (LOOKS + k)))) t) 0
   cuts-done {looked = looked} {cut = cut} {t = t} l live a alive h u =
       arcs-done st bl (looks-done st bl n l live) a alive (touched-of (st .indexed .linked) (st .constraints) cut few)

@@ -1,38 +1,19 @@
 -- The loop of `constrain`: constraints by variable and the others by turns, and its ends. Assumes nothing.
-use mathlib.Core.Path.{_≡_, refl, sym, ap, _∙_, subst}
-use mathlib.Core.Bool.{Bool, true, false, not}
-use mathlib.Core.Logic.{inl, inr, ⊎-elim}
-use mathlib.Core.List.{List, List·Memᴰ}
-use Prim.Native.Nat.{ℕ, _+_, _-_, _^_, _≤_, _<_}
-use native.Mathlib.Nat.{lt-of-le-of-lt}
-use native.Mathlib.Omega.{arith}
-use lib.Dec.{T, eqb}
-use lib.ListN.{length}
-use lib.Bits.{bitAnd, bitOr, and-le-l}
-use lib.Count.{trailingZeros}
-use Rattle.model.specs.Lists.{both, either, any, at}
-use Rattle.model.specs.ValueSets.{has}
-use Rattle.model.specs.Problem.{Problem}
+use Rattle.model.specs.Kit.{_≡_, refl, sym, ap, _∙_, subst, Bool, true, false, not, inl, inr, ⊎-elim, List, List·Memᴰ, ℕ, _+_, _-_, _^_, _≤_, _<_, lt-of-le-of-lt, arith, T, eqb}
+use Rattle.model.specs.Kit.{length, bitAnd, bitOr, and-le-l, trailingZeros}
+use Rattle.model.specs.{Lists.both, Lists.either, Lists.any, Lists.at, ValueSets.has, ValueSets.Inside, Problem.Problem, Problem.constraintAt, inner.Pruning.Sets}
 use Rattle.model.proofs.Lists.{T-of, of-T, not-of, of-not, both-i, both-l, either-l, either-r, either-e, among-i}
-use Rattle.model.proofs.Sets.{has-none, has-lt, member, size, size-inside}
-use Rattle.model.specs.Pruning.{Sets, Inside}
-use Rattle.model.proofs.Masks.{has-or, has-and}
-use Rattle.model.proofs.Members.{low-has, or-i, or-e, and-e}
-use Rattle.model.proofs.Firsts.{take-at, take-e, take-i, full-take}
-use Rattle.model.proofs.Prunes.{prunes-none, prunes-then}
-use Rattle.arrays.specs.Places.{DEAD, LINKED, OTHERS}
-use Rattle.arrays.specs.Layout.{constraintAt}
-use Rattle.arrays.specs.Tables.{byRows}
+use Rattle.model.proofs.{Sets.has-none, Sets.has-lt, Sets.member, Sets.size, Sets.size-inside, Masks.has-or, Masks.has-and, Members.low-has, Members.or-i, Members.or-e}
+use Rattle.model.proofs.{Members.and-e, Firsts.take-at, Firsts.take-e, Firsts.take-i, Firsts.full-take, Prunes.prunes-none, Prunes.prunes-then}
+use Rattle.arrays.specs.{inner.Places.DEAD, inner.Places.LINKED, inner.Places.OTHERS, inner.Tables.byRows, inner.Pruning.Given, inner.Pruning.Lessened, inner.Pruning.Ended}
+use Rattle.arrays.specs.inner.Pruning.{Fixed, Arc, setsOf}
 use Rattle.arrays.proofs.Links.{good}
-use Rattle.arrays.specs.Pruning.{Given, Lessened, Ended, Fixed, Arc, setsOf}
-use Rattle.prune_pairs.specs.Links as links
-use Rattle.prune_constraints.specs.Revised as revised
-use Rattle.prune_constraints.specs.Steps.{Touched}
-use Rattle.prune_constraints.specs.LookUps.{LookedUp}
-use Rattle.prune_constraints.proofs.Rows.{fixed-kept}
-use Rattle.prune_constraints.proofs.Touching.{touchedOf, touched-of}
-use Rattle.prune.specs.Steps.{ArraysHold, Pending, PrunedSoFar, AllConstrained, AllConstrainedOr}
+use Rattle.prune_constraints.specs.{inner.Steps.Touched, inner.LookUps.LookedUp}
+use Rattle.prune_constraints.proofs.{Rows.fixed-kept, Touching.touchedOf, Touching.touched-of}
+use Rattle.prune.specs.inner.Steps.{ArraysHold, Pending, PrunedSoFar, AllConstrained, AllConstrainedOr}
 use Rattle.prune.proofs.Arcs.{arc-kept, arc-free, arcs-fixed}
+use Rattle.prune_pairs.specs.inner.Links as links
+use Rattle.prune_constraints.specs.inner.Revised as revised
 
 -- ---- what has happened to the sets before a turn
 pub pruned-none : (p : Problem) (ds : List ℕ) → PrunedSoFar p ds ds
@@ -88,13 +69,16 @@ module _ {p : Problem} {supports tables numbers : List ℕ} (s : ArraysHold p su
       touches y k h r i m =
           T-of (has (at numbers (OTHERS + y)) k)
           (s .indexed .linked .touching y k (omega (arith, n-few)) h
-          ∙ of-T (both (any (eqb y) (constraintAt p k .scope)) (not (byRows p k))) (both-i (any (eqb y) (constraintAt p k .scope)) (not (byRows p k)) (among-i y (constraintAt p k .scope) m) (T-of (not (byRows p k)) (ap not r))))
+          ∙ of-T (both (any (eqb y) (constraintAt p k .scope)) (not (byRows p k))) (both-i (any (eqb y) (constraintAt p k .scope)) (not (byRows p k)) (among-i y (constraintAt p k .scope) m)
+          (T-of (not (byRows p k)) (ap not r))))
 
   pub touched-known : (changed left : ℕ) → Touched numbers changed left → ((x : ℕ) → T (has changed x) → x < 16) → (k : ℕ) → T (has left k) → k < length (p .constraints)
-  touched-known changed left u few k t = let x = u .touched-e k t in has-lt (length (p .constraints)) (at numbers (OTHERS + x .0)) k (s .indexed .linked .touching-few (x .0) (few (x .0) (x .1))) (x .2)
+  touched-known changed left u few k t = let x = u .touched-e k t in has-lt (length (p .constraints)) (at numbers (OTHERS + x .0)) k
+      (s .indexed .linked .touching-few (x .0) (few (x .0) (x .1))) (x .2)
 
   -- ---- the arcs of a variable that did not change, or that is in no constraint by variable, stay
-  pub still-arc : (es fs : List ℕ) (changed moved : ℕ) → Given p es → Given p fs → Inside fs es → ((x : ℕ) → x < p .variables → has changed x ≡ false → at fs x ≡ at es x) → moved ≡ bitAnd changed (at numbers LINKED) →
+  pub still-arc : (es fs : List ℕ) (changed moved : ℕ) → Given p es → Given p fs → Inside fs es → ((x : ℕ) → x < p .variables → has changed x ≡ false → at fs x ≡ at es x) → moved ≡ bitAnd changed
+      (at numbers LINKED) →
       (x : ℕ) → x < p .variables → has moved x ≡ false → Arc p (setsOf p es) x → Arc p (setsOf p fs) x
   still-arc es fs changed moved a b less kept q x h f arc = go (has changed x) refl
     where
@@ -102,7 +86,8 @@ module _ {p : Problem} {supports tables numbers : List ℕ} (s : ArraysHold p su
       go true e =
           let z = some-value fs b x h in
           arc-free p numbers (s .indexed .linked) (setsOf p fs) x (z .0)
-          (not-of (has (at numbers LINKED) x) (λ t. of-not (has moved x) f (subst (λ (m : ℕ). T (has m x)) (sym q) (subst T (sym (has-and changed (at numbers LINKED) x)) (both-i (has changed x) (has (at numbers LINKED) x) (T-of (has changed x) e) t)))))
+          (not-of (has (at numbers LINKED) x) (λ t. of-not (has moved x) f (subst (λ (m : ℕ). T (has m x)) (sym q)
+          (subst T (sym (has-and changed (at numbers LINKED) x)) (both-i (has changed x) (has (at numbers LINKED) x) (T-of (has changed x) e) t)))))
           (z .1)
       go false e = arc-kept p (setsOf p es) (setsOf p fs) x (take-less es fs (a .sixteen) (b .sixteen) less) (take-same es fs (a .sixteen) (b .sixteen) x h (kept x h e)) arc
 
@@ -181,7 +166,8 @@ module _ {p : Problem} {supports tables numbers : List ℕ} (s : ArraysHold p su
         pub arcs-turn : Pending p numbers fs due 0
         arcs-turn = record {
           given = given-more es fs cut (w .given) (l .lessened live);
-          known = λ k t. ⊎-elim (λ a. w .known k a) (λ a. touched-known cut touched u (λ x b. let i = l .lessened live .few x b in omega (arith, n-few)) k a) (either-e (has left k) (has touched k) (subst T (has-due k) t));
+          known = λ k t. ⊎-elim (λ a. w .known k a) (λ a. touched-known cut touched u (λ x b. let i = l .lessened live .few x b in omega (arith, n-few)) k a)
+              (either-e (has left k) (has touched k) (subst T (has-due k) t));
           others = λ k h f r.
               still-fixed es fs cut touched (w .given .sixteen) (l .lessened live .sixteen) (λ x i e. l .lessened live .kept x e) u k h
               (not-of (has touched k) (λ t. of-not (has due k) f (subst T (sym (has-due k)) (either-r (has left k) (has touched k) t)))) r
@@ -211,4 +197,5 @@ module _ {p : Problem} {supports tables numbers : List ℕ} (s : ArraysHold p su
       pub pending-less : pruned < 2 ^ 64 → (next ≡ 0 → ⊥) → size gs < size fs
       pending-less h n =
           let m = low-has 64 next (omega arith) (subst (λ (z : ℕ). z < 2 ^ 64) (sym q) (lt-of-le-of-lt (and-le-l pruned (at numbers LINKED)) h)) .0 in
-          c .smaller alive (trailingZeros 64 next) (both-l (has pruned (trailingZeros 64 next)) (has (at numbers LINKED) (trailingZeros 64 next)) (subst T (ap (λ (z : ℕ). has z (trailingZeros 64 next)) q ∙ has-and pruned (at numbers LINKED) (trailingZeros 64 next)) m))
+          c .smaller alive (trailingZeros 64 next) (both-l (has pruned (trailingZeros 64 next)) (has (at numbers LINKED) (trailingZeros 64 next))
+          (subst T (ap (λ (z : ℕ). has z (trailingZeros 64 next)) q ∙ has-and pruned (at numbers LINKED) (trailingZeros 64 next)) m))

@@ -1,46 +1,27 @@
 -- The sets that `root`, `child` and `descend` start from are on the way to those at their prefix; what they leave on the stack. Assumes nothing.
-use mathlib.Core.Path.{_≡_, refl, sym, ap, ap₂, _∙_, subst}
-use mathlib.Core.Bool.{Bool, true, false, not}
-use mathlib.Core.List.{List, [], List·Memᴰ}
-use Prim.Native.Nat.{ℕ, _+_, _-_, _*_, _%_, _^_, _≤_, _<_}
-use native.Mathlib.Nat.{mod-eq-of-lt}
-use native.Mathlib.Numerals.{add-one}
-use native.Mathlib.Omega.{arith}
-use native.Mathlib.Decide.{ℕ-discrete}
-use lib.Dec.{T, eqb, ltb, eqb→eq, eqb-refl}
-use lib.Bits.{bitAnd}
-use lib.ListN.{length, set, take}
-use lib.Pow.{pow-pos, pow-lt}
-use lib.Seq.{take-suc, take-set-lt, length-take-le, set-getD}
-use borrow.Author.Tests.{ltb-true, ltb-false, eqb-true}
-use Rattle.model.specs.Lists.{both, any, at}
-use Rattle.model.specs.ValueSets.{has, onlyMask, anyEmpty}
-use Rattle.model.specs.Problem.{Problem, withSymmetries}
-use Rattle.model.specs.Search.{narrowed, setsAt, isLive}
+use Rattle.model.specs.Kit.{_≡_, refl, sym, ap, ap₂, _∙_, subst, Bool, true, false, not, List, [], List·Memᴰ, ℕ, _+_, _-_, _*_, _%_, _^_, _≤_, _<_, mod-eq-of-lt, add-one, arith}
+use Rattle.model.specs.Kit.{ℕ-discrete, T, eqb, ltb, eqb→eq, eqb-refl, bitAnd, length, set, take, pow-lt, length-take-le, ltb-true, ltb-false, eqb-true}
+use lib.Pow.{pow-pos}
+use lib.Seq.{take-suc, take-set-lt, set-getD}
+use Rattle.model.specs.{Lists.both, Lists.any, Lists.at, ValueSets.has, ValueSets.onlyMask, ValueSets.anyEmpty, ValueSets.Inside, Problem.Problem, Problem.withSymmetries}
+use Rattle.model.specs.{Problem.constraintAt, Search.narrowed, Search.setsAt, Search.isLive, inner.Pruning.Sets, inner.Pruning.closed, inner.Pruning.Way}
 use Rattle.model.proofs.Lists.{T-of, of-T, not-of, of-not, at-ext, at-out, both-i, both-l, both-r, among-i, mem-at, at-set, at-set-other, at-take}
-use Rattle.model.proofs.Sets.{has-none, has-lt, member, empty-i, inside-refl, set-sets}
-use Rattle.model.specs.Pruning.{Sets, Inside, closed, Way}
-use Rattle.model.proofs.Masks.{has-and, has-not, has-one}
-use Rattle.model.proofs.Members.{one-bit, only-member}
-use Rattle.model.proofs.Firsts.{take-at, take-e, take-i, take-sets, take-length, take-full, full-take}
-use Rattle.model.proofs.Prune.{narrowed-e, Largest, largest, fixed-e, way-start, setsAt-live, setsAt-sets, live-closed}
-use Rattle.model.proofs.Tree.{well-sized}
-use Rattle.arrays.specs.Places.{INITIAL, LINKED, MARKS, OTHERS, SYMMETRIES, VARIABLES, WORK}
-use Rattle.arrays.specs.Layout.{constraintAt}
-use Rattle.arrays.specs.Tables.{byRows}
+use Rattle.model.proofs.{Sets.has-none, Sets.has-lt, Sets.member, Sets.empty-i, Sets.inside-refl, Sets.set-sets, Masks.has-and, Masks.has-not, Masks.has-one, Members.one-bit}
+use Rattle.model.proofs.{Members.only-member, Firsts.take-at, Firsts.take-e, Firsts.take-i, Firsts.take-sets, Firsts.take-length, Firsts.take-full, Firsts.full-take}
+use Rattle.model.proofs.{Prune.narrowed-e, Prune.Largest, Prune.largest, Prune.fixed-e, Prune.way-start, Prune.setsAt-live, Prune.setsAt-sets, Prune.live-closed, Tree.well-sized}
+use Rattle.arrays.specs.inner.Places.{INITIAL, LINKED, MARKS, OTHERS, SYMMETRIES, VARIABLES, WORK}
+use Rattle.arrays.specs.{inner.Tables.byRows, inner.Pruning.Fixed, inner.Pruning.Arc, inner.Pruning.setsOf}
 use Rattle.arrays.proofs.Links.{is-one, good}
-use Rattle.arrays.specs.Pruning.{Fixed, Arc, setsOf}
-use Rattle.prune_constraints.specs.Steps.{Touched}
+use Rattle.prune_constraints.specs.inner.Steps.{Touched}
 use Rattle.prune_pairs.proofs.Partners.{goes-kept}
 use Rattle.prune_constraints.proofs.Rows.{fixed-kept}
-use Rattle.prune_symmetries.specs.Levels.{Mark}
+use Rattle.prune_symmetries.specs.inner.Levels.{Mark}
 use Rattle.prune_symmetries.proofs.Marks.{mark-start, mark-mono, mark-longer}
 use Rattle.block.specs.BlockSets.{Ascends, cutAfter}
 use Rattle.block.proofs.BlockSets.{root-ascends, child-way, child-ascends}
-use Rattle.prune.specs.Node.{Ready, MarksRight, AtNode, Reached, longer, blockOf}
-use Rattle.prune.specs.Steps.{ArraysHold, Blocked, LiveSets, Startable, BeforeFixpoint, Unpruned, AfterFixpoint, Loaded, Stored, MarksCopied}
-use Rattle.prune.proofs.Arcs.{arc-kept, arc-free}
-use Rattle.prune.proofs.Pending.{touched-known}
+use Rattle.prune.specs.{inner.Node.Ready, inner.Node.MarksRight, inner.Node.AtNode, inner.Node.Reached, inner.Node.longer, inner.Node.blockOf, inner.Steps.ArraysHold}
+use Rattle.prune.specs.inner.Steps.{Blocked, LiveSets, Startable, BeforeFixpoint, Unpruned, AfterFixpoint, Loaded, Stored, MarksCopied}
+use Rattle.prune.proofs.{Arcs.arc-kept, Arcs.arc-free, Pending.touched-known}
 
 -- ---- sixteen sets, of which the first n are ds and the others {0}
 module _ (n : ℕ) (ds es : List ℕ) (l : length es ≡ 16) (s : Sets n ds) (h : n ≤ 16) (e : (x : ℕ) → x < n → at es x ≡ at ds x) (u : (x : ℕ) → n ≤ x → x < 16 → at es x ≡ 1) where
@@ -56,10 +37,12 @@ module _ (n : ℕ) (ds es : List ℕ) (l : length es ≡ 16) (s : Sets n ds) (h 
       go x false q = out x (ltb-false x n q) (ltb x 16) refl
 
   pub padded-take : take n es ≡ ds
-  padded-take = at-ext (take n es) ds (take-length n es padded-sets h ∙ sym (s .0)) (λ x k. let m : x < n = subst (λ (z : ℕ). x < z) (take-length n es padded-sets h) k in take-at n es padded-sets h x m ∙ e x m)
+  padded-take = at-ext (take n es) ds (take-length n es padded-sets h ∙ sym (s .0)) (λ x k. let m : x < n = subst (λ (z : ℕ). x < z) (take-length n es padded-sets h) k in
+      take-at n es padded-sets h x m ∙ e x m)
 
 -- ---- what is left on the stack, where `work` had become `middle` before the fixpoint
-module _ (p : Problem) (gs : List (List ℕ)) (few : p .variables ≤ 16) (prefix sets : List ℕ) (k : ℕ) (stack work middle work′ : List ℕ) (is : take k middle ≡ prefix) (size : length middle ≡ length work) (early : (j : ℕ) → j < 16 * k + MARKS → at middle j ≡ at work j) (late : (j : ℕ) → 16 * k + MARKS + 16 ≤ j → at middle j ≡ at work j) where
+module _ (p : Problem) (gs : List (List ℕ)) (few : p .variables ≤ 16) (prefix sets : List ℕ) (k : ℕ) (stack work middle work′ : List ℕ) (is : take k middle ≡ prefix)
+    (size : length middle ≡ length work) (early : (j : ℕ) → j < 16 * k + MARKS → at middle j ≡ at work j) (late : (j : ℕ) → 16 * k + MARKS + 16 ≤ j → at middle j ≡ at work j) where
   pub reached-dead : AfterFixpoint p gs k middle work′ sets true → Reached p gs prefix k stack work stack work′ true
   reached-dead a = record {
     answers = a .answers ∙ ap (λ (z : List ℕ). not (isLive (withSymmetries p gs) z)) is;
@@ -176,7 +159,8 @@ module _ {p : Problem} {gs : List (List ℕ)} {stack work supports tables number
         u .touched-i x j (every-one x i)
         (T-of (has (at numbers (OTHERS + x)) j)
         (r .indexed .linked .touching x j (omega (arith, n-16)) h
-        ∙ of-T (both (any (eqb x) (constraintAt p j .scope)) (not (byRows p j))) (both-i (any (eqb x) (constraintAt p j .scope)) (not (byRows p j)) (among-i x (constraintAt p j .scope) m) (T-of (not (byRows p j)) (ap not b)))))
+        ∙ of-T (both (any (eqb x) (constraintAt p j .scope)) (not (byRows p j))) (both-i (any (eqb x) (constraintAt p j .scope)) (not (byRows p j)) (among-i x (constraintAt p j .scope) m)
+        (T-of (not (byRows p j)) (ap not b)))))
 
     module _ (middle : List ℕ) (c : Stored work (k + 1) (λ i. 0) middle) where
       all-early : (j : ℕ) → j < 16 * k + MARKS → at middle j ≡ at work j
@@ -389,8 +373,10 @@ module _ {p : Problem} {gs : List (List ℕ)} {stack work supports tables number
 
     pub child-prefix : take (k + 1) middle ≡ longer work k
     child-prefix =
-        at-ext (take (k + 1) middle) (take (k + 1) work) (length-take-le (k + 1) middle (omega (arith, k-12, middle-length)) ∙ sym (length-take-le (k + 1) work (omega (arith, k-12, a .ready .work-length))))
-        (λ i h. let h′ : i < k + 1 = subst (λ (n : ℕ). i < n) (length-take-le (k + 1) middle (omega (arith, k-12, middle-length))) h in at-take (k + 1) middle i h′ ∙ child-early i (omega arith) ∙ sym (at-take (k + 1) work i h′))
+        at-ext (take (k + 1) middle) (take (k + 1) work) (length-take-le (k + 1) middle (omega (arith, k-12, middle-length)) ∙ sym
+        (length-take-le (k + 1) work (omega (arith, k-12, a .ready .work-length))))
+        (λ i h. let h′ : i < k + 1 = subst (λ (n : ℕ). i < n) (length-take-le (k + 1) middle (omega (arith, k-12, middle-length))) h in at-take (k + 1) middle i h′ ∙ child-early i (omega arith)
+        ∙ sym (at-take (k + 1) work i h′))
         ∙ longer-is
 
     module _ (sets : List ℕ) (l : Loaded stack k sets) (one todo dirty : ℕ) (o : one ≡ onlyMask (at sets k) (at middle k % 16))
@@ -419,7 +405,8 @@ module _ {p : Problem} {gs : List (List ℕ)} {stack work supports tables number
               T-of (has (at numbers (OTHERS + k)) j)
               (a .ready .indexed .linked .touching k j (omega (arith, k-12)) h
               ∙ of-T (both (any (eqb k) (constraintAt p j .scope)) (not (byRows p j)))
-              (both-i (any (eqb k) (constraintAt p j .scope)) (not (byRows p j)) (among-i k (constraintAt p j .scope) (subst (λ (z : ℕ). List·Memᴰ z (constraintAt p j .scope)) e m)) (T-of (not (byRows p j)) (ap not b))))
+              (both-i (any (eqb k) (constraintAt p j .scope)) (not (byRows p j)) (among-i k (constraintAt p j .scope) (subst (λ (z : ℕ). List·Memᴰ z (constraintAt p j .scope)) e m))
+              (T-of (not (byRows p j)) (ap not b))))
 
           go : Dec (at sets k ≡ one) → at (set sets k one) y ≡ at sets y
           go (yes e) = ap (λ (z : List ℕ). at z y) (same e)
@@ -461,21 +448,28 @@ module _ {p : Problem} {gs : List (List ℕ)} {stack work supports tables number
           go (no i) (yes e) =
               subst (Arc p (setsOf p (set sets k one))) (sym e)
               (arc-free p numbers (a .ready .indexed .linked) (setsOf p (set sets k one)) k (at work k)
-              (not-of (has (at numbers LINKED) k) (λ t. of-not (has dirty k) (ap (has dirty) (sym e) ∙ n) (subst T (sym (has-dirty i k)) (both-i (has (at numbers LINKED) k) (eqb k k) t (eqb-refl k)))))
+              (not-of (has (at numbers LINKED) k) (λ t. of-not (has dirty k) (ap (has dirty) (sym e) ∙ n)
+              (subst T (sym (has-dirty i k)) (both-i (has (at numbers LINKED) k) (eqb k k) t (eqb-refl k)))))
               (start-value sets l only))
           go (no i) (no m) = kept (take-at (p .variables) (set sets k one) (after sets l only) n-16′ x h ∙ at-set-other sets k one x m ∙ at-parent sets l only x h)
 
       marking : MarksRight p (setsOf p (set sets k one)) (take (k + 1) middle) middle (k + 1)
       marking e h =
           let m = mark-longer p (setsAt tree (take k work)) (take k work) (at work k) e (at work (16 * k + MARKS + e)) (a .marked e h) in
-          let n = mark-mono p (setsAt tree (take k work)) (setsOf p (set sets k one)) (longer work k) e (at work (16 * k + MARKS + e)) (take-sets (p .variables) (set sets k one) (after sets l only) n-16′ .0 ∙ sym (parent-sets .0)) (start-inside sets l only) m in
+          let n = mark-mono p (setsAt tree (take k work)) (setsOf p (set sets k one)) (longer work k) e (at work (16 * k + MARKS + e))
+          (take-sets (p .variables) (set sets k one) (after sets l only) n-16′ .0 ∙ sym (parent-sets .0)) (start-inside sets l only) m in
           subst (λ (z : List ℕ). Mark p (setsOf p (set sets k one)) z e (at middle (16 * (k + 1) + MARKS + e))) (sym child-prefix)
           (subst (Mark p (setsOf p (set sets k one)) (longer work k) e) (sym (c .here e (omega (arith, h, a .ready .indexed .numbered .symmetries)) (omega (arith, h, a .ready .symmetries)))) n)
 
       -- before the block's variables are cut
       pub child-startable : Startable p middle numbers (set sets k one) (k + 1) todo dirty
       child-startable = record {
-        prefix-held = record { depth = omega (arith, a .room); values = λ j h. subst (λ (z : ℕ). T (has (at (p .initial) j) z)) (sym (child-early j (omega arith))) (in-initial j h); work-length = middle-length };
+        prefix-held = record {
+          depth = omega (arith, a .room);
+          values = λ j h. subst (λ (z : ℕ). T (has (at (p .initial) j) z)) (sym (child-early j (omega arith)))
+              (in-initial j h);
+          work-length = middle-length;
+        };
         live = start-live sets l only;
         pending = record {
           given = record { sixteen = after sets l only; full = start-live sets l only .full; inside = start-initial sets l only };
@@ -497,7 +491,10 @@ module _ {p : Problem} {gs : List (List ℕ)} {stack work supports tables number
           )
 
     pub child-dead : (sets work′ : List ℕ) (r : Bool) → AfterFixpoint p gs (k + 1) middle work′ sets r → r ≡ true → Reached p gs (longer work k) (k + 1) stack work stack work′ true
-    child-dead sets work′ r e q = reached-dead p gs n-16′ (longer work k) sets (k + 1) stack work middle work′ child-prefix (c .kept .size) child-early child-late (subst (AfterFixpoint p gs (k + 1) middle work′ sets) q e)
+    child-dead sets work′ r e q = reached-dead p gs n-16′ (longer work k) sets (k + 1) stack work middle work′ child-prefix (c .kept .size) child-early child-late
+        (subst (AfterFixpoint p gs (k + 1) middle work′ sets) q e)
 
-    pub child-live : (sets work′ stack′ : List ℕ) (r : Bool) → AfterFixpoint p gs (k + 1) middle work′ sets r → r ≡ false → Stored stack (k + 1) (at sets) stack′ → Reached p gs (longer work k) (k + 1) stack work stack′ work′ false
-    child-live sets work′ stack′ r e q t = reached-live p gs n-16′ (longer work k) sets (k + 1) stack work middle work′ child-prefix (c .kept .size) child-early child-late stack′ (subst (AfterFixpoint p gs (k + 1) middle work′ sets) q e) t
+    pub child-live : (sets work′ stack′ : List ℕ) (r : Bool) → AfterFixpoint p gs (k + 1) middle work′ sets r → r ≡ false → Stored stack (k + 1) (at sets) stack′ → Reached p gs (longer work k)
+        (k + 1) stack work stack′ work′ false
+    child-live sets work′ stack′ r e q t = reached-live p gs n-16′ (longer work k) sets (k + 1) stack work middle work′ child-prefix (c .kept .size) child-early child-late stack′
+        (subst (AfterFixpoint p gs (k + 1) middle work′ sets) q e) t

@@ -24,12 +24,13 @@ ghost use lib.ListN.{length, take};
 ghost use Rattle.model.specs.Lists.{both, at};
 ghost use Rattle.model.specs.ValueSets.{has, maskOf};
 ghost use Rattle.model.specs.Problem.{Problem};
-ghost use Rattle.model.specs.Pruning.{Sets};
+ghost use Rattle.model.specs.inner.Pruning.{Sets};
 ghost use Rattle.block.specs.BlockSets.{cutAfter};
-ghost use Rattle.arrays.specs.Places.{INITIAL, SYMMETRIES, STACK, WORK};
-ghost use Rattle.arrays.specs.Pruning.{setsOf};
-ghost use Rattle.prune.specs.Node.{Ready, MarksRight, AtNode, Reached, longer};
-ghost use Rattle.prune.specs.Steps.{ArraysHold, Blocked, Pending, AllConstrainedOr, PrefixHeld, LiveSets, AllFilteredOr, BeforeFixpoint, LastSettled, Unpruned, AfterFixpoint, Differ, cutBelow, CutOr, Loaded, Stored, MarksCopied};
+ghost use Rattle.arrays.specs.inner.Places.{INITIAL, SYMMETRIES, STACK, WORK};
+ghost use Rattle.arrays.specs.inner.Pruning.{setsOf};
+ghost use Rattle.prune.specs.inner.Node.{Ready, MarksRight, AtNode, Reached, longer};
+ghost use Rattle.prune.specs.inner.Steps.{ArraysHold, Blocked, Pending, AllConstrainedOr, PrefixHeld, LiveSets, AllFilteredOr, BeforeFixpoint};
+ghost use Rattle.prune.specs.inner.Steps.{LastSettled, Unpruned, AfterFixpoint, Differ, cutBelow, CutOr, Loaded, Stored, MarksCopied};
 
 // Prunes by the constraints until nothing moves, those by variable and the others by turns; true where a set is empty.
 fn constrain(
@@ -42,7 +43,8 @@ fn constrain(
     settled: u64,
 ) -> bool
     requires { ⌜ ((p : Problem) × ArraysHold p (now supports) (now tables) (now numbers) × Pending p (now numbers) (now sets) todo dirty) ⌝ }
-    ensures { λ r. ⌜ ((p : Problem) → ArraysHold p (now (supports .entry)) (now (tables .entry)) (now (numbers .entry)) → Pending p (now (numbers .entry)) (now (sets .entry)) todo dirty → AllConstrainedOr p (now (sets .entry)) (now (sets .exit)) r) ⌝ }
+    ensures { λ r. ⌜ ((p : Problem) → ArraysHold p (now (supports .entry)) (now (tables .entry)) (now (numbers .entry)) → Pending p (now (numbers .entry))
+        (now (sets .entry)) todo dirty → AllConstrainedOr p (now (sets .entry)) (now (sets .exit)) r) ⌝ }
 {
     let mut left = todo;
     let mut moved = dirty;
@@ -72,8 +74,11 @@ fn filters(
     numbers: &Numbers,
     k: usize,
 ) -> bool
-    requires { ⌜ ((p : Problem) × (supports : List ℕ) × ArraysHold p supports (now tables) (now numbers) × PrefixHeld p (now work) k × LiveSets p (now sets) × MarksRight p (setsOf p (now sets)) (take k (now work)) (now work) k) ⌝ }
-    ensures { λ r. ⌜ ((p : Problem) (supports : List ℕ) → ArraysHold p supports (now (tables .entry)) (now (numbers .entry)) → PrefixHeld p (now (work .entry)) k → LiveSets p (now (sets .entry)) → MarksRight p (setsOf p (now (sets .entry))) (take k (now (work .entry))) (now (work .entry)) k → AllFilteredOr p k (now (work .entry)) (now (sets .entry)) (now (work .exit)) (now (sets .exit)) r) ⌝ }
+    requires { ⌜ ((p : Problem) × (supports : List ℕ) × ArraysHold p supports (now tables) (now numbers) × PrefixHeld p (now work) k × LiveSets p (now sets)
+        × MarksRight p (setsOf p (now sets)) (take k (now work)) (now work) k) ⌝ }
+    ensures { λ r. ⌜ ((p : Problem) (supports : List ℕ) → ArraysHold p supports (now (tables .entry)) (now (numbers .entry)) → PrefixHeld p
+        (now (work .entry)) k → LiveSets p (now (sets .entry)) → MarksRight p (setsOf p (now (sets .entry))) (take k (now (work .entry)))
+        (now (work .entry)) k → AllFilteredOr p k (now (work .entry)) (now (sets .entry)) (now (work .exit)) (now (sets .exit)) r) ⌝ }
 {
     let g = numbers[SYMMETRIES] as usize;
     let mut e = 0;
@@ -114,8 +119,11 @@ fn alternate(
     numbers: &Numbers,
     k: usize,
 ) -> bool
-    requires { ⌜ ((p : Problem) × (gs : List (List ℕ)) × ArraysHold p (now supports) (now tables) (now numbers) × Blocked p gs (now numbers) × BeforeFixpoint p gs (now work) (now numbers) (now sets) k 0 0) ⌝ }
-    ensures { λ r. ⌜ ((p : Problem) (gs : List (List ℕ)) → ArraysHold p (now (supports .entry)) (now (tables .entry)) (now (numbers .entry)) → Blocked p gs (now (numbers .entry)) → BeforeFixpoint p gs (now (work .entry)) (now (numbers .entry)) (now (sets .entry)) k 0 0 → AfterFixpoint p gs k (now (work .entry)) (now (work .exit)) (now (sets .exit)) r) ⌝ }
+    requires { ⌜ ((p : Problem) × (gs : List (List ℕ)) × ArraysHold p (now supports) (now tables) (now numbers) × Blocked p gs (now numbers)
+        × BeforeFixpoint p gs (now work) (now numbers) (now sets) k 0 0) ⌝ }
+    ensures { λ r. ⌜ ((p : Problem) (gs : List (List ℕ)) → ArraysHold p (now (supports .entry)) (now (tables .entry)) (now (numbers .entry)) → Blocked p gs
+        (now (numbers .entry)) → BeforeFixpoint p gs (now (work .entry)) (now (numbers .entry)) (now (sets .entry)) k 0 0 → AfterFixpoint p gs k
+        (now (work .entry)) (now (work .exit)) (now (sets .exit)) r) ⌝ }
 {
     let settled = (1u64 << k) - 1;
     loop {
@@ -155,8 +163,11 @@ fn fixpoint(
     dirty: u64,
     v: usize,
 ) -> bool
-    requires { ⌜ ((p : Problem) × (gs : List (List ℕ)) × ArraysHold p (now supports) (now tables) (now numbers) × Blocked p gs (now numbers) × BeforeFixpoint p gs (now work) (now numbers) (now sets) k todo dirty × LastSettled (now work) k v dirty) ⌝ }
-    ensures { λ r. ⌜ ((p : Problem) (gs : List (List ℕ)) → ArraysHold p (now (supports .entry)) (now (tables .entry)) (now (numbers .entry)) → Blocked p gs (now (numbers .entry)) → BeforeFixpoint p gs (now (work .entry)) (now (numbers .entry)) (now (sets .entry)) k todo dirty → AfterFixpoint p gs k (now (work .entry)) (now (work .exit)) (now (sets .exit)) r) ⌝ }
+    requires { ⌜ ((p : Problem) × (gs : List (List ℕ)) × ArraysHold p (now supports) (now tables) (now numbers) × Blocked p gs (now numbers)
+        × BeforeFixpoint p gs (now work) (now numbers) (now sets) k todo dirty × LastSettled (now work) k v dirty) ⌝ }
+    ensures { λ r. ⌜ ((p : Problem) (gs : List (List ℕ)) → ArraysHold p (now (supports .entry)) (now (tables .entry)) (now (numbers .entry)) → Blocked p gs
+        (now (numbers .entry)) → BeforeFixpoint p gs (now (work .entry)) (now (numbers .entry)) (now (sets .entry)) k todo dirty → AfterFixpoint p gs k
+        (now (work .entry)) (now (work .exit)) (now (sets .exit)) r) ⌝ }
 {
     let looks = todo & numbers[LOOKS + k];
     let looked = prune_constraints::look_ups(sets, numbers, supports, looks, v);
@@ -303,8 +314,11 @@ fn prune_all(
     numbers: &Numbers,
     k: usize,
 ) -> bool
-    requires { ⌜ ((p : Problem) × (gs : List (List ℕ)) × Ready p gs (now stack) (now work) (now supports) (now tables) (now numbers) × Unpruned p gs (now work) (now numbers) (now sets) k) ⌝ }
-    ensures { λ r. ⌜ ((p : Problem) (gs : List (List ℕ)) → Ready p gs (now (stack .entry)) (now (work .entry)) (now (supports .entry)) (now (tables .entry)) (now (numbers .entry)) → Unpruned p gs (now (work .entry)) (now (numbers .entry)) (now (sets .entry)) k → Reached p gs (take k (now (work .entry))) k (now (stack .entry)) (now (work .entry)) (now (stack .exit)) (now (work .exit)) r) ⌝ }
+    requires { ⌜ ((p : Problem) × (gs : List (List ℕ)) × Ready p gs (now stack) (now work) (now supports) (now tables) (now numbers) × Unpruned p gs
+        (now work) (now numbers) (now sets) k) ⌝ }
+    ensures { λ r. ⌜ ((p : Problem) (gs : List (List ℕ)) → Ready p gs (now (stack .entry)) (now (work .entry)) (now (supports .entry)) (now (tables .entry))
+        (now (numbers .entry)) → Unpruned p gs (now (work .entry)) (now (numbers .entry)) (now (sets .entry)) k → Reached p gs
+        (take k (now (work .entry))) k (now (stack .entry)) (now (work .entry)) (now (stack .exit)) (now (work .exit)) r) ⌝ }
 {
     clear_marks(work, k);
     let todo = prune_constraints::touched(numbers, (1u64 << numbers[VARIABLES]) - 1);
@@ -329,7 +343,8 @@ pub fn root(
     numbers: &Numbers,
 ) -> bool
     requires { ⌜ ((p : Problem) × (gs : List (List ℕ)) × Ready p gs (now stack) (now work) (now supports) (now tables) (now numbers)) ⌝ }
-    ensures { λ r. ⌜ ((p : Problem) (gs : List (List ℕ)) → Ready p gs (now (stack .entry)) (now (work .entry)) (now (supports .entry)) (now (tables .entry)) (now (numbers .entry)) → Reached p gs [] 0 (now (stack .entry)) (now (work .entry)) (now (stack .exit)) (now (work .exit)) r) ⌝ }
+    ensures { λ r. ⌜ ((p : Problem) (gs : List (List ℕ)) → Ready p gs (now (stack .entry)) (now (work .entry)) (now (supports .entry)) (now (tables .entry))
+        (now (numbers .entry)) → Reached p gs [] 0 (now (stack .entry)) (now (work .entry)) (now (stack .exit)) (now (work .exit)) r) ⌝ }
 {
     let mut sets = [1u16; 16];
     initial(numbers, &mut sets);
@@ -346,7 +361,9 @@ pub fn child(
     k: usize,
 ) -> bool
     requires { ⌜ ((p : Problem) × (gs : List (List ℕ)) × AtNode p gs (now stack) (now work) (now supports) (now tables) (now numbers) k) ⌝ }
-    ensures { λ r. ⌜ ((p : Problem) (gs : List (List ℕ)) → AtNode p gs (now (stack .entry)) (now (work .entry)) (now (supports .entry)) (now (tables .entry)) (now (numbers .entry)) k → Reached p gs (longer (now (work .entry)) k) (k + 1) (now (stack .entry)) (now (work .entry)) (now (stack .exit)) (now (work .exit)) r) ⌝ }
+    ensures { λ r. ⌜ ((p : Problem) (gs : List (List ℕ)) → AtNode p gs (now (stack .entry)) (now (work .entry)) (now (supports .entry))
+        (now (tables .entry)) (now (numbers .entry)) k → Reached p gs (longer (now (work .entry)) k) (k + 1) (now (stack .entry)) (now (work .entry))
+        (now (stack .exit)) (now (work .exit)) r) ⌝ }
 {
     let mut sets = [1u16; 16];
     load(stack, k, &mut sets);
@@ -389,7 +406,9 @@ pub fn descend(
     k: usize,
 ) -> bool
     requires { ⌜ ((p : Problem) × (gs : List (List ℕ)) × AtNode p gs (now stack) (now work) (now supports) (now tables) (now numbers) k) ⌝ }
-    ensures { λ r. ⌜ ((p : Problem) (gs : List (List ℕ)) → AtNode p gs (now (stack .entry)) (now (work .entry)) (now (supports .entry)) (now (tables .entry)) (now (numbers .entry)) k → Reached p gs (longer (now (work .entry)) k) (k + 1) (now (stack .entry)) (now (work .entry)) (now (stack .exit)) (now (work .exit)) r) ⌝ }
+    ensures { λ r. ⌜ ((p : Problem) (gs : List (List ℕ)) → AtNode p gs (now (stack .entry)) (now (work .entry)) (now (supports .entry))
+        (now (tables .entry)) (now (numbers .entry)) k → Reached p gs (longer (now (work .entry)) k) (k + 1) (now (stack .entry)) (now (work .entry))
+        (now (stack .exit)) (now (work .exit)) r) ⌝ }
 {
     let mut sets = [1u16; 16];
     load(stack, k, &mut sets);

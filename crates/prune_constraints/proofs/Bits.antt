@@ -1,18 +1,8 @@
 -- A set of one or none, the members of a set without another's, and a set inside another. Assumes nothing.
-use mathlib.Core.Path.{_≡_, ap, _∙_, subst}
-use mathlib.Core.Bool.{Bool, true, false, not}
-use Prim.Native.Nat.{ℕ, _-_, _^_, _≤_, _<_}
-use native.Mathlib.Nat.{lt-of-le-of-lt}
-use native.Mathlib.Omega.{arith}
-use lib.Dec.{T}
-use lib.Bits.{bitAnd, and-le-l, and-le-r}
-use lib.Pow.{pow-lt}
-use Rattle.model.specs.Lists.{both}
-use Rattle.model.specs.ValueSets.{has, oneIf}
-use Rattle.model.proofs.Lists.{T-ext}
-use Rattle.model.proofs.Sets.{mask-ext}
-use Rattle.model.proofs.Masks.{has-and, has-not}
-use Rattle.model.proofs.Members.{and-i, and-e}
+use Rattle.model.specs.Kit.{_≡_, ap, _∙_, subst, Bool, true, false, not, ℕ, _-_, _^_, _≤_, _<_, lt-of-le-of-lt, arith, T, bitAnd, and-le-l, pow-lt}
+use lib.Bits.{and-le-r}
+use Rattle.model.specs.{Lists.both, ValueSets.has, ValueSets.oneIf}
+use Rattle.model.proofs.{Lists.T-ext, Sets.mask-ext, Masks.has-and, Masks.has-not, Members.and-i, Members.and-e}
 
 pub one-small : (b : Bool) (x : ℕ) → x < 16 → oneIf b x < 2 ^ 16
 one-small true x h = pow-lt h

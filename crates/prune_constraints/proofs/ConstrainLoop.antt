@@ -1,38 +1,19 @@
 -- The loops of `constrain8` and `constrain16`: what holds before each turn, one turn, and both ends, whichever constraints a round takes. Assumes nothing.
-use mathlib.Core.Path.{_≡_, refl, sym, ap, _∙_, subst}
-use mathlib.Core.Bool.{Bool, true, false, not}
-use mathlib.Core.Logic.{_⊎_, inl, inr, ⊎-elim}
-use mathlib.Core.List.{List, List·Memᴰ}
-use Prim.Native.Nat.{ℕ, _+_, _-_, _*_, _^_, _≤_, _<_}
-use native.Mathlib.Nat.{lt-of-le-of-lt}
-use native.Mathlib.Omega.{arith}
-use native.Mathlib.Decide.{ℕ-discrete}
-use lib.Dec.{T, eqb, ltb, eqb-refl}
-use lib.ListN.{length}
-use lib.Bits.{bitAnd, bitOr, and-le-l, or-lt, or-zero-r, or-disjoint}
-use lib.Count.{trailingZeros}
+use Rattle.model.specs.Kit.{_≡_, refl, sym, ap, _∙_, subst, Bool, true, false, not, _⊎_, inl, inr, ⊎-elim, List, List·Memᴰ, ℕ, _+_, _-_, _*_, _^_, _≤_, _<_, lt-of-le-of-lt, arith}
+use Rattle.model.specs.Kit.{ℕ-discrete, T, eqb, ltb, eqb-refl, length, bitAnd, bitOr, and-le-l, or-lt, trailingZeros, ltb-true, ltb-false, eqb-true, eq-eqb}
+use lib.Bits.{or-zero-r, or-disjoint}
 use lib.Pow.{pow-mono}
-use borrow.Author.Tests.{ltb-true, ltb-false, eqb-true, eq-eqb}
-use Rattle.model.specs.Lists.{both, any, at}
-use Rattle.model.specs.ValueSets.{has}
-use Rattle.model.specs.Problem.{Problem, Constraint}
+use Rattle.model.specs.{Lists.both, Lists.any, Lists.at, ValueSets.has, ValueSets.Inside, Problem.Problem, Problem.Constraint, Problem.constraintAt, inner.Pruning.Sets}
+use Rattle.model.specs.{inner.Pruning.Prunes, WellFormed.GoodConstraint}
 use Rattle.model.proofs.Lists.{T-of, of-T, T-ext, not-of, of-not, both-i, both-r, among-i, among-e, ascending-sorted}
-use Rattle.model.proofs.Sets.{has-none, has-lt, mask-ext, inside-antisym, size, size-inside, size-strict}
-use Rattle.model.specs.Pruning.{Sets, Inside, Prunes}
-use Rattle.model.proofs.Masks.{has-one}
-use Rattle.model.proofs.Members.{low-has, rest-e, rest-i, rest-less, has-0, or-i, or-e, and-e}
-use Rattle.model.proofs.Firsts.{take-i, take-full, take-empty, full-take}
-use Rattle.model.proofs.Prunes.{prunes-none, prunes-then}
-use Rattle.model.specs.WellFormed.{GoodConstraint}
-use Rattle.arrays.specs.Places.{VALUES, OTHERS, DEAD}
-use Rattle.arrays.specs.Layout.{constraintAt}
-use Rattle.arrays.specs.Tables.{Linked, byRows}
-use Rattle.arrays.specs.Pruning.{Fixed, setsOf}
+use Rattle.model.proofs.{Sets.has-none, Sets.has-lt, Sets.mask-ext, Sets.inside-antisym, Sets.size, Sets.size-inside, Sets.size-strict, Masks.has-one, Members.low-has}
+use Rattle.model.proofs.{Members.rest-e, Members.rest-i, Members.rest-less, Members.has-0, Members.or-i, Members.or-e, Members.and-e, Firsts.take-i, Firsts.take-full}
+use Rattle.model.proofs.{Firsts.take-empty, Firsts.full-take, Prunes.prunes-none, Prunes.prunes-then}
+use Rattle.arrays.specs.{inner.Places.VALUES, inner.Places.OTHERS, inner.Places.DEAD, inner.Tables.Linked, inner.Tables.byRows, inner.Pruning.Fixed, inner.Pruning.setsOf}
 use Rattle.arrays.proofs.Links.{is-one, good}
-use Rattle.prune_constraints.specs.Revised.{revised, Revision, ConstraintsPending, Constrained}
-use Rattle.prune_constraints.specs.Steps.{ConstraintsHeld, Nonempty, Narrow, Waiting, Round}
-use Rattle.prune_constraints.proofs.Bits.{without-has, inside-le}
-use Rattle.prune_constraints.proofs.Rows.{revised-sets, revised-inside, revised-fixed, revised-out, fixed-kept}
+use Rattle.prune_constraints.specs.{inner.Revised.revised, inner.Revised.Revision, inner.Revised.ConstraintsPending, inner.Revised.Constrained, inner.Steps.ConstraintsHeld}
+use Rattle.prune_constraints.specs.inner.Steps.{Nonempty, Narrow, Waiting, Round}
+use Rattle.prune_constraints.proofs.{Bits.without-has, Bits.inside-le, Rows.revised-sets, Rows.revised-inside, Rows.revised-fixed, Rows.revised-out, Rows.fixed-kept}
 use Rattle.prune_constraints.proofs.Removal.{fixed-take, fixed-all, revised-prunes}
 
 -- ---- what a revision changed
@@ -69,13 +50,16 @@ module _ (c : Constraint) (ds es : List ℕ) (changed : ℕ) (s : Sets 16 ds) (r
     where
       go : (b : Bool) → ltb (size es) (size ds) ≡ b → size es < size ds
       go true q = ltb-true (size es) (size ds) q
-      go false q = absurd (differs x t (ap (λ (l : List ℕ). at l x) (inside-antisym 16 es ds after s inside (size-strict es ds (after .0 ∙ sym (s .0)) (s .1) inside (ltb-false (size es) (size ds) q)))))
+      go false q = absurd (differs x t (ap (λ (l : List ℕ). at l x) (inside-antisym 16 es ds after s inside
+          (size-strict es ds (after .0 ∙ sym (s .0)) (s .1) inside (ltb-false (size es) (size ds) q)))))
 
 -- a constraint that is not pruned by variable is among the others of each variable of its scope
-among-others : {p : Problem} {numbers : List ℕ} → Linked p numbers → (k : ℕ) → k < length (p .constraints) → byRows p k ≡ false → (y : ℕ) → y < 16 → List·Memᴰ y (constraintAt p k .scope) → T (has (at numbers (OTHERS + y)) k)
+among-others : {p : Problem} {numbers : List ℕ} → Linked p numbers → (k : ℕ) → k < length (p .constraints) → byRows p k ≡ false → (y : ℕ) → y < 16 → List·Memᴰ y (constraintAt p k .scope) → T
+    (has (at numbers (OTHERS + y)) k)
 among-others {p} {numbers} n k h b y l m =
     T-of (has (at numbers (OTHERS + y)) k)
-    (n .touching y k l h ∙ of-T (both (any (eqb y) (constraintAt p k .scope)) (not (byRows p k))) (both-i (any (eqb y) (constraintAt p k .scope)) (not (byRows p k)) (among-i y (constraintAt p k .scope) m) (T-of (not (byRows p k)) (ap not b))))
+    (n .touching y k l h ∙ of-T (both (any (eqb y) (constraintAt p k .scope)) (not (byRows p k)))
+    (both-i (any (eqb y) (constraintAt p k .scope)) (not (byRows p k)) (among-i y (constraintAt p k .scope) m) (T-of (not (byRows p k)) (ap not b))))
 
 -- ---- a round is taken out of what is due
 abbrev pub without : ℕ → ℕ → ℕ
@@ -105,7 +89,8 @@ module _ {due round : ℕ} (h : due < 2 ^ 64) (i : round < 2 ^ 64) where
       none : bitAnd round rest ≡ 0
       none =
           mask-ext 64 (bitAnd round rest) 0 (lt-of-le-of-lt (and-le-l round rest) i) (omega arith)
-          (λ k l. not-of (has (bitAnd round rest) k) (λ t. let q = and-e round rest k t in subst T (ap not (of-T (has round k) (q .0))) (both-r (has due k) (not (has round k)) (subst T (rest-is k l) (q .1)))) ∙ sym (has-none k))
+          (λ k l. not-of (has (bitAnd round rest) k) (λ t. let q = and-e round rest k t in subst T (ap not (of-T (has round k) (q .0)))
+          (both-r (has due k) (not (has round k)) (subst T (rest-is k l) (q .1)))) ∙ sym (has-none k))
 
       whole : (k : ℕ) → k < 64 → has (bitOr round rest) k ≡ has due k
       whole k l = T-ext (has (bitOr round rest) k) (has due k) (λ t. ⊎-elim (r .inside k) (λ q. and-e due ((2 ^ 64 - 1) - round) k q .0) (or-e round rest k t)) (λ t. or-i round rest k (in-or-out k t))
@@ -176,7 +161,8 @@ module _ (p : Problem) (numbers supports ds : List ℕ) where
   }
 
   -- the next round
-  constrained-swap : (es : List ℕ) (left next all round : ℕ) → left ≡ 0 → round < 2 ^ 64 → Round next round → ConstrainedSoFar p numbers supports ds es left next all → ConstrainedSoFar p numbers supports ds es round (without next round) all
+  constrained-swap : (es : List ℕ) (left next all round : ℕ) → left ≡ 0 → round < 2 ^ 64 → Round next round → ConstrainedSoFar p numbers supports ds es left next all
+      → ConstrainedSoFar p numbers supports ds es round (without next round) all
   constrained-swap es left next all round e h r t = record {
     held = t .held;
     linked = t .linked;
@@ -185,7 +171,8 @@ module _ (p : Problem) (numbers supports ds : List ℕ) where
     wide-next = lt-of-le-of-lt (and-le-l next _) (t .wide-next);
     full = t .full;
     known = λ k. ⊎-elim (λ q. t .known k (inr (r .inside k q))) (λ q. t .known k (inr (and-e next _ k q .0)));
-    others = λ k l f g b. t .others k l (ap (λ (n : ℕ). has n k) e ∙ has-none k) (not-of (has next k) (λ q. ⊎-elim (of-not (has round k) f) (of-not (has (without next round) k) g) (in-or-out (t .wide-next) h k q))) b;
+    others = λ k l f g b. t .others k l (ap (λ (n : ℕ). has n k) e ∙ has-none k) (not-of (has next k)
+        (λ q. ⊎-elim (of-not (has round k) f) (of-not (has (without next round) k) g) (in-or-out (t .wide-next) h k q))) b;
     ways = t .ways;
     less = t .less;
     kept = t .kept;
@@ -203,7 +190,15 @@ module _ (p : Problem) (numbers supports ds : List ℕ) where
   pub constrained-end : (es : List ℕ) (left next all : ℕ) → left ≡ 0 → next ≡ 0 → ConstrainedSoFar p numbers supports ds es left next all → Constrained p ds es all
   constrained-end es left next all e f t = record {
     ended = λ q. let h : 16 < p .variables = t .few 16 (subst (λ (n : ℕ). T (has n 16)) (sym q) (subst T (sym (has-one 16 16)) (eqb-refl 16))) in absurd (omega (arith, t .held .wellFormed .few));
-    lessened = λ n. record { ways = t .ways; sixteen = t .sixteen; full = take-full (p .variables) es (t .sixteen) (omega (arith, t .held .wellFormed .few)) (t .full); less = t .less; kept = t .kept; few = t .few };
+    lessened = λ n. record {
+      ways = t .ways;
+      sixteen = t .sixteen;
+      full = take-full (p .variables) es (t .sixteen) (omega (arith, t .held .wellFormed .few))
+          (t .full);
+      less = t .less;
+      kept = t .kept;
+      few = t .few;
+    };
     smaller = λ n. t .shrunk;
     fixed = λ n k l b.
         fixed-take (p .variables) es (t .sixteen) (omega (arith, t .held .wellFormed .few)) (constraintAt p k) (good (t .held .wellFormed) k l .inside)
@@ -245,7 +240,8 @@ module _ {p : Problem} {numbers supports ds es : List ℕ} {left₀ next₀ left
   pub k-narrow : {todo : ℕ} → ConstraintsPending p numbers supports ds todo → at numbers VALUES < 9 → Narrow (constraintAt p (trailingZeros 64 left) .scope) es
   k-narrow w h x m =
       let l = c-good .inside x m in
-      let a = inside-le (at es x) (at (p .initial) x) (t .sixteen .1 x) (λ v q. w .given .inside x v (take-i (p .variables) ds (w .given .sixteen) (omega (arith, w .wellFormed .few)) x v l (t .less x v q))) in
+      let a = inside-le (at es x) (at (p .initial) x) (t .sixteen .1 x) (λ v q. w .given .inside x v
+      (take-i (p .variables) ds (w .given .sixteen) (omega (arith, w .wellFormed .few)) x v l (t .less x v q))) in
       let b = w .wellFormed .narrow x l in
       let e : p .values ≤ 8 = omega (arith, w .numbered .values) in
       let d : 2 ^ p .values ≤ 2 ^ 8 = pow-mono e in
@@ -264,8 +260,14 @@ module _ {p : Problem} {numbers supports ds es : List ℕ} {left₀ next₀ left
     -- a set would be empty
     pub constrained-dead : changed ≡ DEAD → Constrained p ds fs DEAD
     constrained-dead e = record {
-      ended = λ q. let z = r .ended e in
-          (setsOf p (revised es c), (way, take-empty (p .variables) (revised es c) (revised-sets es c 16 (t .sixteen .0)) (omega (arith, t .held .wellFormed .few)) (z .0) (c-good .inside (z .0) (z .1)) (z .2)));
+      ended = λ q. let z = r .ended e in (
+        setsOf p (revised es c),
+        (
+          way,
+          take-empty (p .variables) (revised es c) (revised-sets es c 16 (t .sixteen .0)) (omega (arith, t .held .wellFormed .few)) (z .0)
+              (c-good .inside (z .0) (z .1)) (z .2),
+        ),
+      );
       lessened = λ m. absurd (m refl);
       smaller = λ m. absurd (m refl);
       fixed = λ m. absurd (m refl);
@@ -302,7 +304,8 @@ module _ {p : Problem} {numbers supports ds es : List ℕ} {left₀ next₀ left
         turn-known : (j : ℕ) → T (has others j) ⊎ T (has (bitOr next g) j) → j < length (p .constraints)
         turn-known j =
             ⊎-elim (λ q. t .known j (inl (rest-e 64 left (let n = some in omega arith) (t .wide) j q)))
-            (λ q. ⊎-elim (λ i. t .known j (inr i)) (λ i. let x = u .waiting-e j i in has-lt (length (p .constraints)) (at numbers (OTHERS + x .0)) j (t .linked .touching-few (x .0) (changed-lt (x .0) (x .1))) (x .2)) (or-e next g j q))
+            (λ q. ⊎-elim (λ i. t .known j (inr i)) (λ i. let x = u .waiting-e j i in has-lt (length (p .constraints)) (at numbers (OTHERS + x .0)) j
+            (t .linked .touching-few (x .0) (changed-lt (x .0) (x .1))) (x .2)) (or-e next g j q))
 
         turn-others : (j : ℕ) → j < length (p .constraints) → has others j ≡ false → has (bitOr next g) j ≡ false → byRows p j ≡ false → Fixed fs (constraintAt p j)
         turn-others j i e f b = go (ℕ-discrete j k)
@@ -311,13 +314,15 @@ module _ {p : Problem} {numbers supports ds es : List ℕ} {left₀ next₀ left
             out q = of-not (has (bitOr next g) j) f (or-i next g j q)
 
             go : Dec (j ≡ k) → Fixed fs (constraintAt p j)
-            go (yes q) = subst (λ (i : ℕ). Fixed fs (constraintAt p i)) (sym q) (subst (λ (m : List ℕ). Fixed m c) (sym (r .sets l)) (revised-fixed es c (t .sixteen .1) (ascending-sorted (c .scope) (c-good .ordered))))
+            go (yes q) = subst (λ (i : ℕ). Fixed fs (constraintAt p i)) (sym q) (subst (λ (m : List ℕ). Fixed m c) (sym (r .sets l))
+                (revised-fixed es c (t .sixteen .1) (ascending-sorted (c .scope) (c-good .ordered))))
             go (no q) =
                 fixed-kept (constraintAt p j) es fs
                 (t .others j i (not-of (has left j) (λ z. ⊎-elim (of-not (has others j) e) q (others-i j z))) (not-of (has next j) (λ z. out (inl z))) b)
                 (λ y z. still c es fs changed (t .sixteen) r l y
                 (not-of (has changed y)
-                (λ a. ⊎-elim (λ v. out (inr v)) (⊎-elim (of-not (has others j) e) q) (u .waiting-i y j a (among-others (t .linked) j i b y (let d = good (t .held .wellFormed) j i .inside y z in omega (arith, t .held .wellFormed .few)) z)))))
+                (λ a. ⊎-elim (λ v. out (inr v)) (⊎-elim (of-not (has others j) e) q) (u .waiting-i y j a
+                (among-others (t .linked) j i b y (let d = good (t .held .wellFormed) j i .inside y z in omega (arith, t .held .wellFormed .few)) z)))))
 
         pub constrained-more : ConstrainedSoFar p numbers supports ds fs (bitAnd left (left - 1)) (bitOr next g) (bitOr all changed)
         constrained-more = record {

@@ -1,22 +1,12 @@
 -- Numbers of eight lanes of eight bits, and the functions over them. Assumes nothing.
-use mathlib.Core.Path.{_≡_, refl, sym, ap, _∙_, subst}
-use mathlib.Core.Bool.{Bool, true, false}
-use mathlib.Core.Logic.{_⊎_, inl, inr, ⊎-elim}
-use mathlib.Core.List.{List}
-use Prim.Native.Nat.{ℕ, zero, suc, _+_, _-_, _*_, _/_, _%_, _^_, _<_}
-use native.Mathlib.Nat.{lt-of-le-of-lt}
-use native.Mathlib.Omega.{arith}
-use lib.Dec.{T, ltb, lit<}
-use lib.Bits.{bitAnd, bitOr, and-le-r, and-mask}
-use borrow.Author.Tests.{ltb-true, ltb-false, lt-ltb}
-use Rattle.model.specs.Lists.{both, either, at}
-use Rattle.model.specs.ValueSets.{has}
-use Rattle.model.proofs.Lists.{either-l, either-r, either-e}
-use Rattle.model.proofs.Sets.{has-lt}
-use Rattle.model.proofs.Masks.{has-and, has-or, has-ones, has-shr, byte-has, byte-lt}
-use Rattle.model.proofs.Members.{both-no, both-yes, either-no, or-i, or-e, and-i, and-e}
-use Rattle.arrays.specs.Tables.{UnionOf}
-use Rattle.prune_constraints.specs.Lanes.{FullLanes, LaneUnion, FullHeads, Halves, InLanes}
+use Rattle.model.specs.Kit.{_≡_, refl, sym, ap, _∙_, subst, Bool, true, false, _⊎_, inl, inr, ⊎-elim, List, ℕ, zero, suc, _+_, _-_, _*_, _/_, _%_, _^_, _<_, lt-of-le-of-lt, arith}
+use Rattle.model.specs.Kit.{T, ltb, lit<, bitAnd, bitOr, ltb-true, ltb-false, lt-ltb}
+use lib.Bits.{and-le-r, and-mask}
+use Rattle.model.specs.{Lists.both, Lists.either, Lists.at, ValueSets.has}
+use Rattle.model.proofs.{Lists.either-l, Lists.either-r, Lists.either-e, Lists.both-true, Lists.both-false, Sets.has-lt, Masks.has-and, Masks.has-or, Masks.has-ones, Masks.has-shr}
+use Rattle.model.proofs.{Masks.byte-has, Masks.byte-lt, Members.either-no, Members.or-i, Members.or-e, Members.and-i, Members.and-e}
+use Rattle.arrays.specs.inner.Tables.{UnionOf}
+use Rattle.prune_constraints.specs.inner.Lanes.{FullLanes, LaneUnion, FullHeads, Halves, InLanes}
 
 cases8 : (P : ℕ → Type 0) → P 0 → P 1 → P 2 → P 3 → P 4 → P 5 → P 6 → P 7 → (j : ℕ) → j < 8 → P j
 cases8 P a b c d e f g h zero l = a
@@ -31,10 +21,10 @@ cases8 P a b c d e f g h (suc (suc (suc (suc (suc (suc (suc (suc j)))))))) l = a
 
 -- ---- the bits of a mask
 masked : (x k i : ℕ) → has k i ≡ true → has (bitAnd x k) i ≡ has x i
-masked x k i h = has-and x k i ∙ ap (both (has x i)) h ∙ both-yes (has x i)
+masked x k i h = has-and x k i ∙ ap (both (has x i)) h ∙ both-true (has x i)
 
 out : (x k i : ℕ) → has k i ≡ false → has (bitAnd x k) i ≡ false
-out x k i h = has-and x k i ∙ ap (both (has x i)) h ∙ both-no (has x i)
+out x k i h = has-and x k i ∙ ap (both (has x i)) h ∙ both-false (has x i)
 
 -- a bit of x | y under a mask, where one of the two lacks it
 left : (x y k i : ℕ) → has k i ≡ true → has y i ≡ false → has (bitAnd (bitOr x y) k) i ≡ has x i
@@ -220,7 +210,8 @@ module _ (lane : ℕ → ℕ → ℕ) {a x y : ℕ} (k : a < 2 ^ 8) (lower : Uni
   united-i i j w g h t q = or-i x y (8 * j + w) (go (ltb i 4) refl)
     where
       go : (d : Bool) → ltb i 4 ≡ d → T (has x (8 * j + w)) ⊎ T (has y (8 * j + w))
-      go true c = let l = ltb-true i 4 c in let m : i ≡ 0 + i = omega arith in inl (lower .union-i i j w l g h (subst T (sym (lower-has a i l)) (at-spot a i (0 + i) m t)) (subst (λ (z : ℕ). T (has (lane z j) w)) m q))
+      go true c = let l = ltb-true i 4 c in let m : i ≡ 0 + i = omega arith in inl (lower .union-i i j w l g h (subst T (sym (lower-has a i l)) (at-spot a i (0 + i) m t))
+          (subst (λ (z : ℕ). T (has (lane z j) w)) m q))
       go false c =
           let l : i ≡ 4 + (i - 4) = omega (arith, ltb-false i 4 c) in
           let m : i - 4 < 4 = omega (arith, has-lt 8 a i k t) in
@@ -234,12 +225,14 @@ module _ (lane : ℕ → ℕ → ℕ) {a x y : ℕ} (k : a < 2 ^ 8) (lower : Uni
       (or-e x y (8 * j + w) t)
 
 -- under all lanes of b and e in each
-module _ (numbers : List ℕ) (base a b e s : ℕ) (k : a < 2 ^ 8) (l : b < 2 ^ 8) (n : e < 256) (p : (j w : ℕ) → j < 8 → w < 8 → has s (8 * j + w) ≡ has b j) (lane : ℕ → ℕ → ℕ) (f : Halves numbers base lane) where
+module _ (numbers : List ℕ) (base a b e s : ℕ) (k : a < 2 ^ 8) (l : b < 2 ^ 8) (n : e < 256) (p : (j w : ℕ) → j < 8 → w < 8 → has s (8 * j + w) ≡ has b j) (lane : ℕ → ℕ → ℕ)
+    (f : Halves numbers base lane) where
   abbrev united : ℕ
   united = bitOr (at numbers (base + bitAnd a 15)) (at numbers (base + 16 + a / 2 ^ 4))
 
   lower-is : UnionOf (bitAnd a 15) (λ i j. lane (0 + i) j) (at numbers (base + bitAnd a 15))
-  lower-is = let z : base + 16 * 0 + bitAnd a 15 ≡ base + bitAnd a 15 = omega arith in subst (λ (i : ℕ). UnionOf (bitAnd a 15) (λ i j. lane (0 + i) j) (at numbers i)) z (f 0 (bitAnd a 15) (lit< tt) (lt-of-le-of-lt (and-le-r a 15) (lit< tt)))
+  lower-is = let z : base + 16 * 0 + bitAnd a 15 ≡ base + bitAnd a 15 = omega arith in subst (λ (i : ℕ). UnionOf (bitAnd a 15) (λ i j. lane (0 + i) j) (at numbers i)) z
+      (f 0 (bitAnd a 15) (lit< tt) (lt-of-le-of-lt (and-le-r a 15) (lit< tt)))
 
   upper-is : UnionOf (a / 2 ^ 4) (λ i j. lane (4 + i) j) (at numbers (base + 16 + a / 2 ^ 4))
   upper-is = f 1 (a / 2 ^ 4) (lit< tt) (omega arith)
@@ -249,7 +242,8 @@ module _ (numbers : List ℕ) (base a b e s : ℕ) (k : a < 2 ^ 8) (l : b < 2 ^ 
     lanes-i = λ i j w t u v q.
         let g = has-lt 8 b j l u in
         let h = has-lt 8 e w n v in
-        and-i (bitAnd united s) (e * ones) (8 * j + w) (and-i united s (8 * j + w) (united-i lane k lower-is upper-is i j w g h t q) (subst T (sym (p j w g h)) u)) (subst T (sym (copied e j w n g h)) v);
+        and-i (bitAnd united s) (e * ones) (8 * j + w) (and-i united s (8 * j + w) (united-i lane k lower-is upper-is i j w g h t q) (subst T (sym (p j w g h)) u))
+        (subst T (sym (copied e j w n g h)) v);
     lanes-e = λ j w g h t.
         let q = and-e (bitAnd united s) (e * ones) (8 * j + w) t in
         let r = and-e united s (8 * j + w) (q .0) in

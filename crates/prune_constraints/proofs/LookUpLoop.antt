@@ -1,40 +1,16 @@
 -- Look-ups: one constraint whose first two sets have one value each, and the loop over some of them. Assumes nothing.
-use mathlib.Core.Path.{_≡_, refl, sym, ap, ap₂, _∙_, subst}
-use mathlib.Core.Bool.{false, not}
-use mathlib.Core.Logic.{_⊎_, inl, inr, ⊎-elim}
-use mathlib.Core.List.{List, [], List·Memᴰ·head, List·Memᴰ·tail}
-use Prim.Native.Nat.{ℕ, _+_, _-_, _*_, _/_, _%_, _^_, _≤_, _<_}
-use native.Mathlib.Nat.{lt-of-le-of-lt}
-use native.Mathlib.Omega.{arith}
-use lib.Dec.{T, eqb-refl}
-use lib.ListN.{length}
-use lib.Bits.{bitAnd, bitOr, and-le-l}
-use lib.Count.{trailingZeros}
-use borrow.Author.Tests.{eq-eqb}
-use Rattle.model.specs.Lists.{at}
-use Rattle.model.specs.ValueSets.{has, anyEmpty, lowestOf}
-use Rattle.model.specs.Problem.{Problem}
-use Rattle.model.proofs.Lists.{not-of, of-not, T-of, T-ext, both-i, mem-at}
-use Rattle.model.proofs.Sets.{has-none, has-lt, mask-ext, member}
-use Rattle.model.specs.Pruning.{Sets}
-use Rattle.model.proofs.Masks.{has-one}
-use Rattle.model.proofs.Members.{has-0, low-has, or-i, or-e, and-e, rest-e}
-use Rattle.model.proofs.Firsts.{take-full}
-use Rattle.arrays.specs.Places.{SCOPES, OTHERS, DEAD, SUPPORTS}
-use Rattle.arrays.specs.Layout.{constraintAt}
-use Rattle.arrays.specs.Pruning.{setsOf}
+use Rattle.model.specs.Kit.{_≡_, refl, sym, ap, ap₂, _∙_, subst, false, not, _⊎_, inl, inr, ⊎-elim, List, [], List·Memᴰ·head, List·Memᴰ·tail, ℕ, _+_, _-_, _*_, _/_, _%_, _^_, _≤_}
+use Rattle.model.specs.Kit.{_<_, lt-of-le-of-lt, arith, T, eqb-refl, length, bitAnd, bitOr, and-le-l, trailingZeros, eq-eqb}
+use Rattle.model.specs.{Lists.at, ValueSets.has, ValueSets.anyEmpty, ValueSets.lowestOf, Problem.Problem, Problem.constraintAt, inner.Pruning.Sets}
+use Rattle.model.proofs.{Lists.not-of, Lists.of-not, Lists.T-of, Lists.T-ext, Lists.both-i, Lists.mem-at, Sets.has-none, Sets.has-lt, Sets.mask-ext, Sets.member, Masks.has-one}
+use Rattle.model.proofs.{Members.has-0, Members.low-has, Members.or-i, Members.or-e, Members.and-e, Members.rest-e, Firsts.take-full}
+use Rattle.arrays.specs.{inner.Places.SCOPES, inner.Places.OTHERS, inner.Places.DEAD, inner.Places.SUPPORTS, inner.Pruning.setsOf}
 use Rattle.arrays.proofs.Links.{good}
-use Rattle.prune_constraints.specs.Revised.{Revision}
-use Rattle.prune_constraints.specs.Steps.{OneValue, Scoped, ConstraintsHeld, SetCut, Touched}
-use Rattle.prune_constraints.specs.LookUps.{Alone, LookUp, LookUpsPending, LookedUp}
-use Rattle.prune_constraints.proofs.Bits.{without-has}
-use Rattle.prune_constraints.proofs.Unions.{single}
-use Rattle.prune_constraints.proofs.Rows.{revised-inside}
-use Rattle.prune_constraints.proofs.Removal.{fixed-take}
-use Rattle.prune_constraints.proofs.Stores.{three-last, u-has}
-use Rattle.prune_constraints.proofs.Scopes.{scope3, scoped-3}
-use Rattle.prune_constraints.proofs.Touching.{touchedOf, touched-lt, touched-of}
-use Rattle.prune_constraints.proofs.ConstrainLoop.{without, Chosen, ConstrainedSoFar, constrained-begin, k-few, k-full, changed-lt, constrained-dead, constrained-more}
+use Rattle.prune_constraints.specs.{inner.Revised.Revision, inner.Steps.OneValue, inner.Steps.Scoped, inner.Steps.ConstraintsHeld, inner.Steps.SetCut, inner.Steps.Touched}
+use Rattle.prune_constraints.specs.inner.LookUps.{Alone, LookUp, LookUpsPending, LookedUp}
+use Rattle.prune_constraints.proofs.{Bits.without-has, Unions.single, Rows.revised-inside, Removal.fixed-take, Stores.three-last, Stores.u-has, Scopes.scope3}
+use Rattle.prune_constraints.proofs.{Scopes.scoped-3, Touching.touchedOf, Touching.touched-lt, Touching.touched-of, ConstrainLoop.without, ConstrainLoop.Chosen}
+use Rattle.prune_constraints.proofs.ConstrainLoop.{ConstrainedSoFar, constrained-begin, k-few, k-full, changed-lt, constrained-dead, constrained-more}
 
 -- ---- one constraint
 module _ {p : Problem} {numbers supports ds : List ℕ} {k v : ℕ} (g : ConstraintsHeld p numbers supports) (l : LookUp p ds k v) (s : Sets 16 ds) where
@@ -63,7 +39,8 @@ module _ {p : Problem} {numbers supports ds : List ℕ} {k v : ℕ} (g : Constra
     omega (arith, e, u-has look-scoped ds s first (second .0) .1, has-lt 16 (at ds y) v (s .1 y) (second .1), look-scoped .room),
   )
 
-  pub look-made : {es : List ℕ} {r : ℕ} (u : ℕ) → u ≡ lowestOf (at ds (at numbers (SCOPES + k) / 256 % 256)) → SetCut ds es (at numbers (SCOPES + k) / 16777216 % 256) (bitAnd (at ds (at numbers (SCOPES + k) / 16777216 % 256)) (at supports (256 * k + 16 * u + v))) r → Revision (constraintAt p k) ds es r
+  pub look-made : {es : List ℕ} {r : ℕ} (u : ℕ) → u ≡ lowestOf (at ds (at numbers (SCOPES + k) / 256 % 256)) → SetCut ds es (at numbers (SCOPES + k) / 16777216 % 256)
+      (bitAnd (at ds (at numbers (SCOPES + k) / 16777216 % 256)) (at supports (256 * k + 16 * u + v))) r → Revision (constraintAt p k) ds es r
   look-made {es} {r} u e a = three-last look-scoped ds s first (second .0) _ (ap₂ (λ (i j : ℕ). 256 * k + 16 * i + j) e (single (at ds y) (s .1 y) (second .0) v (second .1))) es r a
 
 -- ---- the loop
@@ -86,7 +63,8 @@ module _ {p : Problem} {numbers supports ds : List ℕ} {todo some v : ℕ} (w :
       t = constrained-begin p numbers supports ds todo (w .wide) (w .pending)
 
       undue : (k : ℕ) → k < length (p .constraints) → has some k ≡ false → has (without todo some) k ≡ false → has todo k ≡ false
-      undue k l e f = not-of (has todo k) (λ q. of-not (has (without todo some) k) f (subst T (sym (without-has 64 todo some k h (omega (arith, w .pending .constraints)))) (both-i (has todo k) (not (has some k)) q (T-of (not (has some k)) (ap not e)))))
+      undue k l e f = not-of (has todo k) (λ q. of-not (has (without todo some) k) f (subst T (sym (without-has 64 todo some k h (omega (arith, w .pending .constraints))))
+          (both-i (has todo k) (not (has some k)) q (T-of (not (has some k)) (ap not e)))))
 
       begin : ConstrainedSoFar p numbers supports ds ds some (without todo some) 0
       begin = record {
@@ -125,7 +103,8 @@ module _ {p : Problem} {numbers supports ds : List ℕ} {todo some v : ℕ} (w :
         others = λ k l f b.
             fixed-take (p .variables) es (u .sixteen) n-few (constraintAt p k) (good (w .pending .wellFormed) k l .inside)
             (u .others k l (ap (λ (n : ℕ). has n k) e ∙ has-none k)
-            (not-of (has (t .next) k) (λ q. of-not (has (bitOr (without todo some) g) k) f (or-i (without todo some) g k (⊎-elim inl (λ i. inr (v .touched-i (i .0) k (i .1) (i .2))) (t .due k q))))) b);
+            (not-of (has (t .next) k) (λ q. of-not (has (bitOr (without todo some) g) k) f
+            (or-i (without todo some) g k (⊎-elim inl (λ i. inr (v .touched-i (i .0) k (i .1) (i .2))) (t .due k q))))) b);
       };
       sixteen = u .sixteen;
       less = u .less;
@@ -138,7 +117,8 @@ module _ {p : Problem} {numbers supports ds : List ℕ} {todo some v : ℕ} (w :
         full = take-full (p .variables) es (u .sixteen) n-few (u .full)
 
         known : (g : ℕ) → Touched numbers all g → (k : ℕ) → T (has g k) → k < length (p .constraints)
-        known g v k q = let x = v .touched-e k q in has-lt (length (p .constraints)) (at numbers (OTHERS + x .0)) k (w .pending .linked .touching-few (x .0) (let i = u .few (x .0) (x .1) in omega (arith, n-few))) (x .2)
+        known g v k q = let x = v .touched-e k q in has-lt (length (p .constraints)) (at numbers (OTHERS + x .0)) k
+            (w .pending .linked .touching-few (x .0) (let i = u .few (x .0) (x .1) in omega (arith, n-few))) (x .2)
 
     -- one turn
     module _ (n : left ≡ 0 → ⊥) where
@@ -169,13 +149,22 @@ module _ {p : Problem} {numbers supports ds : List ℕ} {todo some v : ℕ} (w :
 
       module _ {fs : List ℕ} {changed : ℕ} (r : Revision (constraintAt p (trailingZeros 64 left)) es fs changed) where
         pub looked-dead : changed ≡ DEAD → LookedUp p numbers supports ds fs todo some DEAD
-        looked-dead e = let d = constrained-dead (t .so-far) on r e in record { ended = λ q. d .ended refl; lessened = λ m. absurd (m refl); changed = λ m. absurd (m refl); pending = λ m. absurd (m refl); sixteen = d .sixteen; less = d .less }
+        looked-dead e = let d = constrained-dead (t .so-far) on r e in record {
+          ended = λ q. d .ended refl;
+          lessened = λ m. absurd (m refl);
+          changed = λ m. absurd (m refl);
+          pending = λ m. absurd
+              (m refl);
+          sixteen = d .sixteen;
+          less = d .less;
+        }
 
         pub looked-turn : (changed ≡ DEAD → ⊥) → LookedSoFar p numbers supports ds fs todo some (bitAnd left (left - 1)) (bitOr all changed)
         looked-turn l = record {
           next = bitOr (t .next) (touchedOf numbers changed);
           so-far = constrained-more (t .so-far) on r l (touched-lt numbers changed) record { waiting-i = λ x j q i. inl (touched .touched-i x j q i); waiting-e = touched .touched-e };
-          due = λ j q. ⊎-elim (λ i. ⊎-elim inl (λ d. inr (d .0, or-i all changed (d .0) (inl (d .1)), d .2)) (t .due j i)) (λ i. let x = touched .touched-e j i in inr (x .0, or-i all changed (x .0) (inr (x .1)), x .2)) (or-e (t .next) (touchedOf numbers changed) j q);
+          due = λ j q. ⊎-elim (λ i. ⊎-elim inl (λ d. inr (d .0, or-i all changed (d .0) (inl (d .1)), d .2)) (t .due j i))
+              (λ i. let x = touched .touched-e j i in inr (x .0, or-i all changed (x .0) (inr (x .1)), x .2)) (or-e (t .next) (touchedOf numbers changed) j q);
           among = λ j q. t .among j (rest-e 64 left (omega arith) (t .so-far .wide) j q);
           changed = λ x q e. ⊎-elim (λ i. t .changed x i (between x e)) (λ i. subst T (r .moved l x ∙ ap not (eq-eqb (at fs x) (at es x) (e ∙ sym (between x e)))) i) (or-e all changed x q);
         }
@@ -184,7 +173,8 @@ module _ {p : Problem} {numbers supports ds : List ℕ} {todo some v : ℕ} (w :
             between : (x : ℕ) → at fs x ≡ at ds x → at es x ≡ at ds x
             between x e =
                 mask-ext 16 (at es x) (at ds x) (t .so-far .sixteen .1 x) (w .pending .given .sixteen .1 x)
-                (λ v b. T-ext (has (at es x) v) (has (at ds x) v) (t .so-far .less x v) (λ q. revised-inside es (constraintAt p k) x v (subst (λ (m : List ℕ). T (has (at m x) v)) (r .sets l) (subst (λ (s : ℕ). T (has s v)) (sym e) q))))
+                (λ v b. T-ext (has (at es x) v) (has (at ds x) v) (t .so-far .less x v) (λ q. revised-inside es (constraintAt p k) x v
+                (subst (λ (m : List ℕ). T (has (at m x) v)) (r .sets l) (subst (λ (s : ℕ). T (has s v)) (sym e) q))))
 
             touched : Touched numbers changed (touchedOf numbers changed)
             touched = touched-of (t .so-far .linked) (t .so-far .held .constraints) changed (changed-lt (t .so-far) on r l)

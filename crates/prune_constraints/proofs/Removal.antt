@@ -1,19 +1,9 @@
 -- One constraint over the first n of sixteen sets, and one constraint's pruning as a removal at any prefix. Assumes nothing.
-use mathlib.Core.Path.{sym}
-use mathlib.Core.List.{List, List·Memᴰ}
-use Prim.Native.Nat.{ℕ, _≤_, _<_}
-use native.Mathlib.Omega.{arith}
-use lib.ListN.{take}
-use Rattle.model.specs.Lists.{at}
-use Rattle.model.specs.Problem.{Problem, Constraint}
-use Rattle.model.proofs.Sets.{has-lt}
-use Rattle.model.specs.Pruning.{Sets, Prunes}
-use Rattle.model.proofs.Firsts.{take-at, take-sets, take-e, take-i, take-inside}
-use Rattle.model.proofs.Prune.{supported-mono}
-use Rattle.model.proofs.Prunes.{removal-prunes}
-use Rattle.model.specs.WellFormed.{WellFormed}
-use Rattle.arrays.specs.Pruning.{Fixed}
-use Rattle.prune_constraints.specs.Revised.{revised}
+use Rattle.model.specs.Kit.{sym, List, List·Memᴰ, ℕ, _≤_, _<_, arith, take}
+use Rattle.model.specs.{Lists.at, Problem.Problem, Problem.Constraint, inner.Pruning.Sets, inner.Pruning.Prunes, WellFormed.WellFormed}
+use Rattle.model.proofs.{Sets.has-lt, Firsts.take-at, Firsts.take-sets, Firsts.take-e, Firsts.take-i, Firsts.take-inside, Prune.supported-mono, Prunes.removal-prunes}
+use Rattle.arrays.specs.inner.Pruning.{Fixed}
+use Rattle.prune_constraints.specs.inner.Revised.{revised}
 use Rattle.prune_constraints.proofs.Rows.{revised-e, revised-i, revised-sets, fixed-kept}
 
 -- ---- a constraint over the first n of the sets takes nothing from them exactly if it takes nothing from all sixteen

@@ -1,23 +1,13 @@
 -- A constraint's rows inside the sets: which values they support, what `revised` leaves, and that it leaves no more to do. Assumes nothing.
-use mathlib.Core.Path.{_≡_, refl, sym, _∙_, subst}
-use mathlib.Core.Bool.{Bool, true, false}
-use mathlib.Core.Logic.{_⊎_, inl, inr}
-use mathlib.Core.List.{List, [], _∷_, List·Memᴰ, List·Memᴰ·head, List·Memᴰ·tail, List·Memᴰ·not-nil}
-use Prim.Native.Nat.{ℕ, _^_, _≤_, _<_}
-use native.Mathlib.Omega.{arith}
-use lib.Dec.{T, eqb, ltb, eqb→eq, eqb-refl}
-use lib.ListN.{length}
-use borrow.Author.Tests.{eqb-true, ltb-true, ltb-false}
-use Rattle.model.specs.Lists.{both, any, at}
-use Rattle.model.specs.ValueSets.{has, maskOf}
-use Rattle.model.specs.Problem.{Constraint}
-use Rattle.model.specs.Search.{rowWith, supported}
+use Rattle.model.specs.Kit.{_≡_, refl, sym, _∙_, subst, Bool, true, false, _⊎_, inl, inr, List, [], _∷_, List·Memᴰ, List·Memᴰ·head, List·Memᴰ·tail, List·Memᴰ·not-nil, ℕ, _^_, _≤_}
+use Rattle.model.specs.Kit.{_<_, arith, T, eqb, ltb, eqb→eq, eqb-refl, length, eqb-true, ltb-true, ltb-false}
+use Rattle.model.specs.{Lists.both, Lists.any, Lists.at, ValueSets.has, ValueSets.maskOf, ValueSets.Inside, Problem.Constraint, Search.rowWith, Search.supported}
+use Rattle.model.specs.inner.Pruning.{Sets}
 use Rattle.model.proofs.Lists.{T-of, of-T, of-not, both-i, both-l, both-r, any-i, any-e, among-i, among-e, Sorted, at-tabulate, length-tabulate, at-out}
 use Rattle.model.proofs.Sets.{has-none, has-lt, member, mask-i, mask-e, mask-lt, mask-ext, inside-antisym, has-at-lt}
-use Rattle.model.specs.Pruning.{Sets, Inside}
+use Rattle.arrays.specs.inner.Pruning.{Fixed}
+use Rattle.prune_constraints.specs.inner.Revised.{revised}
 use Rattle.model.proofs.Prune as Prune
-use Rattle.arrays.specs.Pruning.{Fixed}
-use Rattle.prune_constraints.specs.Revised.{revised}
 
 -- ---- a row inside the sets, and its pairs of a variable and a value
 abbrev pub RowIn : List ℕ → List ℕ → List ℕ → Type 0

@@ -1,17 +1,10 @@
 -- What the arrays of a problem say of one of its constraints: its scope and its table. Assumes nothing.
-use mathlib.Core.Path.{_≡_, refl, sym, ap, _∙_, subst}
-use mathlib.Core.List.{List, [], _∷_, List·Memᴰ, List·Memᴰ·head, List·Memᴰ·tail}
-use Prim.Native.Nat.{ℕ, _+_, _/_, _%_, _<_}
-use native.Mathlib.Omega.{arith}
-use lib.Dec.{T}
-use lib.ListN.{length}
-use Rattle.model.specs.Lists.{at, ascending}
-use Rattle.model.specs.Problem.{Problem}
+use Rattle.model.specs.Kit.{_≡_, refl, sym, ap, _∙_, subst, List, [], _∷_, List·Memᴰ, List·Memᴰ·head, List·Memᴰ·tail, ℕ, _+_, _/_, _%_, _<_, arith, T, length}
+use Rattle.model.specs.{Lists.at, Lists.ascending, Problem.Problem, Problem.constraintAt}
 use Rattle.model.proofs.Lists.{list-1, list-2, list-3}
-use Rattle.arrays.specs.Places.{SCOPES}
-use Rattle.arrays.specs.Layout.{constraintAt}
+use Rattle.arrays.specs.inner.Places.{SCOPES}
 use Rattle.arrays.proofs.Links.{good}
-use Rattle.prune_constraints.specs.Steps.{ConstraintsHeld, Scoped}
+use Rattle.prune_constraints.specs.inner.Steps.{ConstraintsHeld, Scoped}
 
 -- the scope of three variables that a number holds
 abbrev pub scope3 : ℕ → List ℕ
@@ -41,7 +34,8 @@ module _ {p : Problem} {numbers supports : List ℕ} (g : ConstraintsHeld p numb
   pub scoped-3 : word % 256 ≡ 3 → Scoped (constraintAt p k) supports k (scope3 (at numbers (SCOPES + k)))
   scoped-3 e =
       let l = sym (g .numbered .arity k h) ∙ e in
-      scoped _ (list-3 (constraintAt p k .scope) _ _ _ l (sym (g .numbered .scope k 0 h (omega (arith, l)))) (sym (g .numbered .scope k 1 h (omega (arith, l)))) (sym (g .numbered .scope k 2 h (omega (arith, l)))))
+      scoped _ (list-3 (constraintAt p k .scope) _ _ _ l (sym (g .numbered .scope k 0 h (omega (arith, l)))) (sym (g .numbered .scope k 1 h (omega (arith, l))))
+      (sym (g .numbered .scope k 2 h (omega (arith, l)))))
 
   pub scoped-2 : word % 256 ≡ 2 → Scoped (constraintAt p k) supports k (word / 256 % 256 ∷ word / 65536 % 256 ∷ [])
   scoped-2 e =

@@ -1,42 +1,27 @@
 -- One constraint prunes the sets: the stores of the three functions, for scopes of one, two and three variables. Assumes nothing.
-use mathlib.Core.Path.{_≡_, refl, sym, ap, ap₂, _∙_, subst}
-use mathlib.Core.Bool.{Bool, true, false, not}
-use mathlib.Core.Logic.{inl, inr}
-use mathlib.Core.List.{List, [], _∷_, _++_, List·Memᴰ, List·Memᴰ·head, List·Memᴰ·tail, List·Memᴰ·not-nil}
-use Prim.Native.Nat.{ℕ, zero, suc, _+_, _*_, _^_, _<_}
-use native.Mathlib.Nat.{lt-of-le-of-lt}
-use native.Mathlib.Omega.{arith}
-use native.Mathlib.Decide.{ℕ-discrete}
-use lib.Dec.{T, eqb, eqb-refl, lit<}
-use lib.ListN.{length, set, length-set}
-use lib.Bits.{bitAnd, bitOr, and-le-l, or-lt}
-use borrow.Author.Tests.{eq-eqb, ne-eqb}
-use Rattle.model.specs.Lists.{both, either, any, at, same, ascending}
-use Rattle.model.specs.ValueSets.{has, lowestOf, oneIf}
-use Rattle.model.specs.Problem.{Constraint}
-use Rattle.model.specs.Search.{supported}
-use Rattle.model.proofs.Lists.{T-of, of-T, of-not, any-i, any-e, among-i, among-e, same-eq, same-refl, Sorted, ascending-sorted, at-set, at-set-other, set-at}
-use Rattle.model.proofs.Sets.{has-lt, mask-i, mask-e, member, set-sets}
-use Rattle.model.specs.Pruning.{Sets}
-use Rattle.model.proofs.Masks.{has-or, has-oneIf}
-use Rattle.model.proofs.Members.{both-no, both-yes, either-no, rest-begin, has-0, and-i, and-e, lowest-left}
-use Rattle.arrays.specs.Places.{DEAD}
-use Rattle.arrays.specs.Layout.{place}
-use Rattle.prune_constraints.specs.Revised.{revised, Revision}
-use Rattle.prune_constraints.specs.Steps.{OneValue, Together, Joined, Together3, Joined3, Scoped, SetCut}
-use Rattle.prune_constraints.proofs.Bits.{one-small}
-use Rattle.prune_constraints.proofs.Unions.{single, joined3-none}
-use Rattle.prune_constraints.proofs.Rows.{RowIn, PairIn, alive, pair-has, supported-e, supported-i, supported-out, revised-is}
+use Rattle.model.specs.Kit.{_≡_, refl, sym, ap, ap₂, _∙_, subst, Bool, true, false, not, inl, inr, List, [], _∷_, _++_, List·Memᴰ, List·Memᴰ·head, List·Memᴰ·tail}
+use Rattle.model.specs.Kit.{List·Memᴰ·not-nil, ℕ, suc, _+_, _*_, _^_, _<_, lt-of-le-of-lt, arith, ℕ-discrete, T, eqb, eqb-refl, lit<, length, set, length-set, bitAnd, bitOr}
+use Rattle.model.specs.Kit.{and-le-l, or-lt, eq-eqb, ne-eqb}
+use Rattle.model.specs.{Lists.both, Lists.either, Lists.any, Lists.at, Lists.same, Lists.ascending, ValueSets.has, ValueSets.lowestOf, ValueSets.oneIf, Problem.Constraint}
+use Rattle.model.specs.{Search.supported, inner.Pruning.Sets}
+use Rattle.model.proofs.Lists.{T-of, of-T, of-not, any-i, any-e, among-i, among-e, same-eq, same-refl, Sorted, ascending-sorted, at-set, at-set-other, set-at, both-true}
+use Rattle.model.proofs.{Lists.both-false, Lists.at-small-1, Lists.at-small-2, Sets.has-lt, Sets.mask-i, Sets.mask-e, Sets.member, Sets.set-sets, Masks.has-or, Masks.has-oneIf}
+use Rattle.model.proofs.Members.{either-no, rest-begin, has-0, and-i, and-e, lowest-left}
+use Rattle.arrays.specs.{inner.Places.DEAD, inner.Layout.place}
+use Rattle.prune_constraints.specs.{inner.Revised.revised, inner.Revised.Revision, inner.Steps.OneValue, inner.Steps.Together, inner.Steps.Joined, inner.Steps.Together3}
+use Rattle.prune_constraints.specs.inner.Steps.{Joined3, Scoped, SetCut}
+use Rattle.prune_constraints.proofs.{Bits.one-small, Unions.single, Unions.joined3-none, Rows.RowIn, Rows.PairIn, Rows.alive, Rows.pair-has, Rows.supported-e}
+use Rattle.prune_constraints.proofs.Rows.{supported-i, supported-out, revised-is}
 
 -- ---- the sets that changed
 abbrev pub Moves : List ℕ → List ℕ → ℕ → Type 0
 Moves ds es changed = (i : ℕ) → has changed i ≡ not (eqb (at es i) (at ds i))
 
 one-here : (b : Bool) (x : ℕ) → has (oneIf b x) x ≡ b
-one-here b x = has-oneIf b x x ∙ ap (both b) (of-T (eqb x x) (eqb-refl x)) ∙ both-yes b
+one-here b x = has-oneIf b x x ∙ ap (both b) (of-T (eqb x x) (eqb-refl x)) ∙ both-true b
 
 one-there : (b : Bool) (x i : ℕ) → (i ≡ x → ⊥) → has (oneIf b x) i ≡ false
-one-there b x i n = has-oneIf b x i ∙ ap (both b) (ne-eqb i x n) ∙ both-no b
+one-there b x i n = has-oneIf b x i ∙ ap (both b) (ne-eqb i x n) ∙ both-false b
 
 still : (a b : ℕ) → a ≡ b → not (eqb a b) ≡ false
 still a b e = ap not (eq-eqb a b e)
@@ -108,7 +93,14 @@ pub cut-dead : (ds : List ℕ) (x t b : ℕ) → b ≡ t → b ≡ 0 → SetCut 
 cut-dead ds x t b q e = subst (λ (z : ℕ). SetCut ds ds x z DEAD) q record { ended = λ q. e; kept = λ q. refl; full = λ n. absurd (n refl); stored = λ n. absurd (n refl); moved = λ n. absurd (n refl) }
 
 pub cut-live : (ds : List ℕ) (x t b r : ℕ) → b ≡ t → x < 16 → (b ≡ 0 → ⊥) → r ≡ oneIf (not (eqb b (at ds x))) x → SetCut ds (set ds x b) x t r
-cut-live ds x t b r q h n e = subst (λ (z : ℕ). SetCut ds (set ds x b) x z r) q record { ended = λ q. absurd (never q); kept = λ q. absurd (never q); full = λ m. n; stored = λ m. refl; moved = λ m. e }
+cut-live ds x t b r q h n e = subst (λ (z : ℕ). SetCut ds (set ds x b) x z r) q record {
+  ended = λ q. absurd (never q);
+  kept = λ q. absurd
+      (never q);
+  full = λ m. n;
+  stored = λ m. refl;
+  moved = λ m. e;
+}
   where
     never : r ≡ DEAD → ⊥
     never q = let l = one-small (not (eqb b (at ds x))) x h in omega (arith, e, q)
@@ -129,7 +121,14 @@ module _ {c : Constraint} {supports : List ℕ} {k : ℕ} {scope : List ℕ} (p 
 
   -- nothing is stored, since that of y would be empty
   dead : (y : ℕ) → List·Memᴰ y scope → (es : List ℕ) → es ≡ revised ds c → at es y ≡ 0 → Revision c ds ds DEAD
-  dead y m es e z = record { ended = λ q. (y, of-c y m, sym (ap (λ (l : List ℕ). at l y) e) ∙ z); kept = λ q. refl; sets = λ n. absurd (n refl); full = λ n. absurd (n refl); moved = λ n. absurd (n refl) }
+  dead y m es e z = record {
+    ended = λ q. (y, of-c y m, sym (ap (λ (l : List ℕ). at l y) e) ∙ z);
+    kept = λ q. refl;
+    sets = λ n. absurd (n refl);
+    full = λ n. absurd (n refl);
+    moved = λ n. absurd
+        (n refl);
+  }
 
   -- the set of y alone is cut to t
   cut : (y t : ℕ) → List·Memᴰ y scope → (es : List ℕ) (r : ℕ) → SetCut ds es y t r → (t ≡ 0 → at (revised ds c) y ≡ 0) → ((t ≡ 0 → ⊥) → set ds y t ≡ revised ds c) → Revision c ds es r
@@ -142,7 +141,8 @@ module _ {c : Constraint} {supports : List ℕ} {k : ℕ} {scope : List ℕ} (p 
   }
 
 -- ---- the table
-module _ {c : Constraint} {supports : List ℕ} {k : ℕ} {scope : List ℕ} (p : Scoped c supports k scope) (vs : List ℕ) (l : suc (length vs) ≡ length scope) (b : (i : ℕ) → i < length vs → at vs i < 16) (a : ℕ) (e : a ≡ 256 * k + place vs) where
+module _ {c : Constraint} {supports : List ℕ} {k : ℕ} {scope : List ℕ} (p : Scoped c supports k scope) (vs : List ℕ) (l : suc (length vs) ≡ length scope)
+    (b : (i : ℕ) → i < length vs → at vs i < 16) (a : ℕ) (e : a ≡ 256 * k + place vs) where
   table-e : (w : ℕ) → T (has (at supports a) w) → List·Memᴰ (vs ++ (w ∷ [])) (c .rows)
   table-e w t =
       let q = mask-e (λ v. any (same (vs ++ (v ∷ []))) (c .rows)) w (subst (λ (m : ℕ). T (has m w)) (ap (at supports) e ∙ p .table vs l b) t) in
@@ -156,17 +156,6 @@ module _ {c : Constraint} {supports : List ℕ} {k : ℕ} {scope : List ℕ} (p 
 
 below-0 : (i : ℕ) → i < 0 → at [] i < 16
 below-0 i h = absurd (omega arith)
-
-below-1 : (v : ℕ) → v < 16 → (i : ℕ) → i < 1 → at (v ∷ []) i < 16
-unfolding at
-below-1 v h zero l = h
-below-1 v h (suc i) l = absurd (omega arith)
-
-below-2 : (u v : ℕ) → u < 16 → v < 16 → (i : ℕ) → i < 2 → at (u ∷ v ∷ []) i < 16
-unfolding at
-below-2 u v g h zero l = g
-below-2 u v g h (suc zero) l = h
-below-2 u v g h (suc (suc i)) l = absurd (omega arith)
 
 -- ---- a scope of one variable
 module _ {c : Constraint} {supports : List ℕ} {k x : ℕ} (p : Scoped c supports k (x ∷ [])) (ds : List ℕ) (s : Sets 16 ds) where
@@ -214,7 +203,8 @@ module _ {c : Constraint} {supports : List ℕ} {k x : ℕ} (p : Scoped c suppor
       t = bitAnd (at ds x) (at supports (256 * k))
 
 -- ---- a scope of two variables
-module _ {c : Constraint} {supports : List ℕ} {k x y : ℕ} (p : Scoped c supports k (x ∷ y ∷ [])) (ds : List ℕ) (s : Sets 16 ds) (first last : ℕ) (f : first < 2 ^ 16) (g : last < 2 ^ 16) (j : Joined supports (256 * k) (at ds x) (at ds y) first last) where
+module _ {c : Constraint} {supports : List ℕ} {k x y : ℕ} (p : Scoped c supports k (x ∷ y ∷ [])) (ds : List ℕ) (s : Sets 16 ds) (first last : ℕ) (f : first < 2 ^ 16) (g : last < 2 ^ 16)
+    (j : Joined supports (256 * k) (at ds x) (at ds y) first last) where
   abbrev es-2 : List ℕ
   es-2 = set (set ds x first) y last
 
@@ -249,14 +239,14 @@ module _ {c : Constraint} {supports : List ℕ} {k x y : ℕ} (p : Scoped c supp
       out z n = at-set-other (set ds x first) y last z (λ e. n (List·Memᴰ·tail (List·Memᴰ·head e))) ∙ at-set-other ds x first z (λ e. n (List·Memᴰ·head e))
 
       together-e : (v w : ℕ) → Together supports (256 * k) (at ds x) (at ds y) v w → List·Memᴰ (v ∷ w ∷ []) (c .rows) × RowIn ds (x ∷ y ∷ []) (v ∷ w ∷ [])
-      together-e v w q = (table-e p (v ∷ []) refl (below-1 v (has-lt 16 (at ds x) v (s .1 x) (q .0))) (256 * k + v) refl w (q .2), (q .0, (q .1, tt)))
+      together-e v w q = (table-e p (v ∷ []) refl (at-small-1 v (has-lt 16 (at ds x) v (s .1 x) (q .0))) (256 * k + v) refl w (q .2), (q .0, (q .1, tt)))
 
       keeps : (r : List ℕ) → List·Memᴰ r (c .rows) → RowIn ds (x ∷ y ∷ []) r → RowIn es-2 (x ∷ y ∷ []) r
       keeps [] m i = i
       keeps (v ∷ []) m i = absurd (i .1)
       keeps (v ∷ w ∷ []) m i =
           let bv = has-lt 16 (at ds x) v (s .1 x) (i .0) in
-          let q : Together supports (256 * k) (at ds x) (at ds y) v w = (i .0, i .1 .0, table-i p (v ∷ []) refl (below-1 v bv) (256 * k + v) refl w (has-lt 16 (at ds y) w (s .1 y) (i .1 .0)) m) in
+          let q : Together supports (256 * k) (at ds x) (at ds y) v w = (i .0, i .1 .0, table-i p (v ∷ []) refl (at-small-1 v bv) (256 * k + v) refl w (has-lt 16 (at ds y) w (s .1 y) (i .1 .0)) m) in
           (subst (λ (z : ℕ). T (has z v)) (sym at-x-2) (j .first-i v w q), (subst (λ (z : ℕ). T (has z w)) (sym at-y-2) (j .last-i v w q), tt))
       keeps (v ∷ w ∷ u ∷ r) m i = absurd (i .1 .1)
 
@@ -281,7 +271,8 @@ module _ {c : Constraint} {supports : List ℕ} {k x y : ℕ} (p : Scoped c supp
   two-dead e = dead p ds s y my-2 (set (set ds x first) y last) two-sets (at-y-2 ∙ e)
 
 -- ---- a scope of three variables
-module _ {c : Constraint} {supports : List ℕ} {k x y z : ℕ} (p : Scoped c supports k (x ∷ y ∷ z ∷ [])) (ds : List ℕ) (s : Sets 16 ds) (first second last : ℕ) (f : first < 2 ^ 16) (g : second < 2 ^ 16) (h : last < 2 ^ 16)
+module _ {c : Constraint} {supports : List ℕ} {k x y z : ℕ} (p : Scoped c supports k (x ∷ y ∷ z ∷ [])) (ds : List ℕ) (s : Sets 16 ds) (first second last : ℕ) (f : first < 2 ^ 16)
+    (g : second < 2 ^ 16) (h : last < 2 ^ 16)
     (j : Joined3 (Together3 supports (256 * k) (at ds x) (at ds y) (at ds z)) first second last) where
   abbrev fs-3 : List ℕ
   fs-3 = set (set ds x first) y second
@@ -337,8 +328,10 @@ module _ {c : Constraint} {supports : List ℕ} {k x y z : ℕ} (p : Scoped c su
       base u v = omega arith
 
       together-e : (u v w : ℕ) → Together3 supports (256 * k) (at ds x) (at ds y) (at ds z) u v w → List·Memᴰ (u ∷ v ∷ w ∷ []) (c .rows) × RowIn ds (x ∷ y ∷ z ∷ []) (u ∷ v ∷ w ∷ [])
-      together-e u v w q =
-          (table-e p (u ∷ v ∷ []) refl (below-2 u v (has-lt 16 (at ds x) u (s .1 x) (q .0)) (has-lt 16 (at ds y) v (s .1 y) (q .1 .0))) (256 * k + 16 * u + v) (base u v) w (q .1 .2), (q .0, (q .1 .0, (q .1 .1, tt))))
+      together-e u v w q = (
+        table-e p (u ∷ v ∷ []) refl (at-small-2 u v (has-lt 16 (at ds x) u (s .1 x) (q .0)) (has-lt 16 (at ds y) v (s .1 y) (q .1 .0))) (256 * k + 16 * u + v) (base u v) w (q .1 .2),
+        (q .0, (q .1 .0, (q .1 .1, tt))),
+      )
 
       keeps : (r : List ℕ) → List·Memᴰ r (c .rows) → RowIn ds (x ∷ y ∷ z ∷ []) r → RowIn es-3 (x ∷ y ∷ z ∷ []) r
       keeps [] m i = i
@@ -348,8 +341,13 @@ module _ {c : Constraint} {supports : List ℕ} {k x y z : ℕ} (p : Scoped c su
           let bu = has-lt 16 (at ds x) u (s .1 x) (i .0) in
           let bv = has-lt 16 (at ds y) v (s .1 y) (i .1 .0) in
           let q : Together3 supports (256 * k) (at ds x) (at ds y) (at ds z) u v w =
-          (i .0, (i .1 .0, i .1 .1 .0, table-i p (u ∷ v ∷ []) refl (below-2 u v bu bv) (256 * k + 16 * u + v) (base u v) w (has-lt 16 (at ds z) w (s .1 z) (i .1 .1 .0)) m)) in
-          (subst (λ (n : ℕ). T (has n u)) (sym at-x-3) (j .first-i u v w q), (subst (λ (n : ℕ). T (has n v)) (sym at-y-3) (j .second-i u v w q), (subst (λ (n : ℕ). T (has n w)) (sym at-z-3) (j .last-i u v w q), tt)))
+          (i .0, (i .1 .0, i .1 .1 .0, table-i p (u ∷ v ∷ []) refl (at-small-2 u v bu bv) (256 * k + 16 * u + v) (base u v) w (has-lt 16 (at ds z) w (s .1 z) (i .1 .1 .0)) m)) in (
+            subst (λ (n : ℕ). T (has n u)) (sym at-x-3) (j .first-i u v w q),
+            (
+              subst (λ (n : ℕ). T (has n v)) (sym at-y-3) (j .second-i u v w q),
+              (subst (λ (n : ℕ). T (has n w)) (sym at-z-3) (j .last-i u v w q), tt),
+            ),
+          )
       keeps (u ∷ v ∷ w ∷ o ∷ r) m i = absurd (i .1 .1 .1)
 
       comes : (i v : ℕ) → List·Memᴰ i (x ∷ y ∷ z ∷ []) → T (has (at es-3 i) v) → Comes p ds s i v (x ∷ y ∷ z ∷ [])
@@ -392,7 +390,8 @@ module _ {c : Constraint} {supports : List ℕ} {k x y z : ℕ} (p : Scoped c su
   three-dead e = dead p ds s z mz-3 (set (set (set ds x first) y second) z last) three-sets (at-z-3 ∙ e)
 
 -- the first set stays as it is
-module _ {c : Constraint} {supports : List ℕ} {k x y z : ℕ} (p : Scoped c supports k (x ∷ y ∷ z ∷ [])) (ds : List ℕ) (s : Sets 16 ds) (second last : ℕ) (g : second < 2 ^ 16) (h : last < 2 ^ 16) (j : Joined3 (Together3 supports (256 * k) (at ds x) (at ds y) (at ds z)) (at ds x) second last) where
+module _ {c : Constraint} {supports : List ℕ} {k x y z : ℕ} (p : Scoped c supports k (x ∷ y ∷ z ∷ [])) (ds : List ℕ) (s : Sets 16 ds) (second last : ℕ) (g : second < 2 ^ 16) (h : last < 2 ^ 16)
+    (j : Joined3 (Together3 supports (256 * k) (at ds x) (at ds y) (at ds z)) (at ds x) second last) where
   pub three-rest : (n i : ℕ) → n ≡ oneIf (not (eqb second (at ds y))) y → i ≡ oneIf (not (eqb last (at ds z))) z → (last ≡ 0 → ⊥) → Revision c ds (set (set ds y second) z last) (bitOr n i)
   three-rest n i o a e =
       subst (λ (l : List ℕ). Revision c ds (set (set l y second) z last) (bitOr n i)) (set-at ds x)
@@ -458,7 +457,8 @@ module _ {c : Constraint} {supports : List ℕ} {k x y z : ℕ} (p : Scoped c su
   three-last i f es r a =
       cut p ds s z t mz es r (subst (λ (n : ℕ). SetCut ds es z (bitAnd (at ds z) (at supports n)) r) f a)
       (λ e. sym (ap (λ (l : List ℕ). at l z) (three-sets p ds s 0 0 0 (lit< tt) (lit< tt) (lit< tt) (none e))) ∙ at-z-3 p ds s 0 0 0 (lit< tt) (lit< tt) (lit< tt) (none e))
-      (λ n. ap (λ (l : List ℕ). set l z t) (sym same) ∙ three-sets p ds s (at ds x) (at ds y) t (s .1 x) (s .1 y) (lt-of-le-of-lt (and-le-l (at ds z) (at supports (256 * k + 16 * u + v))) (s .1 z)) (some n))
+      (λ n. ap (λ (l : List ℕ). set l z t) (sym same) ∙ three-sets p ds s (at ds x) (at ds y) t (s .1 x) (s .1 y)
+      (lt-of-le-of-lt (and-le-l (at ds z) (at supports (256 * k + 16 * u + v))) (s .1 z)) (some n))
     where
       mz : List·Memᴰ z (x ∷ y ∷ z ∷ [])
       mz = List·Memᴰ·tail (List·Memᴰ·tail (List·Memᴰ·head refl))

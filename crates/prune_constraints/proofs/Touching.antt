@@ -1,22 +1,10 @@
 -- The constraints, but those pruned by variable, that have one of some variables in their scope, as a number. Assumes nothing.
-use mathlib.Core.Path.{_≡_, sym, subst}
-use mathlib.Core.Bool.{Bool}
-use mathlib.Core.Logic.{inl, inr, ⊎-elim}
-use mathlib.Core.List.{List}
-use Prim.Native.Nat.{ℕ, _+_, _^_, _≤_, _<_}
-use native.Mathlib.Omega.{arith}
-use lib.Bits.{bitOr, or-lt}
-use lib.Dec.{T}
-use lib.ListN.{length}
-use Rattle.model.specs.Lists.{any, at, both, below}
-use Rattle.model.specs.ValueSets.{has, maskBelow}
-use Rattle.model.specs.Problem.{Problem}
-use Rattle.model.proofs.Lists.{T-ext, both-i, both-l, both-r, any-i, any-e, below-i}
-use Rattle.model.proofs.Sets.{has-lt, has-mask, mask-lt, mask-ext}
+use Rattle.model.specs.Kit.{_≡_, sym, subst, Bool, inl, inr, ⊎-elim, List, ℕ, _+_, _^_, _≤_, _<_, arith, bitOr, or-lt, T, length}
+use Rattle.model.specs.{Lists.any, Lists.at, Lists.both, Lists.below, ValueSets.has, ValueSets.maskBelow, Problem.Problem}
+use Rattle.model.proofs.{Lists.T-ext, Lists.both-i, Lists.both-l, Lists.both-r, Lists.any-i, Lists.any-e, Lists.below-i, Sets.has-lt, Sets.has-mask, Sets.mask-lt, Sets.mask-ext}
 use Rattle.model.proofs.Members.{or-i, or-e}
-use Rattle.arrays.specs.Places.{OTHERS}
-use Rattle.arrays.specs.Tables.{Linked}
-use Rattle.prune_constraints.specs.Steps.{Touched}
+use Rattle.arrays.specs.{inner.Places.OTHERS, inner.Tables.Linked}
+use Rattle.prune_constraints.specs.inner.Steps.{Touched}
 
 unfoldable pub touchedOf : List ℕ → ℕ → ℕ
 touchedOf numbers changed = maskBelow 64 (λ k. any (λ x. both (has changed x) (has (at numbers (OTHERS + x)) k)) (below 16))
@@ -32,7 +20,8 @@ module _ {p : Problem} {numbers : List ℕ} (n : Linked p numbers) (h : length (
   pub touched-of : (changed : ℕ) → ((x : ℕ) → T (has changed x) → x < 16) → Touched numbers changed (touchedOf numbers changed)
   unfolding touchedOf
   touched-of changed few = record {
-    touched-i = λ x k t q. subst T (sym (has-mask 64 one k (others-lt x k (few x t) q))) (any-i (hit k) (below 16) x (below-i 16 x (few x t)) (both-i (has changed x) (has (at numbers (OTHERS + x)) k) t q));
+    touched-i = λ x k t q. subst T (sym (has-mask 64 one k (others-lt x k (few x t) q))) (any-i (hit k) (below 16) x (below-i 16 x (few x t))
+        (both-i (has changed x) (has (at numbers (OTHERS + x)) k) t q));
     touched-e = λ k t.
         let r = any-e (hit k) (below 16) (subst T (has-mask 64 one k (has-lt 64 (maskBelow 64 one) k (mask-lt 64 one) t)) t) in
         (r .0, both-l (has changed (r .0)) (has (at numbers (OTHERS + r .0)) k) (r .2), both-r (has changed (r .0)) (has (at numbers (OTHERS + r .0)) k) (r .2));
@@ -47,7 +36,8 @@ module _ {p : Problem} {numbers : List ℕ} (n : Linked p numbers) (h : length (
   -- those of two sets of variables, with others besides
   pub touched-parts : (a b t w : ℕ) → ((x : ℕ) → T (has a x) → x < 16) → ((x : ℕ) → T (has b x) → x < 16) → w < 2 ^ 64 → t < 2 ^ 64 → Touched numbers (bitOr a b) t →
       bitOr w t ≡ bitOr (bitOr w (touchedOf numbers a)) (touchedOf numbers b)
-  touched-parts a b t w fa fb hw ht u = mask-ext 64 (bitOr w t) (bitOr (bitOr w ta) tb) (or-lt 64 w t hw ht) (or-lt 64 (bitOr w ta) tb (or-lt 64 w ta hw (touched-lt numbers a)) (touched-lt numbers b)) (λ k l. T-ext (has (bitOr w t) k) (has (bitOr (bitOr w ta) tb) k) (to k) (back k))
+  touched-parts a b t w fa fb hw ht u = mask-ext 64 (bitOr w t) (bitOr (bitOr w ta) tb) (or-lt 64 w t hw ht)
+      (or-lt 64 (bitOr w ta) tb (or-lt 64 w ta hw (touched-lt numbers a)) (touched-lt numbers b)) (λ k l. T-ext (has (bitOr w t) k) (has (bitOr (bitOr w ta) tb) k) (to k) (back k))
     where
       ta : ℕ
       ta = touchedOf numbers a
@@ -59,7 +49,8 @@ module _ {p : Problem} {numbers : List ℕ} (n : Linked p numbers) (h : length (
       to k q =
           or-i (bitOr w ta) tb k
           (⊎-elim (λ i. inl (or-i w ta k (inl i)))
-          (λ i. let x = u .touched-e k i in ⊎-elim (λ j. inl (or-i w ta k (inr (touched-of a fa .touched-i (x .0) k j (x .2))))) (λ j. inr (touched-of b fb .touched-i (x .0) k j (x .2))) (or-e a b (x .0) (x .1))) (or-e w t k q))
+          (λ i. let x = u .touched-e k i in ⊎-elim (λ j. inl (or-i w ta k (inr (touched-of a fa .touched-i (x .0) k j (x .2))))) (λ j. inr (touched-of b fb .touched-i (x .0) k j (x .2)))
+          (or-e a b (x .0) (x .1))) (or-e w t k q))
 
       back : (k : ℕ) → T (has (bitOr (bitOr w ta) tb) k) → T (has (bitOr w t) k)
       back k q =

@@ -1,30 +1,21 @@
 -- The loops that run through the members of a set and unite what each of them gives. Assumes nothing.
-use mathlib.Core.Path.{_≡_, refl, sym, ap, _∙_, subst}
-use mathlib.Core.Bool.{Bool, true, not}
-use mathlib.Core.Logic.{_⊎_, inl, inr, ⊎-elim}
-use mathlib.Core.List.{List}
-use Prim.Native.Nat.{ℕ, _+_, _*_, _/_, _%_, _^_, _<_}
-use native.Mathlib.Nat.{lt-of-le-of-lt}
-use native.Mathlib.Omega.{arith}
-use lib.Dec.{T, eqb}
-use lib.Bits.{bitAnd, bitOr, and-le-r}
-use lib.Count.{trailingZeros}
-use borrow.Author.Tests.{eqb-true, eq-eqb, ne-eqb}
-use Rattle.model.specs.Lists.{at}
-use Rattle.model.specs.ValueSets.{has, maskOf, withoutMask, unionMask, lowestOf, oneIf}
-use Rattle.model.proofs.Lists.{T-of, both-i, both-l, both-r}
-use Rattle.model.proofs.Sets.{has-lt, mask-lt, member}
-use Rattle.model.proofs.Members.{low-has, rest-i, without-lowest-op, Rest, rest-begin, has-0, Union, union-begin, union-end, lowest-left, others-left, others-union, and-i, and-e}
-use Rattle.arrays.specs.Places.{OTHERS}
-use Rattle.prune_constraints.specs.Steps.{OneValue, Together, Joined, Together3, Joined3, Touched}
-use Rattle.prune_constraints.specs.Lanes.{FullLanes, LaneUnion, InLanes}
-use Rattle.prune_constraints.proofs.Bits.{one-small}
+use Rattle.model.specs.Kit.{_≡_, refl, sym, ap, _∙_, subst, Bool, true, not, _⊎_, inl, inr, ⊎-elim, List, ℕ, _+_, _*_, _/_, _%_, _^_, _<_, lt-of-le-of-lt, arith, T, eqb, bitAnd}
+use Rattle.model.specs.Kit.{bitOr, trailingZeros, eqb-true, eq-eqb, ne-eqb}
+use lib.Bits.{and-le-r}
+use Rattle.model.specs.{Lists.at, ValueSets.has, ValueSets.maskOf, ValueSets.withoutMask, ValueSets.unionMask, ValueSets.lowestOf, ValueSets.oneIf}
+use Rattle.model.proofs.{Lists.T-of, Lists.both-i, Lists.both-l, Lists.both-r, Sets.has-lt, Sets.mask-lt, Sets.member, Members.low-has, Members.rest-i, Members.without-lowest-op}
+use Rattle.model.proofs.Members.{Rest, rest-begin, has-0, Union, union-begin, union-end, lowest-left, others-left, others-union, and-i, and-e}
 use Rattle.model.proofs.Masks.{has-oneIf, lowest-op, union-op}
+use Rattle.arrays.specs.inner.Places.{OTHERS}
+use Rattle.prune_constraints.specs.inner.Steps.{OneValue, Together, Joined, Together3, Joined3, Touched}
+use Rattle.prune_constraints.specs.inner.Lanes.{FullLanes, LaneUnion, InLanes}
+use Rattle.prune_constraints.proofs.Bits.{one-small}
 
 -- the member itself where some set is not empty
 pub one-i : (s u : ℕ) → (v : ℕ) → T (has s v) → T (has (oneIf (not (eqb s 0)) u) u)
 one-i s u v t =
-    subst T (sym (has-oneIf (not (eqb s 0)) u u)) (both-i (not (eqb s 0)) (eqb u u) (T-of (not (eqb s 0)) (ap not (ne-eqb s 0 (λ e. has-0 v (subst (λ (n : ℕ). T (has n v)) e t))))) (lib.Dec.eqb-refl u))
+    subst T (sym (has-oneIf (not (eqb s 0)) u u)) (both-i (not (eqb s 0)) (eqb u u) (T-of (not (eqb s 0)) (ap not (ne-eqb s 0 (λ e. has-0 v (subst (λ (n : ℕ). T (has n v)) e t)))))
+    (lib.Dec.eqb-refl u))
 
 pub one-e : (k s u w : ℕ) → s < 2 ^ k → T (has (oneIf (not (eqb s 0)) u) w) → (w ≡ u) × ((v : ℕ) × T (has s v))
 one-e k s u w h t =
@@ -75,8 +66,10 @@ module _ (t : List ℕ) (base a b : ℕ) where
     narrow = small _ first′ f;
     firsts =
         others-union a m v (j .rest) n low m′ less Meets first s first′ (j .firsts) (f ∙ sym (union-op first s (j .narrow) (one-lt s (not (eqb x 0)) v e (lowest-left a m v (j .rest) n low .1))))
-        (λ u q. subst (λ (z : ℕ). T (has z u)) (sym e) (subst (λ (z : ℕ). T (has (oneIf (not (eqb x 0)) v) z)) (sym (q .0)) (one-i x v (q .1 .0) (and-i (at t (base + v)) b (q .1 .0) (q .1 .2) (q .1 .1)))))
-        (λ u q. let r = one-e k x v u (lt-of-le-of-lt (and-le-r (at t (base + v)) b) h) (subst (λ (z : ℕ). T (has z u)) e q) in let d = and-e (at t (base + v)) b (r .1 .0) (r .1 .1) in (r .0, (r .1 .0, d .1, d .0)));
+        (λ u q. subst (λ (z : ℕ). T (has z u)) (sym e) (subst (λ (z : ℕ). T (has (oneIf (not (eqb x 0)) v) z)) (sym (q .0))
+        (one-i x v (q .1 .0) (and-i (at t (base + v)) b (q .1 .0) (q .1 .2) (q .1 .1)))))
+        (λ u q. let r = one-e k x v u (lt-of-le-of-lt (and-le-r (at t (base + v)) b) h) (subst (λ (z : ℕ). T (has z u)) e q) in let d = and-e (at t (base + v)) b (r .1 .0) (r .1 .1) in
+        (r .0, (r .1 .0, d .1, d .0)));
     lasts =
         others-union a m v (j .rest) n low m′ less Gives last x last′ (j .lasts) l
         (λ w q. and-i (at t (base + v)) b w (q .1) (q .0))
@@ -89,7 +82,15 @@ module _ (t : List ℕ) (base a b : ℕ) where
   pub joining-end : (m first last : ℕ) → m ≡ 0 → Joining m first last → Joined t base a b first last
   joining-end m first last e j = record {
     first-i = λ v w q. union-end Meets a m first e (j .firsts) v v (q .0) (refl, (w, q .1, q .2));
-    first-e = λ v q. let r = j .firsts .got v q in (r .2 .1 .0, (subst (λ (z : ℕ). T (has a z)) (sym (r .2 .0)) (r .1), r .2 .1 .1, subst (λ (z : ℕ). T (has (at t (base + z)) (r .2 .1 .0))) (sym (r .2 .0)) (r .2 .1 .2)));
+    first-e = λ v q. let r = j .firsts .got v q in (
+      r .2 .1 .0,
+      (
+        subst (λ (z : ℕ). T (has a z)) (sym (r .2 .0)) (r .1),
+        r .2 .1 .1,
+        subst (λ (z : ℕ). T (has (at t (base + z)) (r .2 .1 .0)))
+            (sym (r .2 .0)) (r .2 .1 .2),
+      ),
+    );
     last-i = λ v w q. union-end Gives a m last e (j .lasts) v w (q .0) (q .1, q .2);
     last-e = λ w q. let r = j .lasts .got w q in (r .0, (r .1, r .2 .0, r .2 .1));
   }
@@ -122,7 +123,8 @@ module _ (t : List ℕ) (base a b : ℕ) where
       x = bitAnd (at t (base + v)) b
 
       passed-i : (u : ℕ) → T (has m u) → T (has m′ u) ⊎ (u ≡ v)
-      passed-i u r = ⊎-elim (λ o. inl (subst (λ (i : ℕ). T (has i u)) (without-lowest-op m (j .rest .0) ∙ sym less) o)) (λ o. inr (o ∙ lowest-op 16 m ∙ sym low)) (rest-i 16 m (omega arith) (j .rest .0) u r)
+      passed-i u r = ⊎-elim (λ o. inl (subst (λ (i : ℕ). T (has i u)) (without-lowest-op m (j .rest .0) ∙ sym less) o)) (λ o. inr (o ∙ lowest-op 16 m ∙ sym low))
+          (rest-i 16 m (omega arith) (j .rest .0) u r)
 
   pub passing-end : (m all : ℕ) → m ≡ 0 → Passing m all → Joined t base a b a all
   passing-end m all e j = record {
@@ -154,7 +156,8 @@ module _ (t : List ℕ) (base a b e : ℕ) where
   joining3-begin h = record { rest = rest-begin 16 a h; narrow = (omega arith, omega arith, omega arith); firsts = union-begin Firsts a; seconds = union-begin Seconds a; lasts = union-begin Lasts a }
 
   pub joining3-turn : (m u m′ : ℕ) {first s first′ second x second′ last y last′ : ℕ} → Joining3 m first second last → (m ≡ 0 → ⊥) → u ≡ lowestOf m → m′ ≡ withoutMask m (lowestOf m) →
-      x < 2 ^ 16 → y < 2 ^ 16 → Joined t (base + 16 * u) b e x y → s ≡ oneIf (not (eqb x 0)) u → first′ ≡ unionMask first s → second′ ≡ unionMask second x → last′ ≡ unionMask last y → Joining3 m′ first′ second′ last′
+      x < 2 ^ 16 → y < 2 ^ 16 → Joined t (base + 16 * u) b e x y → s ≡ oneIf (not (eqb x 0)) u → first′ ≡ unionMask first s → second′ ≡ unionMask second x → last′ ≡ unionMask last y
+      → Joining3 m′ first′ second′ last′
   joining3-turn m u m′ {first} {s} {first′} {second} {x} {second′} {last} {y} {last′} j n low less h i r q f g l = record {
     rest = others-left a m u (j .rest) n low m′ less;
     narrow = (small _ first′ f, small _ second′ g, small _ last′ l);
@@ -162,15 +165,25 @@ module _ (t : List ℕ) (base a b e : ℕ) where
         others-union a m u (j .rest) n low m′ less Firsts first s first′ (j .firsts) (f ∙ sym (union-op first s (j .narrow .0) (one-lt s (not (eqb x 0)) u q (lowest-left a m u (j .rest) n low .1))))
         (λ z i. subst (λ (c : ℕ). T (has c z)) (sym q) (subst (λ (c : ℕ). T (has (oneIf (not (eqb x 0)) u) c)) (sym (i .0)) (one-i x u (i .1 .0) (r .first-i (i .1 .0) (i .1 .1 .0) (i .1 .1 .1)))))
         (λ z i. let k = one-e 16 x u z h (subst (λ (c : ℕ). T (has c z)) q i) in (k .0, (k .1 .0, r .first-e (k .1 .0) (k .1 .1))));
-    seconds = others-union a m u (j .rest) n low m′ less Seconds second x second′ (j .seconds) (g ∙ sym (union-op second x (j .narrow .1) h)) (λ v i. r .first-i v (i .0) (i .1)) (λ v i. r .first-e v i);
+    seconds = others-union a m u (j .rest) n low m′ less Seconds second x second′ (j .seconds) (g ∙ sym (union-op second x (j .narrow .1) h)) (λ v i. r .first-i v (i .0) (i .1))
+        (λ v i. r .first-e v i);
     lasts = others-union a m u (j .rest) n low m′ less Lasts last y last′ (j .lasts) (l ∙ sym (union-op last y (j .narrow .2) i)) (λ w i. r .last-i (i .0) w (i .1)) (λ w i. r .last-e w i);
   }
 
   pub joining3-end : (m first second last : ℕ) → m ≡ 0 → Joining3 m first second last → Joined3 (Together3 t base a b e) first second last
   joining3-end m first second last z j = record {
     first-i = λ u v w q. union-end Firsts a m first z (j .firsts) u u (q .0) (refl, (v, (w, q .1)));
-    first-e = λ u q. let r = j .firsts .got u q in
-        (r .2 .1 .0, (r .2 .1 .1 .0, (subst (λ (y : ℕ). T (has a y)) (sym (r .2 .0)) (r .1), subst (λ (y : ℕ). Together t (base + 16 * y) b e (r .2 .1 .0) (r .2 .1 .1 .0)) (sym (r .2 .0)) (r .2 .1 .1 .1))));
+    first-e = λ u q. let r = j .firsts .got u q in (
+      r .2 .1 .0,
+      (
+        r .2 .1 .1 .0,
+        (
+          subst (λ (y : ℕ). T (has a y)) (sym (r .2 .0)) (r .1),
+          subst (λ (y : ℕ). Together t (base + 16 * y) b e (r .2 .1 .0) (r .2 .1 .1 .0)) (sym (r .2 .0))
+              (r .2 .1 .1 .1),
+        ),
+      ),
+    );
     second-i = λ u v w q. union-end Seconds a m second z (j .seconds) u v (q .0) (w, q .1);
     second-e = λ v q. let r = j .seconds .got v q in (r .0, (r .2 .0, (r .1, r .2 .1)));
     last-i = λ u v w q. union-end Lasts a m last z (j .lasts) u w (q .0) (v, q .1);
@@ -178,7 +191,8 @@ module _ (t : List ℕ) (base a b e : ℕ) where
   }
 
   -- where a has one value u, what goes together by the sixteen sets for u
-  pub joined3-one : (u : ℕ) {second last : ℕ} → a < 2 ^ 16 → OneValue a → u ≡ lowestOf a → second < 2 ^ 16 → (second ≡ 0 → ⊥) → Joined t (base + 16 * u) b e second last → Joined3 (Together3 t base a b e) a second last
+  pub joined3-one : (u : ℕ) {second last : ℕ} → a < 2 ^ 16 → OneValue a → u ≡ lowestOf a → second < 2 ^ 16 → (second ≡ 0 → ⊥) → Joined t (base + 16 * u) b e second last → Joined3
+      (Together3 t base a b e) a second last
   joined3-one u {second} h o low l n j = record {
     first-i = λ i v w q. q .0;
     first-e = λ i q. let m = member second l n in let r = j .first-e (m .0) (m .2) in (m .0, (r .0, (q, subst (λ (c : ℕ). Together t (base + 16 * c) b e (m .0) (r .0)) (sym (is-u i q)) (r .1))));

@@ -1,4 +1,1 @@
-pub mod Lanes
-pub mod LookUps
-pub mod Revised
-pub mod Steps
+pub mod inner

@@ -18,14 +18,15 @@ ghost use lib.ListN.{length};
 ghost use Rattle.model.specs.Lists.{at};
 ghost use Rattle.model.specs.ValueSets.{oneIf};
 ghost use Rattle.model.specs.Problem.{Problem, Constraint};
-ghost use Rattle.model.specs.Pruning.{Sets};
-ghost use Rattle.arrays.specs.Places.{SCOPES, VALUES, NUMBERS, SUPPORTS};
-ghost use Rattle.arrays.specs.Layout.{constraintAt};
-ghost use Rattle.arrays.specs.Tables.{Words};
-ghost use Rattle.prune_constraints.specs.Revised.{Revision, ConstraintsPending, Constrained};
-ghost use Rattle.prune_constraints.specs.Steps.{OneValue, Joined, Together3, Joined3, Scoped, Nonempty, Narrow, ConstraintsHeld, SetCut, Touched, Waiting, Round};
-ghost use Rattle.prune_constraints.specs.LookUps.{LookUp, LookUpsPending, LookedUp};
-ghost use Rattle.prune_constraints.specs.Lanes.{FullLanes, LaneUnion, FullHeads, Halves, InLanes};
+ghost use Rattle.model.specs.inner.Pruning.{Sets};
+ghost use Rattle.arrays.specs.inner.Places.{SCOPES, VALUES, NUMBERS, SUPPORTS};
+ghost use Rattle.model.specs.Problem.{constraintAt};
+ghost use Rattle.arrays.specs.inner.Tables.{Words};
+ghost use Rattle.prune_constraints.specs.inner.Revised.{Revision, ConstraintsPending, Constrained};
+ghost use Rattle.prune_constraints.specs.inner.Steps.{OneValue, Joined, Together3, Joined3, Scoped, Nonempty, Narrow, ConstraintsHeld, SetCut, Touched};
+ghost use Rattle.prune_constraints.specs.inner.Steps.{Waiting, Round};
+ghost use Rattle.prune_constraints.specs.inner.LookUps.{LookUp, LookUpsPending, LookedUp};
+ghost use Rattle.prune_constraints.specs.inner.Lanes.{FullLanes, LaneUnion, FullHeads, Halves, InLanes};
 
 // Bits of a number of eight lanes: the first of each lane, the first two of each second, the first four of each fourth.
 const ONES: u64 = 72340172838076673;
@@ -226,10 +227,12 @@ fn revise_two(sets: &mut [u16; 16], supports: &Supports, k: usize, x: usize, y: 
 // Prunes by constraint number k, whose first set has one value: both ways along the lanes by the second variable.
 fn along(sets: &mut [u16; 16], numbers: &Numbers, k: usize, x: usize, y: usize, z: usize) -> u64
     requires { ⌜ Sets 16 (now sets) ⌝ }
-    requires { ⌜ ((supports : List ℕ) × Words (now numbers) supports × (at (now numbers) (SCOPES + k) % 256 ≡ 3) × (c : Constraint) × Scoped c supports k (x ∷ y ∷ z ∷ [])) ⌝ }
+    requires { ⌜ ((supports : List ℕ) × Words (now numbers) supports × (at (now numbers) (SCOPES + k) % 256 ≡ 3) × (c : Constraint) × Scoped c supports k
+        (x ∷ y ∷ z ∷ [])) ⌝ }
     requires { ⌜ OneValue (at (now sets) x) ⌝ }
     requires { ⌜ (at (now sets) x < 256) × (at (now sets) y < 256) × (at (now sets) z < 256) ⌝ }
-    ensures { λ r. ⌜ ((c : Constraint) (supports : List ℕ) → Words (now (numbers .entry)) supports → Scoped c supports k (x ∷ y ∷ z ∷ []) → Revision c (now (sets .entry)) (now (sets .exit)) r) ⌝ }
+    ensures { λ r. ⌜ ((c : Constraint) (supports : List ℕ) → Words (now (numbers .entry)) supports → Scoped c supports k (x ∷ y ∷ z ∷ []) → Revision c
+        (now (sets .entry)) (now (sets .exit)) r) ⌝ }
 {
     let a = ValueSet { bits: sets[x] };
     let b = ValueSet { bits: sets[y] };
@@ -273,7 +276,9 @@ fn revise_last(
 fn leave(sets: &mut [u16; 16], x: usize, y: usize, z: usize, t: Three) -> u64
     requires { ⌜ Sets 16 (now sets) ⌝ }
     requires { ⌜ (x < 16) × (y < 16) × (z < 16) ⌝ }
-    ensures { λ r. ⌜ ((c : Constraint) (supports : List ℕ) (k : ℕ) → Scoped c supports k (x ∷ y ∷ z ∷ []) → Joined3 (Together3 supports (256 * k) (at (now (sets .entry)) x) (at (now (sets .entry)) y) (at (now (sets .entry)) z)) (t .first .bits) (t .second .bits) (t .last .bits) → Revision c (now (sets .entry)) (now (sets .exit)) r) ⌝ }
+    ensures { λ r. ⌜ ((c : Constraint) (supports : List ℕ) (k : ℕ) → Scoped c supports k (x ∷ y ∷ z ∷ []) → Joined3
+        (Together3 supports (256 * k) (at (now (sets .entry)) x) (at (now (sets .entry)) y) (at (now (sets .entry)) z)) (t .first .bits) (t .second .bits)
+        (t .last .bits) → Revision c (now (sets .entry)) (now (sets .exit)) r) ⌝ }
 {
     let a = ValueSet { bits: sets[x] };
     let b = ValueSet { bits: sets[y] };
@@ -296,10 +301,12 @@ fn leave(sets: &mut [u16; 16], x: usize, y: usize, z: usize, t: Three) -> u64
 // Prunes by constraint number k: the first set along the lanes by its variable, the others along those by the second.
 fn across(sets: &mut [u16; 16], numbers: &Numbers, k: usize, x: usize, y: usize, z: usize) -> u64
     requires { ⌜ Sets 16 (now sets) ⌝ }
-    requires { ⌜ ((supports : List ℕ) × Words (now numbers) supports × (at (now numbers) (SCOPES + k) % 256 ≡ 3) × (c : Constraint) × Scoped c supports k (x ∷ y ∷ z ∷ [])) ⌝ }
+    requires { ⌜ ((supports : List ℕ) × Words (now numbers) supports × (at (now numbers) (SCOPES + k) % 256 ≡ 3) × (c : Constraint) × Scoped c supports k
+        (x ∷ y ∷ z ∷ [])) ⌝ }
     requires { ⌜ (at (now sets) z ≡ 0 → ⊥) ⌝ }
     requires { ⌜ (at (now sets) x < 256) × (at (now sets) y < 256) × (at (now sets) z < 256) ⌝ }
-    ensures { λ r. ⌜ ((c : Constraint) (supports : List ℕ) → Words (now (numbers .entry)) supports → Scoped c supports k (x ∷ y ∷ z ∷ []) → Revision c (now (sets .entry)) (now (sets .exit)) r) ⌝ }
+    ensures { λ r. ⌜ ((c : Constraint) (supports : List ℕ) → Words (now (numbers .entry)) supports → Scoped c supports k (x ∷ y ∷ z ∷ []) → Revision c
+        (now (sets .entry)) (now (sets .exit)) r) ⌝ }
 {
     let a = ValueSet { bits: sets[x] };
     let b = ValueSet { bits: sets[y] };
@@ -327,7 +334,8 @@ fn revise_few(sets: &mut [u16; 16], numbers: &Numbers, supports: &Supports, k: u
     requires { ⌜ Sets 16 (now sets) ⌝ }
     requires { ⌜ (at (now numbers) (SCOPES + k) % 256 ≡ 3 → ⊥) ⌝ }
     requires { ⌜ ((p : Problem) × ConstraintsHeld p (now numbers) (now supports) × (k < length (p .constraints))) ⌝ }
-    ensures { λ r. ⌜ ((p : Problem) → ConstraintsHeld p (now (numbers .entry)) (now (supports .entry)) → k < length (p .constraints) → Revision (constraintAt p k) (now (sets .entry)) (now (sets .exit)) r) ⌝ }
+    ensures { λ r. ⌜ ((p : Problem) → ConstraintsHeld p (now (numbers .entry)) (now (supports .entry)) → k < length (p .constraints) → Revision
+        (constraintAt p k) (now (sets .entry)) (now (sets .exit)) r) ⌝ }
 {
     let w = numbers[SCOPES + k];
     let x = (w / 256 % 256) as usize;
@@ -341,8 +349,10 @@ fn revise_few(sets: &mut [u16; 16], numbers: &Numbers, supports: &Supports, k: u
 // Prunes by constraint number k: DEAD where a set would be empty, else the set of the variables whose sets changed.
 fn revise16(sets: &mut [u16; 16], numbers: &Numbers, supports: &Supports, k: usize) -> u64
     requires { ⌜ Sets 16 (now sets) ⌝ }
-    requires { ⌜ ((p : Problem) × ConstraintsHeld p (now numbers) (now supports) × (k < length (p .constraints)) × Nonempty (constraintAt p k .scope) (now sets)) ⌝ }
-    ensures { λ r. ⌜ ((p : Problem) → ConstraintsHeld p (now (numbers .entry)) (now (supports .entry)) → k < length (p .constraints) → Revision (constraintAt p k) (now (sets .entry)) (now (sets .exit)) r) ⌝ }
+    requires { ⌜ ((p : Problem) × ConstraintsHeld p (now numbers) (now supports) × (k < length (p .constraints)) × Nonempty (constraintAt p k .scope)
+        (now sets)) ⌝ }
+    ensures { λ r. ⌜ ((p : Problem) → ConstraintsHeld p (now (numbers .entry)) (now (supports .entry)) → k < length (p .constraints) → Revision
+        (constraintAt p k) (now (sets .entry)) (now (sets .exit)) r) ⌝ }
 {
     let w = numbers[SCOPES + k];
     if w % 256 != 3 {
@@ -369,8 +379,10 @@ fn revise16(sets: &mut [u16; 16], numbers: &Numbers, supports: &Supports, k: usi
 // The same for sets of values below 8, by numbers of lanes: one where the first set has one value, else two; and no store where nothing is lost.
 fn revise8(sets: &mut [u16; 16], numbers: &Numbers, supports: &Supports, k: usize) -> u64
     requires { ⌜ Sets 16 (now sets) ⌝ }
-    requires { ⌜ ((p : Problem) × ConstraintsHeld p (now numbers) (now supports) × (k < length (p .constraints)) × Nonempty (constraintAt p k .scope) (now sets) × Narrow (constraintAt p k .scope) (now sets)) ⌝ }
-    ensures { λ r. ⌜ ((p : Problem) → ConstraintsHeld p (now (numbers .entry)) (now (supports .entry)) → k < length (p .constraints) → Revision (constraintAt p k) (now (sets .entry)) (now (sets .exit)) r) ⌝ }
+    requires { ⌜ ((p : Problem) × ConstraintsHeld p (now numbers) (now supports) × (k < length (p .constraints)) × Nonempty (constraintAt p k .scope)
+        (now sets) × Narrow (constraintAt p k .scope) (now sets)) ⌝ }
+    ensures { λ r. ⌜ ((p : Problem) → ConstraintsHeld p (now (numbers .entry)) (now (supports .entry)) → k < length (p .constraints) → Revision
+        (constraintAt p k) (now (sets .entry)) (now (sets .exit)) r) ⌝ }
 {
     let w = numbers[SCOPES + k];
     if w % 256 != 3 {
@@ -424,7 +436,8 @@ fn round(due: u64, soon: u64) -> u64
 // One that must be pruned by again waits for the next round.
 fn constrain16(sets: &mut [u16; 16], numbers: &Numbers, supports: &Supports, todo: u64) -> u64
     requires { ⌜ ((p : Problem) × ConstraintsPending p (now numbers) (now supports) (now sets) todo) ⌝ }
-    ensures { λ r. ⌜ ((p : Problem) → ConstraintsPending p (now (numbers .entry)) (now (supports .entry)) (now (sets .entry)) todo → Constrained p (now (sets .entry)) (now (sets .exit)) r) ⌝ }
+    ensures { λ r. ⌜ ((p : Problem) → ConstraintsPending p (now (numbers .entry)) (now (supports .entry)) (now (sets .entry)) todo → Constrained p
+        (now (sets .entry)) (now (sets .exit)) r) ⌝ }
 {
     let mut left = todo;
     let mut next = 0u64;
@@ -460,7 +473,8 @@ fn constrain8(
 ) -> u64
     requires { ⌜ at (now numbers) VALUES < 9 ⌝ }
     requires { ⌜ ((p : Problem) × ConstraintsPending p (now numbers) (now supports) (now sets) todo) ⌝ }
-    ensures { λ r. ⌜ ((p : Problem) → ConstraintsPending p (now (numbers .entry)) (now (supports .entry)) (now (sets .entry)) todo → Constrained p (now (sets .entry)) (now (sets .exit)) r) ⌝ }
+    ensures { λ r. ⌜ ((p : Problem) → ConstraintsPending p (now (numbers .entry)) (now (supports .entry)) (now (sets .entry)) todo → Constrained p
+        (now (sets .entry)) (now (sets .exit)) r) ⌝ }
 {
     let mut soon = 0u64;
     let mut left = todo;
@@ -499,7 +513,8 @@ pub fn constrain(
     settled: u64,
 ) -> u64
     requires { ⌜ ((p : Problem) × ConstraintsPending p (now numbers) (now supports) (now sets) todo) ⌝ }
-    ensures { λ r. ⌜ ((p : Problem) → ConstraintsPending p (now (numbers .entry)) (now (supports .entry)) (now (sets .entry)) todo → Constrained p (now (sets .entry)) (now (sets .exit)) r) ⌝ }
+    ensures { λ r. ⌜ ((p : Problem) → ConstraintsPending p (now (numbers .entry)) (now (supports .entry)) (now (sets .entry)) todo → Constrained p
+        (now (sets .entry)) (now (sets .exit)) r) ⌝ }
 {
     if numbers[VALUES] < 9 {
         return constrain8(sets, numbers, supports, todo, settled);
@@ -511,7 +526,8 @@ pub fn constrain(
 fn look_up(sets: &mut [u16; 16], numbers: &Numbers, supports: &Supports, k: usize, v: usize) -> u64
     requires { ⌜ Sets 16 (now sets) ⌝ }
     requires { ⌜ ((p : Problem) × ConstraintsHeld p (now numbers) (now supports) × LookUp p (now sets) k v) ⌝ }
-    ensures { λ r. ⌜ ((p : Problem) → ConstraintsHeld p (now (numbers .entry)) (now (supports .entry)) → LookUp p (now (sets .entry)) k v → Revision (constraintAt p k) (now (sets .entry)) (now (sets .exit)) r) ⌝ }
+    ensures { λ r. ⌜ ((p : Problem) → ConstraintsHeld p (now (numbers .entry)) (now (supports .entry)) → LookUp p (now (sets .entry)) k v → Revision
+        (constraintAt p k) (now (sets .entry)) (now (sets .exit)) r) ⌝ }
 {
     let w = numbers[SCOPES + k];
     let x = (w / 256 % 256) as usize;
@@ -529,7 +545,8 @@ pub fn look_ups(
     v: usize,
 ) -> u64
     requires { ⌜ ((p : Problem) × (todo : ℕ) × LookUpsPending p (now numbers) (now supports) (now sets) todo some v) ⌝ }
-    ensures { λ r. ⌜ ((p : Problem) (todo : ℕ) → LookUpsPending p (now (numbers .entry)) (now (supports .entry)) (now (sets .entry)) todo some v → LookedUp p (now (numbers .entry)) (now (supports .entry)) (now (sets .entry)) (now (sets .exit)) todo some r) ⌝ }
+    ensures { λ r. ⌜ ((p : Problem) (todo : ℕ) → LookUpsPending p (now (numbers .entry)) (now (supports .entry)) (now (sets .entry)) todo some v
+        → LookedUp p (now (numbers .entry)) (now (supports .entry)) (now (sets .entry)) (now (sets .exit)) todo some r) ⌝ }
 {
     let mut all = 0u64;
     let mut left = some;

@@ -1,30 +1,13 @@
 -- The loop of `arcs`: what holds before each turn, one turn, and both ends. Assumes nothing.
-use mathlib.Core.Path.{_≡_, refl, sym, ap, _∙_, subst}
-use mathlib.Core.Bool.{false}
-use mathlib.Core.Logic.{_⊎_, inl, inr, ⊎-elim}
-use mathlib.Core.List.{List}
-use Prim.Native.Nat.{ℕ, _+_, _-_, _*_, _^_, _≤_, _<_}
-use native.Mathlib.Nat.{lt-of-le-of-lt}
-use native.Mathlib.Omega.{arith}
-use native.Mathlib.Decide.{decLt}
-use lib.Dec.{T}
-use lib.Bits.{bitAnd, bitOr, and-le-l, or-lt, or-zero-r}
-use lib.Count.{trailingZeros}
-use Rattle.model.specs.Lists.{at}
-use Rattle.model.specs.ValueSets.{has}
-use Rattle.model.specs.Problem.{Problem}
-use Rattle.model.proofs.Lists.{T-dec, not-of, of-not}
-use Rattle.model.proofs.Sets.{has-none, mask-ext, inside-antisym, size, size-strict}
-use Rattle.model.specs.Pruning.{Inside}
-use Rattle.model.proofs.Members.{has-0, or-i, or-e, low-has, rest-e, rest-i, rest-less}
-use Rattle.model.proofs.Firsts.{take-e, take-i}
-use Rattle.model.proofs.Prunes.{prunes-none, prunes-then}
-use Rattle.arrays.specs.Places.{DEAD, LOOSE}
-use Rattle.arrays.specs.Pruning.{Given, Lessened, Arc, setsOf}
-use Rattle.prune_pairs.specs.Links.{ArcsPending, Settled, ArcsMade}
-use Rattle.prune_pairs.specs.Steps.{CanCut, CutBy}
-use Rattle.prune_pairs.proofs.Cuts.{is-dead}
-use Rattle.prune_pairs.proofs.Settled.{settled-goes, settled-stays}
+use Rattle.model.specs.Kit.{_≡_, refl, sym, ap, _∙_, subst, false, _⊎_, inl, inr, ⊎-elim, List, ℕ, _+_, _-_, _*_, _^_, _≤_, _<_, lt-of-le-of-lt, arith, decLt, T, bitAnd, bitOr}
+use Rattle.model.specs.Kit.{and-le-l, or-lt, trailingZeros}
+use lib.Bits.{or-zero-r}
+use Rattle.model.specs.{Lists.at, ValueSets.has, ValueSets.Inside, Problem.Problem}
+use Rattle.model.proofs.{Lists.T-dec, Lists.not-of, Lists.of-not, Sets.has-none, Sets.mask-ext, Sets.inside-antisym, Sets.size, Sets.size-strict, Members.has-0, Members.or-i}
+use Rattle.model.proofs.{Members.or-e, Members.low-has, Members.rest-e, Members.rest-i, Members.rest-less, Firsts.take-e, Firsts.take-i, Prunes.prunes-none, Prunes.prunes-then}
+use Rattle.arrays.specs.{inner.Places.DEAD, inner.Places.LOOSE, inner.Pruning.Given, inner.Pruning.Lessened, inner.Pruning.Arc, inner.Pruning.setsOf}
+use Rattle.prune_pairs.specs.{inner.Links.ArcsPending, inner.Links.Settled, inner.Links.ArcsMade, inner.Steps.CanCut, inner.Steps.CutBy}
+use Rattle.prune_pairs.proofs.{Cuts.is-dead, Settled.settled-goes, Settled.settled-stays}
 
 pub record ArcsSoFar (p : Problem) (ds es : List ℕ) (left all low : ℕ) : Type 0 where
   pub wide : left < 2 ^ 64
@@ -178,7 +161,8 @@ module _ {p : Problem} {numbers tables ds : List ℕ} {dirty : ℕ} (w : ArcsPen
           go : Dec (size fs < size es) → size fs * 2 ^ 64 + next < size es * 2 ^ 64 + left
           go (yes f) = let s : next < 2 ^ 64 = next-wide h in omega arith
           go (no f) =
-              let e : fs ≡ es = inside-antisym 16 fs es (l .sixteen) (t .given .sixteen) (l .less) (size-strict fs es (l .sixteen .0 ∙ sym (t .given .sixteen .0)) (t .given .sixteen .1) (l .less) (omega arith)) in
+              let e : fs ≡ es = inside-antisym 16 fs es (l .sixteen) (t .given .sixteen) (l .less)
+              (size-strict fs es (l .sixteen .0 ∙ sym (t .given .sixteen .0)) (t .given .sixteen .1) (l .less) (omega arith)) in
               let none : changed ≡ 0 = mask-ext 64 changed 0 h (omega arith) (λ y b. not-of (has changed y) (λ q. k .changed m y q (ap (λ (s : List ℕ). at s y) e)) ∙ sym (has-none y)) in
               let q : next ≡ bitAnd left (left - 1) = ap (bitOr (bitAnd left (left - 1))) none ∙ or-zero-r (bitAnd left (left - 1)) in
               let r : bitAnd left (left - 1) < left = rest-less left n in

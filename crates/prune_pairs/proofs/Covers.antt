@@ -1,24 +1,10 @@
 -- The loops over sixteen sets that make the cover of a variable's set, and that compare sets with it. Assumes nothing.
-use mathlib.Core.Path.{_≡_, refl, sym, ap, _∙_, subst}
-use mathlib.Core.Bool.{false, not}
-use mathlib.Core.Logic.{_⊎_, inl, inr, ⊎-elim}
-use mathlib.Core.List.{List}
-use Prim.Native.Nat.{ℕ, _+_, _-_, _*_, _^_, _≤_, _<_}
-use native.Mathlib.Omega.{arith}
-use native.Mathlib.Decide.{ℕ-discrete, decLt}
-use lib.Dec.{T, eqb}
-use lib.ListN.{length, set, replicate, take, drop, length-drop}
-use lib.Seq.{getD-take, getD-drop, length-take-le}
-use lib.Bits.{bitAnd, bitOr, or-lt}
-use borrow.Author.Tests.{eqb-true, not-false}
-use Rattle.model.specs.Lists.{at}
-use Rattle.model.specs.ValueSets.{has, withoutMask, lowestOf}
-use Rattle.model.proofs.Lists.{T-of, T-dec, not-of, at-out, at-set, at-set-other, at-replicate}
-use Rattle.model.proofs.Sets.{has-lt, set-sets}
-use Rattle.model.specs.Pruning.{Sets}
-use Rattle.model.proofs.Masks.{has-not}
+use Rattle.model.specs.Kit.{_≡_, refl, sym, ap, _∙_, subst, false, not, _⊎_, inl, inr, ⊎-elim, List, ℕ, _+_, _-_, _*_, _^_, _≤_, _<_, arith, ℕ-discrete, decLt, T, eqb, length, set}
+use Rattle.model.specs.Kit.{replicate, take, drop, length-drop, getD-take, getD-drop, length-take-le, bitAnd, bitOr, or-lt, eqb-true, not-false}
+use Rattle.model.specs.{Lists.at, ValueSets.has, ValueSets.withoutMask, ValueSets.lowestOf, inner.Pruning.Sets}
+use Rattle.model.proofs.{Lists.T-of, Lists.T-dec, Lists.not-of, Lists.at-out, Lists.at-set, Lists.at-set-other, Lists.at-replicate, Sets.has-lt, Sets.set-sets, Masks.has-not}
 use Rattle.model.proofs.Members.{has-0, or-i, and-i, Rest, rest-begin, Union, union-begin, union-end, others-left, others-union}
-use Rattle.prune_pairs.specs.Steps.{Narrow, Goes, Added, Cover, Covered}
+use Rattle.prune_pairs.specs.inner.Steps.{Narrow, Goes, Added, Cover, Covered}
 
 -- ---- sixteen sets of the tables are added to the cover, y of them so far
 pub record Adding (cover₀ tables : List ℕ) (base : ℕ) (cover : List ℕ) (y : ℕ) : Type 0 where
@@ -79,7 +65,8 @@ pub covering-turn : {tables : List ℕ} {x set : ℕ} {cover : List ℕ} {m v m�
 covering-turn {tables} {x} {set} {cover} {m} {v} {m′} c n low cover′ a less = record {
   sets = a .sets;
   rest = others-left set m v (c .rest) n low m′ less;
-  unions = λ y l. others-union set m v (c .rest) n low m′ less (λ u w. Goes tables x u y w) (at cover y) (at tables (256 * x + 16 * v + y)) (at cover′ y) (c .unions y l) (a .each y l) (λ w q. q) (λ w q. q);
+  unions = λ y l. others-union set m v (c .rest) n low m′ less (λ u w. Goes tables x u y w) (at cover y) (at tables (256 * x + 16 * v + y)) (at cover′ y) (c .unions y l) (a .each y l) (λ w q. q)
+      (λ w q. q);
 }
 
 pub covering-end : {tables : List ℕ} {x set : ℕ} {cover : List ℕ} {m : ℕ} → Covering tables x set cover m → m ≡ 0 → Cover tables x set cover

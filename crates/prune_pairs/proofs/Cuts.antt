@@ -1,20 +1,10 @@
 -- The loop that cuts the first twelve sets down to the cover, the last first. Assumes nothing.
-use mathlib.Core.Path.{_≡_, refl, sym, ap, _∙_, subst}
-use mathlib.Core.Bool.{false}
-use mathlib.Core.Logic.{_⊎_, inl, inr}
-use mathlib.Core.List.{List}
-use Prim.Native.Nat.{ℕ, _-_, _*_, _%_, _^_, _≤_, _<_}
-use native.Mathlib.Omega.{arith}
-use native.Mathlib.Decide.{ℕ-discrete, decLt}
-use lib.Dec.{T, eqb, eqb→eq, eqb-refl}
-use lib.ListN.{length, set, length-set}
-use lib.Bits.{bitAnd, bitOr}
-use Rattle.model.specs.Lists.{at}
-use Rattle.model.specs.ValueSets.{has}
-use Rattle.model.proofs.Lists.{T-dec, not-of, of-not, at-set, at-set-other}
-use Rattle.model.proofs.Members.{has-0, or-i, or-e, one-has}
-use Rattle.arrays.specs.Places.{DEAD}
-use Rattle.prune_pairs.specs.Steps.{Spared, CutToCover}
+use Rattle.model.specs.Kit.{_≡_, refl, sym, ap, _∙_, subst, false, _⊎_, inl, inr, List, ℕ, _-_, _*_, _%_, _^_, _≤_, _<_, arith, ℕ-discrete, decLt, T, eqb, eqb→eq, eqb-refl, length}
+use Rattle.model.specs.Kit.{set, length-set, bitAnd, bitOr}
+use Rattle.model.specs.{Lists.at, ValueSets.has}
+use Rattle.model.proofs.{Lists.T-dec, Lists.not-of, Lists.of-not, Lists.at-set, Lists.at-set-other, Members.has-0, Members.or-i, Members.or-e, Members.one-has}
+use Rattle.arrays.specs.inner.Places.{DEAD}
+use Rattle.prune_pairs.specs.inner.Steps.{Spared, CutToCover}
 
 -- of the first twelve sets those from y on are cut so far
 pub record Cutting (ds cover es : List ℕ) (changed y : ℕ) : Type 0 where

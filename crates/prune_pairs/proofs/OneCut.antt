@@ -1,34 +1,16 @@
 -- One cut by the set of a variable: the values that go are no loss, and those that stay go together with a value of that set. Assumes nothing.
-use mathlib.Core.Path.{_≡_, refl, sym, _∙_, subst}
-use mathlib.Core.Bool.{Bool, true, false}
-use mathlib.Core.Logic.{_⊎_, inl, inr, ⊎-elim}
-use mathlib.Core.List.{List}
-use Prim.Native.Nat.{ℕ, _+_, _*_, _/_, _^_, _≤_, _<_}
-use native.Mathlib.Nat.{lt-of-le-of-lt}
-use native.Mathlib.Omega.{arith}
-use native.Mathlib.Decide.{ℕ-discrete, decLt}
-use lib.Dec.{T}
-use lib.ListN.{length}
-use lib.Bits.{bitAnd, and-le-l}
-use borrow.Author.Tests.{eq-eqb}
-use Rattle.model.specs.Lists.{at, tabulate}
-use Rattle.model.specs.ValueSets.{has, withoutMask, lowestOf}
-use Rattle.model.specs.Problem.{Problem}
-use Rattle.model.proofs.Lists.{T-of, T-ext, either-e, at-out, at-ext, at-tabulate, length-tabulate}
-use Rattle.model.proofs.Sets.{has-lt, has-at-lt, mask-lt, mask-ext, member, empty-i}
-use Rattle.model.specs.Pruning.{Sets, Inside, Prunes}
-use Rattle.model.proofs.Masks.{contains-op}
-use Rattle.model.proofs.Members.{has-0, and-i, and-e, rest-begin, lowest-left}
-use Rattle.model.proofs.Lowest.{without-i, without-e}
-use Rattle.model.proofs.Firsts.{take-length, take-at, take-e, take-i, take-full, full-take}
-use Rattle.model.proofs.Prune.{Removal}
+use Rattle.model.specs.Kit.{_≡_, refl, sym, _∙_, subst, Bool, true, false, _⊎_, inl, inr, ⊎-elim, List, ℕ, _+_, _*_, _/_, _^_, _≤_, _<_, lt-of-le-of-lt, arith, ℕ-discrete, decLt}
+use Rattle.model.specs.Kit.{T, length, bitAnd, and-le-l, eq-eqb}
+use Rattle.model.specs.{Lists.at, Lists.tabulate, ValueSets.has, ValueSets.withoutMask, ValueSets.lowestOf, ValueSets.Inside, Problem.Problem, inner.Pruning.Sets}
+use Rattle.model.specs.inner.Pruning.{Prunes}
+use Rattle.model.proofs.{Lists.T-of, Lists.T-ext, Lists.either-e, Lists.at-out, Lists.at-ext, Lists.at-tabulate, Lists.length-tabulate, Sets.has-lt, Sets.has-at-lt, Sets.mask-lt}
+use Rattle.model.proofs.{Sets.mask-ext, Sets.member, Sets.empty-i, Masks.contains-op, Members.has-0, Members.and-i, Members.and-e, Members.rest-begin, Members.lowest-left}
+use Rattle.model.proofs.{Lowest.without-i, Lowest.without-e, Firsts.take-length, Firsts.take-at, Firsts.take-e, Firsts.take-i, Firsts.take-full, Firsts.full-take, Prune.Removal}
 use Rattle.model.proofs.Prunes.{prunes-none, removal-prunes}
-use Rattle.arrays.specs.Places.{DEAD}
-use Rattle.arrays.specs.Tables.{goes}
-use Rattle.arrays.specs.Pruning.{Lessened, Ended, Arc, setsOf}
-use Rattle.prune_pairs.specs.Steps.{Narrow, Cover, Covered, Spared, CutToCover, CanCut, CutBy}
-use Rattle.prune_pairs.proofs.Covers.{narrow-at, row, row-cover}
-use Rattle.prune_pairs.proofs.Partners.{goes-free, goes-kept, row-goes-e, row-goes-i, narrow}
+use Rattle.arrays.specs.{inner.Places.DEAD, inner.Tables.goes, inner.Pruning.Lessened, inner.Pruning.Ended, inner.Pruning.Arc, inner.Pruning.setsOf}
+use Rattle.prune_pairs.specs.inner.Steps.{Narrow, Cover, Covered, Spared, CutToCover, CanCut, CutBy}
+use Rattle.prune_pairs.proofs.{Covers.narrow-at, Covers.row, Covers.row-cover, Partners.goes-free, Partners.goes-kept, Partners.row-goes-e, Partners.row-goes-i}
+use Rattle.prune_pairs.proofs.Partners.{narrow}
 
 pub bit-in : (s v : ℕ) → bitAnd (s / 2 ^ v) 1 ≡ 1 → T (has s v)
 bit-in s v e = T-of (has s v) (sym (contains-op s v) ∙ eq-eqb (bitAnd (s / 2 ^ v) 1) 1 e)

@@ -1,27 +1,14 @@
 -- Values that go together: where there is no constraint all do, and a value that one round keeps goes together with a value of every other
 -- variable. The tables say so too. Assumes nothing.
-use mathlib.Core.Path.{_≡_, refl, sym, ap, subst}
-use mathlib.Core.Bool.{Bool, true, false}
-use mathlib.Core.Logic.{_⊎_, inl, inr, ⊎-elim}
-use mathlib.Core.List.{List, [], _∷_, List·Memᴰ, List·Memᴰ·head, List·Memᴰ·tail}
-use Prim.Native.Nat.{ℕ, _+_, _*_, _/_, _%_, _^_, _≤_, _<_}
-use native.Mathlib.Omega.{arith}
-use native.Mathlib.Decide.{decLt}
-use lib.Dec.{T, eqb, ltb, leb, eqb→eq, eqb-refl}
-use lib.ListN.{length}
-use borrow.Author.Tests.{ltb-true, ltb-false}
-use Rattle.model.specs.Lists.{both, any, at, same}
-use Rattle.model.specs.ValueSets.{has}
-use Rattle.model.specs.Problem.{Problem, Constraint}
-use Rattle.model.specs.Search.{rowWith, supported}
-use Rattle.model.proofs.Lists.{of-T, both-l, both-r, either-r, any-i, any-e, same-refl}
-use Rattle.model.proofs.Sets.{mask-i, mask-e, mask-lt}
-use Rattle.model.proofs.Prune.{supported-e}
+use Rattle.model.specs.Kit.{_≡_, refl, sym, ap, subst, Bool, true, false, _⊎_, inl, inr, ⊎-elim, List, [], _∷_, List·Memᴰ, List·Memᴰ·head, List·Memᴰ·tail, ℕ, _+_, _*_, _/_, _%_}
+use Rattle.model.specs.Kit.{_^_, _≤_, _<_, arith, decLt, T, eqb, ltb, leb, eqb→eq, eqb-refl, length, ltb-true, ltb-false}
+use Rattle.model.specs.{Lists.both, Lists.any, Lists.at, Lists.same, ValueSets.has, Problem.Problem, Problem.Constraint, Problem.constraintAt, Search.rowWith, Search.supported}
 use Rattle.model.specs.WellFormed.{WellFormed}
-use Rattle.arrays.specs.Layout.{constraintAt}
-use Rattle.arrays.specs.Tables.{linkOf, allowed, goes, Rows}
+use Rattle.model.proofs.{Lists.of-T, Lists.both-l, Lists.both-r, Lists.either-r, Lists.any-i, Lists.any-e, Lists.same-refl, Sets.mask-i, Sets.mask-e, Sets.mask-lt}
+use Rattle.model.proofs.Prune.{supported-e}
+use Rattle.arrays.specs.inner.Tables.{linkOf, allowed, goes, Rows}
 use Rattle.arrays.proofs.Links.{is-one, good, scope-order, link-scope, allowed-none}
-use Rattle.prune_pairs.specs.Steps.{Narrow, Goes}
+use Rattle.prune_pairs.specs.inner.Steps.{Narrow, Goes}
 
 -- ---- the constraint on two variables
 -- there is none, or it has the two for its scope
@@ -100,7 +87,8 @@ module _ (p : Problem) (f : WellFormed p) where
 
   -- a value of y that has a row of every constraint inside the sets goes together with a value of x's set
   module _ (ds : List ℕ) (x y w u : ℕ) (t : T (has (at ds x) u)) (rows : (c : Constraint) → List·Memᴰ c (p .constraints) → T (supported ds y w c)) where
-    a-row : (k : ℕ) (scope : List ℕ) → k < length (p .constraints) → constraintAt p k .scope ≡ scope → List·Memᴰ y scope → (r : List ℕ) × List·Memᴰ r (constraintAt p k .rows) × T (rowWith ds y w scope r)
+    a-row : (k : ℕ) (scope : List ℕ) → k < length (p .constraints) → constraintAt p k .scope ≡ scope → List·Memᴰ y scope → (r : List ℕ) × List·Memᴰ r (constraintAt p k .rows) × T
+        (rowWith ds y w scope r)
     a-row k scope h e m =
         let c = constraintAt p k in
         let q = any-e (rowWith ds y w (c .scope)) (c .rows) (supported-e ds y w c (subst (λ (l : List ℕ). List·Memᴰ y l) (sym e) m) (rows c (is-one p k h))) in

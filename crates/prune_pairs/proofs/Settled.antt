@@ -1,24 +1,12 @@
 -- A settled variable, whose set has one value, loses nothing: what others keep goes together with that value, and a cut that leaves no set empty leaves it
 -- as it is. Assumes nothing.
-use mathlib.Core.Path.{_≡_, sym, subst}
-use mathlib.Core.Bool.{false}
-use mathlib.Core.List.{List}
-use Prim.Native.Nat.{ℕ, _≤_, _<_}
+use Rattle.model.specs.Kit.{_≡_, sym, subst, false, List, ℕ, _≤_, _<_, arith, decLt, T}
 use native.Mathlib.Nat.{le-of-lt}
-use native.Mathlib.Omega.{arith}
-use native.Mathlib.Decide.{decLt}
-use lib.Dec.{T}
-use Rattle.model.specs.Lists.{at}
-use Rattle.model.specs.ValueSets.{has}
-use Rattle.model.specs.Problem.{Problem}
-use Rattle.model.specs.Pruning.{Sets}
-use Rattle.model.proofs.Lists.{T-ext, not-of}
-use Rattle.model.proofs.Sets.{mask-ext, member}
-use Rattle.model.proofs.Firsts.{take-e, take-i, full-take}
-use Rattle.arrays.specs.Tables.{goes}
-use Rattle.arrays.specs.Pruning.{Lessened, Arc, setsOf}
+use Rattle.model.specs.{Lists.at, ValueSets.has, Problem.Problem, inner.Pruning.Sets}
+use Rattle.model.proofs.{Lists.T-ext, Lists.not-of, Sets.mask-ext, Sets.member, Firsts.take-e, Firsts.take-i, Firsts.full-take}
+use Rattle.arrays.specs.{inner.Tables.goes, inner.Pruning.Lessened, inner.Pruning.Arc, inner.Pruning.setsOf}
 use Rattle.arrays.proofs.Links.{goes-up, goes-down}
-use Rattle.prune_pairs.specs.Links.{Settled}
+use Rattle.prune_pairs.specs.inner.Links.{Settled}
 
 pub none-settled : (sets : List ℕ) (dirty : ℕ) → Settled sets dirty 0
 none-settled sets dirty = record { clean = λ y h. absurd (omega arith); single = λ y h. absurd (omega arith) }

@@ -9,10 +9,10 @@ ghost use mathlib.Core.Bool.{false};
 ghost use Prim.Native.Nat.{_+_, _*_, _≤_, _<_};
 ghost use lib.ListN.{length};
 ghost use Rattle.model.specs.Problem.{Problem};
-ghost use Rattle.model.specs.Pruning.{Sets};
-ghost use Rattle.arrays.specs.Places.{TABLES};
-ghost use Rattle.prune_pairs.specs.Links.{ArcsPending, Settled, ArcsMade};
-ghost use Rattle.prune_pairs.specs.Steps.{Narrow, Added, Cover, Covered, Spared, CutToCover, CanCut, CutBy};
+ghost use Rattle.model.specs.inner.Pruning.{Sets};
+ghost use Rattle.arrays.specs.inner.Places.{TABLES};
+ghost use Rattle.prune_pairs.specs.inner.Links.{ArcsPending, Settled, ArcsMade};
+ghost use Rattle.prune_pairs.specs.inner.Steps.{Narrow, Added, Cover, Covered, Spared, CutToCover, CanCut, CutBy};
 
 // Adds sixteen sets of the tables, from a base on, to the cover.
 fn add(cover: &mut [u16; 16], tables: &Tables, base: usize)
@@ -126,7 +126,8 @@ fn cut_by(sets: &mut [u16; 16], tables: &Tables, loose: u64, x: usize, low: usiz
 pub fn arcs(sets: &mut [u16; 16], tables: &Tables, numbers: &Numbers, dirty: u64, low: usize) -> u64
     requires { ⌜ Settled (now sets) dirty low ⌝ }
     requires { ⌜ ((p : Problem) × ArcsPending p (now numbers) (now tables) (now sets) dirty) ⌝ }
-    ensures { λ r. ⌜ ((p : Problem) → ArcsPending p (now (numbers .entry)) (now (tables .entry)) (now (sets .entry)) dirty → ArcsMade p (now (sets .entry)) (now (sets .exit)) r) ⌝ }
+    ensures { λ r. ⌜ ((p : Problem) → ArcsPending p (now (numbers .entry)) (now (tables .entry)) (now (sets .entry)) dirty → ArcsMade p (now (sets .entry))
+        (now (sets .exit)) r) ⌝ }
 {
     let mut left = dirty;
     let mut all = 0u64;

@@ -1,18 +1,10 @@
 -- The two loops over the table's sixteen sets of a level: what each turn does. Assumes nothing.
-use mathlib.Core.Path.{_≡_, refl, sym, ap, _∙_, subst}
-use mathlib.Core.Bool.{Bool, true, false, not, _||_}
-use mathlib.Core.List.{List}
-use Prim.Native.Nat.{ℕ, _+_, _-_, _^_, _≤_, _<_}
-use native.Mathlib.Decide.{ℕ-discrete}
-use native.Mathlib.Omega.{arith}
-use lib.Bits.{bitAnd, bitOr}
-use lib.Dec.{T, eqb}
-use lib.ListN.{length, set, length-set}
-use borrow.Author.Tests.{eqb-true, eqb-false}
+use Rattle.model.specs.Kit.{_≡_, refl, sym, ap, _∙_, subst, Bool, true, false, not, List, ℕ, _+_, _-_, _^_, _≤_, _<_, ℕ-discrete, arith, bitAnd, bitOr, T, eqb, length, set}
+use Rattle.model.specs.Kit.{length-set, eqb-true, eqb-false}
+use mathlib.Core.Bool.{_||_}
 use Rattle.model.specs.Lists.{at}
-use Rattle.model.proofs.Lists.{at-set, at-set-other, set-each}
-use Rattle.model.proofs.Members.{or-zero-e}
-use Rattle.prune_symmetries.specs.Levels.{Missed, Taken}
+use Rattle.model.proofs.{Lists.at-set, Lists.at-set-other, Lists.set-each, Members.or-zero-e}
+use Rattle.prune_symmetries.specs.inner.Levels.{Missed, Taken}
 
 -- ---- whether a value goes
 abbrev pub Missing : List ℕ → List ℕ → ℕ → ℕ → ℕ → Type 0
@@ -24,7 +16,8 @@ missing-none ss tables first = (omega arith, λ e z h. absurd (omega arith))
 pub missing-next : (ss tables : List ℕ) (first hit y : ℕ) → y < 16 → Missing ss tables first hit y → Missing ss tables first (bitOr hit (bitAnd (at ss y) (at tables (first + y)))) (y + 1)
 missing-next ss tables first hit y h m = (omega arith, λ e z l. let o = or-zero-e hit (bitAnd (at ss y) (at tables (first + y))) e in go (m .1 (o .0)) (o .1) z l (ℕ-discrete z y))
   where
-    go : ((z : ℕ) → z < y → bitAnd (at ss z) (at tables (first + z)) ≡ 0) → bitAnd (at ss y) (at tables (first + y)) ≡ 0 → (z : ℕ) → z < y + 1 → Dec (z ≡ y) → bitAnd (at ss z) (at tables (first + z)) ≡ 0
+    go : ((z : ℕ) → z < y → bitAnd (at ss z) (at tables (first + z)) ≡ 0) → bitAnd (at ss y) (at tables (first + y)) ≡ 0 → (z : ℕ) → z < y + 1 → Dec (z ≡ y) → bitAnd (at ss z)
+        (at tables (first + z)) ≡ 0
     go before here z l (yes e) = subst (λ (i : ℕ). bitAnd (at ss i) (at tables (first + i)) ≡ 0) (sym e) here
     go before here z l (no e) = before z (omega arith)
 

@@ -1,24 +1,23 @@
 -- First parts of a list that are passed, one after another. Assumes nothing.
-use mathlib.Core.Path.{_≡_, refl, sym, ap, _∙_, subst}
-use mathlib.Core.List.{List, [], _∷_, _++_, append-assoc, List·Memᴰ·head, Memᴰ·append-left, Memᴰ·append-right}
-use Prim.Native.Nat.{ℕ, _<_}
-use lib.Dec.{T, eqb}
-use lib.ListN.{length, take}
-use Rattle.model.specs.Lists.{at, any}
-use Rattle.model.specs.ValueSets.{has, withoutMask, onlyMask}
-use Rattle.model.specs.Nogood.{Entry, equality}
+use Rattle.model.specs.Kit.{_≡_, refl, sym, ap, _∙_, subst, List, [], _∷_, _++_, append-assoc, List·Memᴰ·head, Memᴰ·append-left, ℕ, _<_, T, eqb, length, take}
+use mathlib.Core.List.{Memᴰ·append-right}
+use Rattle.model.specs.{Lists.at, Lists.any, ValueSets.has, ValueSets.withoutMask, ValueSets.onlyMask, Nogood.Entry, Nogood.equality}
 use Rattle.model.proofs.Sets.{inside-refl, inside-trans}
-use Rattle.filter.specs.declared.entry.Step.{Step}
-use Rattle.filter.specs.declared.entry.Step.the-variants.{Next, Obeyed}
-use Rattle.filter.specs.Scan.{stepOf, keepStep, Right, None, Live, Passed}
-use Rattle.filter.specs.Marks.{Vacuous}
+use Rattle.filter.specs.{declared.entry.Step.Step, declared.entry.Step.the-variants.Next, declared.entry.Step.the-variants.Obeyed, inner.Scan.stepOf, inner.Scan.keepStep}
+use Rattle.filter.specs.{inner.Scan.Right, inner.Scan.None, inner.Scan.Live, inner.Scan.Passed, Marks.Vacuous}
 use Rattle.filter.proofs.Marks.{vacuous-append, for-good-append, vacuous-mono, vacuous-next, gone-step, for-good-equality, obeying-vacuous, obeying-for-good}
+use Rattle.prune_symmetries.specs.inner.Levels.{CutsMade, CutsObeyed, NoneObeys}
 use Rattle.filter.proofs.Front
-use Rattle.prune_symmetries.specs.Levels.{CutsMade, CutsObeyed, NoneObeys}
 
 -- ---- two scans, one after the other
 pub pass-on : {n : ℕ} {ss rs ts : List ℕ} {es fs gs : List Entry} → Passed n ss es rs fs → Passed n rs fs ts gs → Passed n ss es ts gs
-pass-on {n} {ss} {rs} {ts} p q = record { live = q .live; less = inside-trans (take n ts) (take n rs) (take n ss) (q .less) (p .less); unused = λ x h. q .unused x h ∙ p .unused x h; same = λ t. p .same t ∙ q .same t }
+pass-on {n} {ss} {rs} {ts} p q = record {
+  live = q .live;
+  less = inside-trans (take n ts) (take n rs) (take n ss) (q .less) (p .less);
+  unused = λ x h. q .unused x h
+      ∙ p .unused x h;
+  same = λ t. p .same t ∙ q .same t;
+}
 
 -- the entries from the start, in other words
 pub from-as : {n : ℕ} {ss rs : List ℕ} {es ds fs : List Entry} → es ≡ ds → Passed n ss es rs fs → Passed n ss ds rs fs

@@ -1,36 +1,20 @@
 -- The cuts that the table's sets make are the level's disequalities. Assumes nothing.
-use mathlib.Core.Path.{_≡_, refl, sym, ap, ap₂, _∙_, subst}
-use mathlib.Core.Bool.{Bool, true, false, not}
-use mathlib.Core.List.{List, [], _∷_, _++_, map, List·Memᴰ, List·Memᴰ·head, List·Memᴰ·tail, List·Memᴰ·not-nil}
-use Prim.Native.Nat.{ℕ, _+_, _-_, _*_, _/_, _%_, _^_, _≤_, _<_}
-use native.Mathlib.Nat.{lt-of-lt-of-le, lt-of-le-of-lt}
-use native.Mathlib.Decide.{decLt}
-use native.Mathlib.Omega.{arith}
-use lib.Bits.{and-le-l}
-use lib.Dec.{T, eqb, ltb, eqb→eq}
-use lib.ListN.{length, take, getD}
-use lib.Seq.{length-take-le}
-use borrow.Author.Tests.{eq-eqb}
-use Rattle.model.specs.Lists.{at, any, both}
-use Rattle.model.specs.ValueSets.{has, members}
-use Rattle.model.specs.Problem.{Problem, pair}
-use Rattle.model.specs.Nogood.{Entry, is, obeysFrom, obeys}
+use Rattle.model.specs.Kit.{_≡_, refl, sym, ap, ap₂, _∙_, subst, Bool, true, false, not, List, [], _∷_, _++_, map, List·Memᴰ, List·Memᴰ·head, List·Memᴰ·tail, List·Memᴰ·not-nil, ℕ}
+use Rattle.model.specs.Kit.{_+_, _-_, _*_, _/_, _%_, _^_, _≤_, _<_, lt-of-lt-of-le, lt-of-le-of-lt, decLt, arith, and-le-l, T, eqb, ltb, eqb→eq, length, take, getD, length-take-le}
+use Rattle.model.specs.Kit.{eq-eqb}
+use Rattle.model.specs.{Lists.at, Lists.any, Lists.both, ValueSets.has, ValueSets.members, ValueSets.Inside, Problem.Problem, Problem.pair, Problem.symmetryAt, Nogood.Entry}
+use Rattle.model.specs.{Nogood.is, Nogood.obeysFrom, Nogood.obeys, WellFormed.GoodSymmetry}
 use Rattle.model.proofs.Lists.{T-of, not-of, of-not, of-T, T-ext, both-i, both-l, both-r, any-i, any-e, keep-e, getD-at, at-out, at-take, mem-getD, both-less}
-use Rattle.model.proofs.Sets.{has-none, has-lt, has-at-lt, mask-i, mask-e, mask-lt, mask-ext, members-e}
-use Rattle.model.specs.Pruning.{Inside}
-use Rattle.model.proofs.Masks.{has-and, has-not}
-use Rattle.model.specs.WellFormed.{GoodSymmetry}
+use Rattle.model.proofs.{Sets.has-none, Sets.has-lt, Sets.has-at-lt, Sets.mask-i, Sets.mask-e, Sets.mask-lt, Sets.mask-ext, Sets.members-e, Masks.has-and, Masks.has-not}
+use Rattle.arrays.specs.inner.Tables.{imageOf, smaller}
+use Rattle.filter.specs.{inner.Scan.models, Marks.Vacuous}
+use Rattle.filter.proofs.Marks.{vacuous-nil, vacuous-append, vacuous-disequality, obeying-vacuous}
+use Rattle.prune_symmetries.specs.inner.Levels.{cutsAt, imageAt, cutOf, lower, cuts, CutsMade, NoneObeys, Tabled, Level, Missed, Taken, CutResult}
+use Rattle.prune_symmetries.proofs.Levels.{variable-is}
 use Rattle.model.proofs.Pairs
 use Rattle.model.proofs.Symmetry
-use Rattle.arrays.specs.Layout.{symmetryAt}
-use Rattle.arrays.specs.Tables.{imageOf, smaller}
-use Rattle.filter.specs.Scan.{models}
-use Rattle.filter.specs.Marks.{Vacuous}
-use Rattle.filter.proofs.Marks.{vacuous-nil, vacuous-append, vacuous-disequality, obeying-vacuous}
 use Rattle.filter.proofs.Scan
 use Rattle.filter.proofs.Front
-use Rattle.prune_symmetries.specs.Levels.{cutsAt, imageAt, cutOf, lower, cuts, CutsMade, NoneObeys, Tabled, Level, Missed, Taken, CutResult}
-use Rattle.prune_symmetries.proofs.Levels.{variable-is}
 
 -- ---- disequalities of pairs
 -- they say nothing of sets that have none of the pairs

@@ -1,20 +1,12 @@
 -- The levels that the tables hold are the nogoods of the symmetry at the prefix. Assumes nothing.
-use mathlib.Core.Path.{_≡_, sym, ap, ap₂, _∙_}
-use mathlib.Core.List.{List, [], _∷_, _++_, map, append-nil, append-assoc}
-use Prim.Native.Nat.{ℕ, suc, _+_, _-_, _*_, _/_, _%_, _≤_, _<_}
-use native.Mathlib.Nat.{lt-of-lt-of-le, mod-lt}
-use native.Mathlib.Omega.{arith}
-use lib.ListN.{length, take}
-use lib.Seq.{length-take-le, getD-take}
-use Rattle.model.specs.Lists.{at, flat, below, upFrom}
-use Rattle.model.specs.Problem.{Problem, pair}
-use Rattle.model.specs.Nogood.{Entry, equality, disequality}
-use Rattle.model.specs.Search.{entriesAt, nogoodsOf}
+use Rattle.model.specs.Kit.{_≡_, sym, ap, ap₂, _∙_, List, [], _∷_, _++_, map, append-nil, append-assoc, ℕ, suc, _+_, _-_, _*_, _/_, _%_, _≤_, _<_, lt-of-lt-of-le, arith, length}
+use Rattle.model.specs.Kit.{take, length-take-le, getD-take}
+use native.Mathlib.Nat.{mod-lt}
+use Rattle.model.specs.{Lists.at, Lists.flat, Lists.below, Lists.upFrom, Problem.Problem, Problem.pair, Problem.symmetryAt, Nogood.Entry, Nogood.equality, Nogood.disequality}
+use Rattle.model.specs.{Search.entriesAt, Search.nogoodsOf, WellFormed.WellFormed}
 use Rattle.model.proofs.Lists.{map-ext, map-append, flat-append, below-e, upFrom-add}
-use Rattle.model.specs.WellFormed.{WellFormed}
-use Rattle.arrays.specs.Layout.{symmetryAt}
-use Rattle.arrays.specs.Tables.{imageOf}
-use Rattle.prune_symmetries.specs.Levels.{cutOf, keepOf, lower, cuts, levelOf, levels, ownAt}
+use Rattle.arrays.specs.inner.Tables.{imageOf}
+use Rattle.prune_symmetries.specs.inner.Levels.{cutOf, keepOf, lower, cuts, levelOf, levels, ownAt}
 
 -- ---- lists of levels
 module _ (p : Problem) (work : List ℕ) (e : ℕ) where

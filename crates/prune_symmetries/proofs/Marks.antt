@@ -1,26 +1,14 @@
 -- The laws of marks: 0 is one at every prefix, and they stay as the sets shrink and the prefix grows; nogoods that are not due take nothing. Assumes nothing.
-use mathlib.Core.Path.{_≡_, refl, sym, subst}
-use mathlib.Core.Bool.{Bool, true, false}
-use mathlib.Core.List.{List, [], _∷_, _++_}
-use Prim.Native.Nat.{ℕ, _*_, _%_, _≤_}
-use native.Mathlib.Omega.{arith}
-use lib.Dec.{eqb, ltb}
-use lib.ListN.{length, take, length-append}
+use Rattle.model.specs.Kit.{_≡_, refl, sym, subst, Bool, true, false, List, [], _∷_, _++_, ℕ, _*_, _%_, _≤_, arith, eqb, ltb, length, take, length-append, ne-eqb, ltb-true}
+use Rattle.model.specs.Kit.{ltb-false}
 use lib.Seq.{take-append-le}
-use borrow.Author.Tests.{ne-eqb, ltb-true, ltb-false}
-use Rattle.model.specs.Lists.{flat, upFrom, below}
-use Rattle.model.specs.ValueSets.{anyEmpty}
-use Rattle.model.specs.Problem.{Problem}
-use Rattle.model.specs.Nogood.{Entry, obeysFrom, filtered, Entails}
-use Rattle.model.specs.Search.{nogoodsOf}
-use Rattle.model.specs.Pruning.{Sets, Inside}
-use Rattle.model.proofs.Tree.{nogoods-append}
-use Rattle.model.proofs.Endings.{entails-mono}
-use Rattle.arrays.specs.Places.{ENTAILED, OBEYED}
-use Rattle.arrays.specs.Layout.{symmetryAt}
+use Rattle.model.specs.{Lists.flat, Lists.upFrom, Lists.below, ValueSets.anyEmpty, ValueSets.Inside, Problem.Problem, Problem.symmetryAt, Nogood.Entry, Nogood.obeysFrom}
+use Rattle.model.specs.{Nogood.filtered, Nogood.Entails, Search.nogoodsOf, inner.Pruning.Sets}
+use Rattle.model.proofs.{Tree.nogoods-append, Endings.entails-mono}
+use Rattle.arrays.specs.inner.Places.{ENTAILED, OBEYED}
 use Rattle.filter.specs.Marks.{Vacuous, Skippable}
 use Rattle.filter.proofs.Marks.{vacuous-nil, vacuous-mono, skippable-mono, skippable-append, skipped-here}
-use Rattle.prune_symmetries.specs.Levels.{Mark, MarkBy, Resumes}
+use Rattle.prune_symmetries.specs.inner.Levels.{Mark, MarkBy, Resumes}
 
 pub mark-start : (p : Problem) (ds prefix : List ℕ) (e : ℕ) → Mark p ds prefix e 0
 unfolding nogoodsOf below upFrom flat obeysFrom

@@ -1,32 +1,19 @@
 -- What the passes and the split leave is what the filter leaves, and the answer is a mark. Assumes nothing.
-use mathlib.Core.Path.{_≡_, refl, sym, ap, _∙_, subst}
-use mathlib.Core.Bool.{Bool}
-use mathlib.Core.List.{List, [], _++_, append-nil, append-assoc, List·Memᴰ, Memᴰ·append-right}
-use mathlib.Core.Logic.{_⊎_, inl, inr}
-use Prim.Native.Nat.{ℕ, _+_, _*_, _%_, _≤_, _<_}
-use native.Mathlib.Omega.{arith}
-use lib.ListN.{length, take}
-use lib.Seq.{length-take-le, take-take}
-use borrow.Author.Tests.{ne-eqb}
-use Rattle.model.specs.Lists.{at}
-use Rattle.model.specs.ValueSets.{anyEmpty}
-use Rattle.model.specs.Problem.{Problem}
-use Rattle.model.specs.Nogood.{Entry, equality, filtered, entailed, filterEnding, Entails}
-use Rattle.model.specs.Search.{nogoodsOf}
-use Rattle.model.proofs.Lists.{not-of, of-T}
-use Rattle.model.proofs.Sets.{empty-e}
-use Rattle.model.proofs.Endings.{entailed-exactly}
-use Rattle.arrays.specs.Places.{ENTAILED, OBEYED, FAILED}
-use Rattle.arrays.specs.Layout.{symmetryAt}
-use Rattle.filter.specs.Scan.{None, Passed, Remainder}
-use Rattle.filter.specs.Marks.{Vacuous, NamesGone, Skippable}
-use Rattle.filter.proofs.Marks.{vacuous-mono, vacuous-append}
+use Rattle.model.specs.Kit.{_≡_, refl, sym, ap, _∙_, subst, Bool, List, [], _++_, append-nil, append-assoc, List·Memᴰ, _⊎_, inl, inr, ℕ, _+_, _*_, _%_, _≤_, _<_, arith, length}
+use Rattle.model.specs.Kit.{take, length-take-le, ne-eqb}
+use mathlib.Core.List.{Memᴰ·append-right}
+use lib.Seq.{take-take}
+use Rattle.model.specs.{Lists.at, ValueSets.anyEmpty, Problem.Problem, Problem.symmetryAt, Nogood.Entry, Nogood.equality, Nogood.filtered, Nogood.entailed, Nogood.filterEnding}
+use Rattle.model.specs.{Nogood.Entails, Search.nogoodsOf}
+use Rattle.model.proofs.{Lists.not-of, Lists.of-T, Sets.empty-e, Endings.entailed-exactly}
+use Rattle.arrays.specs.inner.Places.{ENTAILED, OBEYED, FAILED}
+use Rattle.filter.specs.{inner.Scan.None, inner.Scan.Passed, inner.Scan.Remainder, Marks.Vacuous, Marks.NamesGone, Marks.Skippable}
+use Rattle.filter.proofs.{Marks.vacuous-mono, Marks.vacuous-append, Endings.none-failed, Endings.passed-ending, Endings.ended-entailed}
+use Rattle.prune_symmetries.specs.inner.Levels.{MarkBy, Mark, endingAt, FilterRequires, leaves, FilterEnsures, cuts, levels, CutsMade, CutsObeyed, NoneObeys, Ready}
+use Rattle.prune_symmetries.specs.inner.Levels.{splitEntries, SplitReached, PassResult, passFailed, passObeyed, passEnded, passSplit, SplitResult}
+use Rattle.prune_symmetries.proofs.{Levels.levels-append, Levels.levels-split, Levels.nogoods-are, Splits.short, Splits.at-obeyed, Splits.at-entailed, CutsMade.from-as}
+use Rattle.prune_symmetries.proofs.CutsMade.{same-length, vacuous-made, made-on, obeyed-on, none-on}
 use Rattle.filter.proofs.Front
-use Rattle.filter.proofs.Endings.{none-failed, passed-ending, ended-entailed}
-use Rattle.prune_symmetries.specs.Levels.{MarkBy, Mark, endingAt, FilterRequires, leaves, FilterEnsures, cuts, levels, CutsMade, CutsObeyed, NoneObeys, Ready, splitEntries, SplitReached, PassResult, passFailed, passObeyed, passEnded, passSplit, SplitResult}
-use Rattle.prune_symmetries.proofs.Levels.{levels-append, levels-split, nogoods-are}
-use Rattle.prune_symmetries.proofs.Splits.{short, at-obeyed, at-entailed}
-use Rattle.prune_symmetries.proofs.CutsMade.{from-as, same-length, vacuous-made, made-on, obeyed-on, none-on}
 
 module _ {p : Problem} {sets work tables : List ℕ} {e k start : ℕ} (w : FilterRequires p sets work tables e k start) where
   abbrev n : ℕ
@@ -65,7 +52,8 @@ module _ {p : Problem} {sets work tables : List ℕ} {e k start : ℕ} (w : Filt
     mark-for-good q g = subst (λ (es : List Entry). Skippable (take n ts) es) (sym (nogoods-at k (omega arith))) (record { entailed = every q; gone = g })
 
     -- the levels up to j say nothing more
-    mark-vacuous : (j m : ℕ) → j ≤ k → m % ENTAILED ≡ j → m < ENTAILED * (k + 1) → (ENTAILED * k ≤ m → Entails (take n ts) (levels p work e 0 k)) → Vacuous (take n ts) (levels p work e 0 j) → Mark p (take n ts) (take k work) e m
+    mark-vacuous : (j m : ℕ) → j ≤ k → m % ENTAILED ≡ j → m < ENTAILED * (k + 1) → (ENTAILED * k ≤ m → Entails (take n ts) (levels p work e 0 k)) → Vacuous (take n ts) (levels p work e 0 j)
+        → Mark p (take n ts) (take k work) e m
     mark-vacuous j m h q l f i =
         let s = short ready in
         let u = size in
@@ -98,7 +86,8 @@ module _ {p : Problem} {sets work tables : List ℕ} {e k start : ℕ} (w : Filt
         sixteen = l ∙ w .live .sixteen;
       }
 
-  ensures-live : (ts : List ℕ) (r : ℕ) → (r ≡ FAILED → ⊥) → Remainder n sets (levels p work e 0 k) ts → endingAt k r ≡ filterEnding (take n sets) (levels p work e 0 k) → Mark p (take n ts) (take k work) e r → FilterEnsures p sets work e k ts r
+  ensures-live : (ts : List ℕ) (r : ℕ) → (r ≡ FAILED → ⊥) → Remainder n sets (levels p work e 0 k) ts → endingAt k r ≡ filterEnding (take n sets) (levels p work e 0 k) → Mark p (take n ts)
+      (take k work) e r → FilterEnsures p sets work e k ts r
   ensures-live ts r h z q m =
       let a : take n ts ≡ leaves p sets work e k = z .left ∙ ap (filtered (take n sets)) (sym (nogoods-at k (omega arith))) in
       record {
@@ -179,8 +168,14 @@ module _ {p : Problem} {sets work tables : List ℕ} {e k start : ℕ} (w : Filt
               let d : filterEnding (take n sets) (levels p work e 0 k) ≡ entailed = sym ending ∙ ap (endingAt k) (q .0) ∙ at-obeyed k s in
               ensures-live ts r (λ z. let o = q .0 in omega arith) left ending
               (subst (Mark p (take n ts) (take k work) e) (sym (q .0))
-              (mark-for-good ts left d
-              (h .0, h .1, subst (λ (es : List Entry). List·Memᴰ (equality (h .0) (h .1)) es) whole (Memᴰ·append-right (levels p work e 0 start ++ (levels p work e start j ++ cuts p e j (at work j))) (h .2)), h .3, h .4)))
+              (mark-for-good ts left d (
+                h .0,
+                h .1,
+                subst (λ (es : List Entry). List·Memᴰ (equality (h .0) (h .1)) es) whole
+                    (Memᴰ·append-right (levels p work e 0 start ++ (levels p work e start j ++ cuts p e j (at work j))) (h .2)),
+                h .3,
+                h .4,
+              )))
           go (inr (inl q)) =
               let l = f .at-split .inside in
               ensures-live ts r (λ z. omega arith) left ending

@@ -1,31 +1,18 @@
 -- The level at which a pass stops, its own pair being one that some assignments have and some have not. Assumes nothing.
-use mathlib.Core.Path.{_≡_, refl, sym, ap, ap₂, _∙_, subst}
-use mathlib.Core.Bool.{Bool, true, false, not}
-use mathlib.Core.List.{List, [], append-nil, List·Memᴰ·head}
-use mathlib.Core.Logic.{_⊎_, inl, inr}
-use Prim.Native.Nat.{ℕ, _+_, _*_, _/_, _%_, _≤_, _<_}
-use native.Mathlib.Decide.{decLt}
-use native.Mathlib.Omega.{arith}
-use lib.Dec.{T}
-use lib.ListN.{take}
-use borrow.Author.Tests.{ne-eqb, le-leb, lt-leb}
-use Rattle.model.specs.Lists.{at, choose}
-use Rattle.model.specs.ValueSets.{has, withoutMask}
-use Rattle.model.specs.Problem.{Problem}
-use Rattle.model.specs.Nogood.{Entry, disequality, failed, entailed, consistent, endingBy, everyObeys, filterEnding}
-use Rattle.model.proofs.Lists.{at-set, at-take}
-use Rattle.model.proofs.Sets.{inside-refl}
-use Rattle.arrays.specs.Places.{ENTAILED, OBEYED, FAILED}
-use Rattle.filter.specs.declared.entry.Step.{Step}
-use Rattle.filter.specs.Scan.{after, Right, Stepped, None, Some, Live, Passed, Remainder, Changed}
-use Rattle.filter.specs.Marks.{NamesGone}
+use Rattle.model.specs.Kit.{_≡_, refl, sym, ap, ap₂, _∙_, subst, Bool, true, false, not, List, [], append-nil, List·Memᴰ·head, _⊎_, inl, inr, ℕ, _+_, _*_, _/_, _%_, _≤_, _<_}
+use Rattle.model.specs.Kit.{decLt, arith, T, take, ne-eqb, le-leb, lt-leb}
+use Rattle.model.specs.{Lists.at, Lists.choose, ValueSets.has, ValueSets.withoutMask, Problem.Problem, Nogood.Entry, Nogood.disequality, Nogood.failed, Nogood.entailed}
+use Rattle.model.specs.Nogood.{consistent, endingBy, everyObeys, filterEnding}
+use Rattle.model.proofs.{Lists.at-set, Lists.at-take, Sets.inside-refl}
+use Rattle.arrays.specs.inner.Places.{ENTAILED, OBEYED, FAILED}
+use Rattle.filter.specs.{declared.entry.Step.Step, inner.Scan.after, inner.Scan.Right, inner.Scan.Stepped, inner.Scan.None, inner.Scan.Some, inner.Scan.Live, inner.Scan.Passed}
+use Rattle.filter.specs.{inner.Scan.Remainder, inner.Scan.Changed, Marks.NamesGone}
+use Rattle.filter.proofs.Endings.{every-passed, every-changed, ended-every, unchanged, changed-front, front-consistent, front-remainder, kept-ending, gone-entailed}
+use Rattle.prune_symmetries.specs.inner.Levels.{imageAt, endingAt, cutOf, keepOf, levels, ownAt, Held, Ready, AtSplit, SplitReached, splitEntries, PassResult, passFailed}
+use Rattle.prune_symmetries.specs.inner.Levels.{passObeyed, passEnded, passSplit, forcedBy, SplitResult}
+use Rattle.prune_symmetries.proofs.{Levels.levels-split, CutsMade.from-as, ImageTables.image-inside, ImageTables.image-asks, ImageTables.image-is}
 use Rattle.filter.proofs.Scan
 use Rattle.filter.proofs.Front
-use Rattle.filter.proofs.Endings.{every-passed, every-changed, ended-every, unchanged, changed-front, front-consistent, front-remainder, kept-ending, gone-entailed}
-use Rattle.prune_symmetries.specs.Levels.{imageAt, endingAt, cutOf, keepOf, levels, ownAt, Held, Ready, AtSplit, SplitReached, splitEntries, PassResult, passFailed, passObeyed, passEnded, passSplit, forcedBy, SplitResult}
-use Rattle.prune_symmetries.proofs.Levels.{levels-split}
-use Rattle.prune_symmetries.proofs.CutsMade.{from-as}
-use Rattle.prune_symmetries.proofs.ImageTables.{image-inside, image-asks, image-is}
 
 own-right : {p : Problem} {ss work tables : List ℕ} {e k j : ℕ} → AtSplit p ss work tables e k j → Right (p .variables) (keepOf (ownAt p work e j))
 own-right {p} {ss} {work} {tables} {e} {k} {j} w = (image-inside (w .tabled) j (at work j) (omega (arith, w .inside, w .prefix .bound)) (w .prefix .drawn j (w .inside)), omega arith)
@@ -59,13 +46,16 @@ module _ {p : Problem} {ss work tables : List ℕ} {e k start : ℕ} (w : Ready 
     pass-left c l = let f = pass-split c l in from-as (levels-split p work e start r k (f .begun) l) (f .made .passed (splitEntries p work e k r))
 
     -- some assignment obeys, and something is known of what is left
-    pass-some : PassResult p ss work tables e k start rs r → (r ≡ FAILED → ⊥) → Some (p .variables) ss (levels p work e start k) × ((gs : List Entry) × Passed (p .variables) ss (levels p work e start k) rs gs)
+    pass-some : PassResult p ss work tables e k start rs r → (r ≡ FAILED → ⊥) → Some (p .variables) ss (levels p work e start k) ×
+        ((gs : List Entry) × Passed (p .variables) ss (levels p work e start k) rs gs)
     pass-some c h = go (decLt r k)
       where
         go : Dec (r < k) → Some (p .variables) ss (levels p work e start k) × ((gs : List Entry) × Passed (p .variables) ss (levels p work e start k) rs gs)
         go (yes l) =
-            let f = pass-split c l in
-            (Front.split-some (ownAt p work e r / 16) (ownAt p work e r % 16) (levels p work e (r + 1) k) (pass-left c l) (own-right (f .at-split)) (f .at-split .split), (splitEntries p work e k r, pass-left c l))
+            let f = pass-split c l in (
+              Front.split-some (ownAt p work e r / 16) (ownAt p work e r % 16) (levels p work e (r + 1) k) (pass-left c l) (own-right (f .at-split)) (f .at-split .split),
+              (splitEntries p work e k r, pass-left c l),
+            )
         go (no l) = let q = pass-end c h (omega arith) in (Front.ended-some q, ([], q))
 
 -- ---- how the filter ended, by the answer
@@ -139,7 +129,8 @@ module _ {p : Problem} {ss work tables : List ℕ} {e k j : ℕ} (w : AtSplit p 
       none-as z = subst (λ (l : List ℕ). None n l later) forced-as z
 
       -- no assignment has it: the value goes, and every one that is left breaks the equality
-      pub resolve-gone : {rs : List ℕ} {r : ℕ} → PassResult p ts work tables e k (j + 1) rs r → r ≡ FAILED → {us : List ℕ} {s : Step} → Stepped ss (cutOf y) us s → SplitResult p ss work e k j us OBEYED
+      pub resolve-gone : {rs : List ℕ} {r : ℕ} → PassResult p ts work tables e k (j + 1) rs r → r ≡ FAILED → {us : List ℕ} {s : Step} → Stepped ss (cutOf y) us s
+          → SplitResult p ss work e k j us OBEYED
       resolve-gone c z {us} {s} st =
           subst (λ (l : List ℕ). SplitResult p ss work e k j l OBEYED) (sym (st .sets ∙ ap (λ (u : ℕ). after ss (cutOf u)) is))
           (record {
@@ -158,7 +149,8 @@ module _ {p : Problem} {ss work tables : List ℕ} {e k j : ℕ} (w : AtSplit p 
               (subst (λ (m : ℕ). T (has m v)) (at-take n out x (right .0) ∙ at-set ss x (withoutMask (at ss x) v) (omega (arith, right .0, w .held .live .few, w .held .live .sixteen))) t)
 
       -- one has it: nothing goes, and it is entailed exactly if every one that has it obeys
-      kept : (r : ℕ) → Some n ts later → (every : Bool) → everyObeys (take n ts) later ≡ every → endingAt k r ≡ endingBy true every → (r ≡ j) ⊎ (r ≡ ENTAILED * k + j) → SplitResult p ss work e k j ss r
+      kept : (r : ℕ) → Some n ts later → (every : Bool) → everyObeys (take n ts) later ≡ every → endingAt k r ≡ endingBy true every → (r ≡ j) ⊎ (r ≡ ENTAILED * k + j)
+          → SplitResult p ss work e k j ss r
       kept r t every q z a =
           let t′ : Some n (forcedBy ss (ownAt p work e j)) later = subst (λ (l : List ℕ). Some n l later) forced-as t in
           record {

@@ -1,25 +1,16 @@
 -- The scan of a level and of the levels of a prefix: what each turn does, and what its end says. Assumes nothing.
-use mathlib.Core.Path.{_≡_, refl, sym, ap, _∙_, subst}
-use mathlib.Core.Bool.{Bool, true, false}
-use mathlib.Core.List.{List, [], _∷_, _++_}
-use Prim.Native.Nat.{ℕ, _+_, _*_, _/_, _%_, _≤_, _<_}
-use native.Mathlib.Omega.{arith}
-use lib.Dec.{T}
-use lib.ListN.{take}
-use Rattle.model.specs.Lists.{at}
-use Rattle.model.specs.Problem.{Problem}
-use Rattle.model.specs.Nogood.{Entry}
-use Rattle.filter.specs.declared.entry.Step.{Step}
-use Rattle.filter.specs.declared.entry.Step.the-variants.{Next, Failed, Obeyed, Split}
-use Rattle.filter.specs.Scan.{Right, Stepped}
+use Rattle.model.specs.Kit.{_≡_, refl, sym, ap, _∙_, subst, Bool, true, false, List, [], _∷_, _++_, ℕ, _+_, _*_, _/_, _%_, _≤_, _<_, arith, T, take}
+use Rattle.model.specs.{Lists.at, Problem.Problem, Nogood.Entry}
+use Rattle.filter.specs.{declared.entry.Step.Step, declared.entry.Step.the-variants.Next, declared.entry.Step.the-variants.Failed, declared.entry.Step.the-variants.Obeyed}
+use Rattle.filter.specs.{declared.entry.Step.the-variants.Split, inner.Scan.Right, inner.Scan.Stepped}
 use Rattle.filter.proofs.Marks.{vacuous-nil, vacuous-mono}
-use Rattle.filter.proofs.Front
-use Rattle.arrays.specs.Places.{ENTAILED, OBEYED, FAILED}
-use Rattle.arrays.specs.Tables.{imageOf}
-use Rattle.prune_symmetries.specs.Levels.{imageAt, keepOf, cuts, levelOf, levels, CutsMade, CutsObeyed, NoneObeys, Held, Level, CutResult, LevelResult, Ready, PassResult, passFailed, passObeyed, passEnded, passSplit}
-use Rattle.prune_symmetries.proofs.Levels.{levels-none, levels-append, levels-one}
-use Rattle.prune_symmetries.proofs.CutsMade.{same-length, vacuous-made, equality-next, equality-obeyed, made-live, made-on, obeyed-on, none-on, obeyed-more, none-more}
+use Rattle.arrays.specs.{inner.Places.ENTAILED, inner.Places.OBEYED, inner.Places.FAILED, inner.Tables.imageOf}
+use Rattle.prune_symmetries.specs.inner.Levels.{imageAt, keepOf, cuts, levelOf, levels, CutsMade, CutsObeyed, NoneObeys, Held, Level, CutResult, LevelResult, Ready}
+use Rattle.prune_symmetries.specs.inner.Levels.{PassResult, passFailed, passObeyed, passEnded, passSplit}
+use Rattle.prune_symmetries.proofs.{Levels.levels-none, Levels.levels-append, Levels.levels-one, CutsMade.same-length, CutsMade.vacuous-made, CutsMade.equality-next}
+use Rattle.prune_symmetries.proofs.CutsMade.{equality-obeyed, made-live, made-on, obeyed-on, none-on, obeyed-more, none-more}
 use Rattle.prune_symmetries.proofs.ImageTables.{image-inside, image-is}
+use Rattle.filter.proofs.Front
 
 -- ---- a level: its cuts, then its own pair
 module _ {p : Problem} {ss tables : List ℕ} {e x v : ℕ} (w : Level p ss tables e x v) where
@@ -128,6 +119,7 @@ module _ {p : Problem} {ss work tables : List ℕ} {e k start : ℕ} (w : Ready 
             passSplit h (record {
               at-split = record { tabled = w .tabled; held = held-on (held-on (w .held) (i .made)) (s .made); prefix = w .prefix; inside = h; split = s .split };
               begun = i .begun;
-              before = vacuous-mono (take (p .variables) rs) (take (p .variables) ts) (levels p work e start j) (same-length (made-live (i .made)) (made-live (s .made))) (s .made .passed [] .less) (i .made .vacuous);
+              before = vacuous-mono (take (p .variables) rs) (take (p .variables) ts) (levels p work e start j) (same-length (made-live (i .made)) (made-live (s .made))) (s .made .passed [] .less)
+                  (i .made .vacuous);
               made = made-on (i .made) (cuts p e j (at work j)) ts (s .made);
             })

@@ -3,11 +3,12 @@
 ghost use mathlib.Core.Path.{_≡_};
 ghost use Prim.Native.Nat.{_+_, _*_, _%_, _≤_, _<_};
 ghost use lib.Dec.{ltb};
-ghost use Rattle.arrays.specs.Places.{ENTAILED, TABLES};
+ghost use Rattle.arrays.specs.inner.Places.{ENTAILED, TABLES};
 ghost use lib.ListN.{length};
 ghost use Rattle.model.specs.Lists.{at};
 ghost use Rattle.model.specs.Problem.{Problem};
-ghost use Rattle.prune_symmetries.specs.Levels.{FilterRequires, FilterEnsures, imageAt, Missed, Taken, Level, cuts, CutResult, LevelResult, Ready, PassResult, AtSplit, SplitResult};
+ghost use Rattle.prune_symmetries.specs.inner.Levels.{FilterRequires, FilterEnsures, imageAt, Missed, Taken, Level, cuts, CutResult, LevelResult, Ready};
+ghost use Rattle.prune_symmetries.specs.inner.Levels.{PassResult, AtSplit, SplitResult};
 use arrays::ENTAILED;
 use arrays::FAILED;
 use arrays::OBEYED;
@@ -52,7 +53,8 @@ fn take(sets: &mut [u16; 16], tables: &Tables, first: usize) -> bool
 fn cut(sets: &mut [u16; 16], tables: &Tables, e: usize, x: usize, v: usize) -> bool
     requires { ⌜ ((p : Problem) × Level p (now sets) (now tables) e x v) ⌝ }
     ensures sixteen { λ _. ⌜ length (now (sets .exit)) ≡ length (now (sets .entry)) ⌝ }
-    ensures entries { λ r. ⌜ ((p : Problem) → Level p (now (sets .entry)) (now (tables .entry)) e x v → CutResult r (p .variables) (now (sets .entry)) (cuts p e x v) (now (sets .exit))) ⌝ }
+    ensures entries { λ r. ⌜ ((p : Problem) → Level p (now (sets .entry)) (now (tables .entry)) e x v → CutResult r (p .variables) (now (sets .entry))
+        (cuts p e x v) (now (sets .exit))) ⌝ }
 {
     let first = SMALLER + 3072 * e + 256 * x + 16 * v;
     if !hits(sets, tables, first) {
@@ -73,7 +75,8 @@ fn image(tables: &Tables, e: usize, x: usize, v: usize) -> u16
 fn level(sets: &mut [u16; 16], tables: &Tables, e: usize, x: usize, v: usize) -> Step
     requires { ⌜ ((p : Problem) × Level p (now sets) (now tables) e x v) ⌝ }
     ensures sixteen { λ _. ⌜ length (now (sets .exit)) ≡ length (now (sets .entry)) ⌝ }
-    ensures entries { λ r. ⌜ ((p : Problem) → Level p (now (sets .entry)) (now (tables .entry)) e x v → LevelResult r p (now (sets .entry)) e x v (now (sets .exit))) ⌝ }
+    ensures entries { λ r. ⌜ ((p : Problem) → Level p (now (sets .entry)) (now (tables .entry)) e x v → LevelResult r p (now (sets .entry)) e x v
+        (now (sets .exit))) ⌝ }
 {
     if cut(sets, tables, e, x, v) {
         return Step::Failed;
@@ -86,7 +89,8 @@ fn level(sets: &mut [u16; 16], tables: &Tables, e: usize, x: usize, v: usize) ->
 fn pass(sets: &mut [u16; 16], work: &Work, tables: &Tables, e: usize, k: usize, start: usize) -> u64
     requires { ⌜ ((p : Problem) × Ready p (now sets) (now work) (now tables) e k start) ⌝ }
     ensures sixteen { λ _. ⌜ length (now (sets .exit)) ≡ length (now (sets .entry)) ⌝ }
-    ensures entries { λ r. ⌜ ((p : Problem) → Ready p (now (sets .entry)) (now (work .entry)) (now (tables .entry)) e k start → PassResult p (now (sets .entry)) (now (work .entry)) (now (tables .entry)) e k start (now (sets .exit)) r) ⌝ }
+    ensures entries { λ r. ⌜ ((p : Problem) → Ready p (now (sets .entry)) (now (work .entry)) (now (tables .entry)) e k start → PassResult p
+        (now (sets .entry)) (now (work .entry)) (now (tables .entry)) e k start (now (sets .exit)) r) ⌝ }
 {
     let mut j = start;
     while j < k {
@@ -114,7 +118,8 @@ fn resolve(
     split: usize,
 ) -> u64
     requires { ⌜ ((p : Problem) × AtSplit p (now sets) (now work) (now tables) e k split) ⌝ }
-    ensures { λ r. ⌜ ((p : Problem) → AtSplit p (now (sets .entry)) (now (work .entry)) (now (tables .entry)) e k split → SplitResult p (now (sets .entry)) (now (work .entry)) e k split (now (sets .exit)) r) ⌝ }
+    ensures { λ r. ⌜ ((p : Problem) → AtSplit p (now (sets .entry)) (now (work .entry)) (now (tables .entry)) e k split → SplitResult p (now (sets .entry))
+        (now (work .entry)) e k split (now (sets .exit)) r) ⌝ }
 {
     let y = image(tables, e, split, work[split] as usize);
     let x = (y / 16) as usize;
@@ -161,7 +166,8 @@ pub fn filter(
     mark: u64,
 ) -> u64
     requires { ⌜ ((p : Problem) × FilterRequires p (now sets) (now work) (now tables) e k (mark % ENTAILED)) ⌝ }
-    ensures { λ r. ⌜ ((p : Problem) → FilterRequires p (now (sets .entry)) (now (work .entry)) (now (tables .entry)) e k (mark % ENTAILED) → FilterEnsures p (now (sets .entry)) (now (work .entry)) e k (now (sets .exit)) r) ⌝ }
+    ensures { λ r. ⌜ ((p : Problem) → FilterRequires p (now (sets .entry)) (now (work .entry)) (now (tables .entry)) e k (mark % ENTAILED) → FilterEnsures p
+        (now (sets .entry)) (now (work .entry)) e k (now (sets .exit)) r) ⌝ }
 {
     let reached = pass(sets, work, tables, e, k, (mark % ENTAILED) as usize);
     if reached < k as u64 {

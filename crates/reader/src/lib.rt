@@ -4,7 +4,7 @@ ghost use mathlib.Core.Path.{_≡_};
 ghost use Prim.Native.Nat.{_+_, _≤_, _<_, _^_};
 ghost use lib.ListN.{length};
 ghost use Rattle.model.specs.Sheet.{«word» as wordOf, headerOf};
-ghost use Rattle.reader.specs.Read.{stated};
+ghost use Rattle.reader.specs.inner.Read.{stated};
 
 // The eight numbers of the header.
 pub struct Header {

@@ -1,14 +1,7 @@
 -- Decimal digits: the last digit, and how many there are. Laws of `digits`. Assumes nothing.
-use mathlib.Core.Path.{_≡_, refl, sym, ap, _∙_, subst}
-use mathlib.Core.Logic.{_⊎_, inl, inr, ⊎-elim}
-use mathlib.Core.Bool.{Bool, true, false}
-use mathlib.Core.List.{List, [], _∷_, _++_}
-use Prim.Native.Nat.{ℕ, zero, suc, _+_, _/_, _%_, _^_, _≤_, _<_}
+use Rattle.model.specs.Kit.{_≡_, refl, sym, ap, _∙_, subst, _⊎_, inl, inr, ⊎-elim, Bool, true, false, List, [], _∷_, _++_, ℕ, zero, suc, _+_, _/_, _%_, _^_, _≤_, _<_, arith}
+use Rattle.model.specs.Kit.{lt-ltb, le-ltb, ltb-true, ltb-false, ltb, length, length-append}
 use native.Mathlib.Nat.{pow-succ'}
-use native.Mathlib.Omega.{arith}
-use borrow.Author.Tests.{lt-ltb, le-ltb, ltb-true, ltb-false}
-use lib.Dec.{ltb}
-use lib.ListN.{length, length-append}
 use Rattle.report.specs.Report.{digits, decimal}
 use Rattle.model.specs.Written.{Written}
 use Rattle.model.proofs.Written.{written-then}
@@ -75,7 +68,8 @@ decimal-below k n h = go 20 k n h
     go : (f k n : ℕ) → n < 10 ^ suc k → length (digits f n) ≤ suc k
     go zero k n h = omega arith
     go (suc f) zero n h = omega (arith, ap length (digits-one f n h))
-    go (suc f) (suc k) n h = ⊎-elim (λ l. omega (arith, ap length (digits-one f n l))) (λ l. omega (arith, ap length (digits-more f n l), length-append (digits f (n / 10)) ((48 + n % 10) ∷ []), go f k (n / 10) (omega (arith, pow-succ' 10 (suc k))))) (below-ten n)
+    go (suc f) (suc k) n h = ⊎-elim (λ l. omega (arith, ap length (digits-one f n l))) (λ l. omega
+        (arith, ap length (digits-more f n l), length-append (digits f (n / 10)) ((48 + n % 10) ∷ []), go f k (n / 10) (omega (arith, pow-succ' 10 (suc k))))) (below-ten n)
 
 pub length-one : (n : ℕ) → n < 10 → length (decimal n) ≡ 1
 length-one n h = ap length (decimal-one n h)
@@ -93,6 +87,7 @@ length-three n g h = length-more n (omega arith) (omega arith) ∙ ap (λ (k : �
 pub put-one : {d : List ℕ} {at n : ℕ} {e : List ℕ} {r : ℕ} → n < 10 → Written d at ((48 + n) ∷ []) e r → Written d at (decimal n) e r
 put-one {d} {at} {n} {e} {r} h w = subst (λ (l : List ℕ). Written d at l e r) (sym (decimal-one n h)) w
 
-pub put-more : {d : List ℕ} {at n : ℕ} {e : List ℕ} {r : ℕ} {f : List ℕ} {s : ℕ} → 10 ≤ n → n < 2 ^ 64 → at + length (decimal n) ≤ length d → Written d at (decimal (n / 10)) e r → Written e r ((48 + n % 10) ∷ []) f s → Written d at (decimal n) f s
+pub put-more : {d : List ℕ} {at n : ℕ} {e : List ℕ} {r : ℕ} {f : List ℕ} {s : ℕ} → 10 ≤ n → n < 2 ^ 64 → at + length (decimal n) ≤ length d → Written d at (decimal (n / 10)) e r → Written e r
+    ((48 + n % 10) ∷ []) f s → Written d at (decimal n) f s
 put-more {d} {at} {n} {e} {r} {f} {s} g h fits v w =
     subst (λ (l : List ℕ). Written d at l f s) (sym (decimal-more n g h)) (written-then (omega (arith, length-more n g h, v .ends)) v w)

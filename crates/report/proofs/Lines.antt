@@ -1,20 +1,14 @@
 -- Fields, lines and the lines of the listed plans, put one after the other. Assumes nothing.
-use mathlib.Core.Path.{_≡_, refl, sym, ap, ap₂, _∙_, subst}
-use mathlib.Core.List.{List, [], _∷_, _++_, map, map-append, append-assoc, append-nil}
-use Prim.Native.Nat.{ℕ, zero, suc, _+_, _*_, _-_, _≤_, _<_}
-use native.Mathlib.Nat.{zero-mul, suc-mul, mul-le-mul-left, mul-le-mul-right, add-comm, add-zero, add-sub-cancel-left}
-use native.Mathlib.Numerals.{add-one}
-use native.Mathlib.Omega.{arith}
-use lib.ListN.{length, take, drop, getD, length-append, take-append-drop}
-use lib.Seq.{take-suc, take-add, drop-drop, take-all, take-append-seam}
-use Rattle.model.specs.Lists.{flat}
-use Rattle.model.specs.Run.{Ending, plansIn, listedPlans}
-use Rattle.report.specs.Report.{decimal, line, planWord, figureLine, endingLine, resultText}
+use Rattle.model.specs.Kit.{_≡_, refl, sym, ap, ap₂, _∙_, subst, List, [], _∷_, _++_, map, append-assoc, append-nil, ℕ, zero, suc, _+_, _*_, _-_, _≤_, _<_, suc-mul}
+use Rattle.model.specs.Kit.{mul-le-mul-right, add-one, arith, length, take, drop, getD, length-append, take-append-drop, take-all}
+use mathlib.Core.List.{map-append}
+use native.Mathlib.Nat.{zero-mul, mul-le-mul-left, add-comm, add-zero, add-sub-cancel-left}
+use lib.Seq.{take-suc, take-add, drop-drop, take-append-seam}
+use Rattle.model.specs.{Lists.flat, Run.Ending, Run.plansIn, Run.listedPlans, Written.Written, Written.Fronted}
+use Rattle.report.specs.{Report.decimal, Report.line, Report.planWord, Report.figureLine, Report.endingLine, Report.resultText, inner.Text.field, inner.Text.fields}
+use Rattle.report.specs.inner.Text.{planLines, endedText, room, Fitted}
 use Rattle.families_figure.specs.Figure.{Figure, dash}
-use Rattle.model.proofs.Lists.{flat-append}
-use Rattle.report.specs.Text.{field, fields, planLines, endedText, room, Fitted}
-use Rattle.model.specs.Written.{Written, Fronted}
-use Rattle.model.proofs.Written.{written-then, fronted}
+use Rattle.model.proofs.{Lists.flat-append, Written.written-then, Written.fronted}
 use Rattle.report.proofs.Digits.{decimal-most, decimal-below}
 
 -- ---- fields
@@ -37,19 +31,22 @@ fields-step l i h = let e = ap length (fields-snoc l i h) in let f = length-appe
 pub fields-part : (l : List ℕ) (k : ℕ) → length (fields (take k l)) ≤ length (fields l)
 unfolding fields flat
 fields-part l k =
-    let e = ap length (sym (ap (λ (r : List ℕ). flat (map field r)) (take-append-drop k l)) ∙ ap flat (map-append field (take k l) (drop k l)) ∙ flat-append (map field (take k l)) (map field (drop k l))) in
+    let e = ap length (sym (ap (λ (r : List ℕ). flat (map field r)) (take-append-drop k l)) ∙ ap flat (map-append field (take k l) (drop k l)) ∙ flat-append (map field (take k l))
+    (map field (drop k l))) in
     let f = length-append (flat (map field (take k l))) (flat (map field (drop k l))) in
     omega arith
 
 -- one value more of a row
-pub row-turn : {d : List ℕ} {at i : ℕ} {e : List ℕ} {n : ℕ} {f : List ℕ} {m : ℕ} (row : List ℕ) → i < length row → n ≤ length d → Written d at (fields (take i row)) e n → Written e n (field (getD row i 0)) f m → Written d at (fields (take (i + 1) row)) f m
+pub row-turn : {d : List ℕ} {at i : ℕ} {e : List ℕ} {n : ℕ} {f : List ℕ} {m : ℕ} (row : List ℕ) → i < length row → n ≤ length d → Written d at (fields (take i row)) e n → Written e n
+    (field (getD row i 0)) f m → Written d at (fields (take (i + 1) row)) f m
 row-turn {d} {at} {i} {e} {n} {f} {m} row h fits v w = subst (λ (l : List ℕ). Written d at l f m) (sym (fields-snoc row i h)) (written-then fits v w)
 
 pub row-whole : {d : List ℕ} {at i : ℕ} {e : List ℕ} {n : ℕ} (row : List ℕ) → length row ≤ i → Written d at (fields (take i row)) e n → Written d at (fields row) e n
 row-whole {d} {at} {i} {e} {n} row h w = subst (λ (l : List ℕ). Written d at (fields l) e n) (take-all i row h) w
 
 -- ---- lines
-pub put-line : {d : List ℕ} {at : ℕ} {word e : List ℕ} {r : ℕ} {f : List ℕ} {s : ℕ} {g : List ℕ} {t : ℕ} (ns : List ℕ) → s ≤ length d → Written d at word e r → Written e r (fields ns) f s → Written f s (10 ∷ []) g t → Written d at (line word ns) g t
+pub put-line : {d : List ℕ} {at : ℕ} {word e : List ℕ} {r : ℕ} {f : List ℕ} {s : ℕ} {g : List ℕ} {t : ℕ} (ns : List ℕ) → s ≤ length d → Written d at word e r → Written e r (fields ns) f s
+    → Written f s (10 ∷ []) g t → Written d at (line word ns) g t
 unfolding line fields
 put-line ns fits u v w = written-then fits (written-then (omega (arith, v .ends)) u v) w
 
@@ -58,7 +55,8 @@ unfolding line fields
 line-length ns = omega (arith, length-append (planWord ++ fields ns) (10 ∷ []), length-append planWord (fields ns))
 
 -- a word and three numbers; a word and two
-pub put-three : {d : List ℕ} {at : ℕ} {word e : List ℕ} {r : ℕ} {f : List ℕ} {s : ℕ} {g : List ℕ} {t : ℕ} {h : List ℕ} {u : ℕ} {i : List ℕ} {v : ℕ} (a b c : ℕ) → u ≤ length d → Written d at word e r → Written e r (field a) f s → Written f s (field b) g t → Written g t (field c) h u → Written h u (10 ∷ []) i v → Written d at (line word (a ∷ b ∷ c ∷ [])) i v
+pub put-three : {d : List ℕ} {at : ℕ} {word e : List ℕ} {r : ℕ} {f : List ℕ} {s : ℕ} {g : List ℕ} {t : ℕ} {h : List ℕ} {u : ℕ} {i : List ℕ} {v : ℕ} (a b c : ℕ) → u ≤ length d
+    → Written d at word e r → Written e r (field a) f s → Written f s (field b) g t → Written g t (field c) h u → Written h u (10 ∷ []) i v → Written d at (line word (a ∷ b ∷ c ∷ [])) i v
 unfolding line flat
 put-three {d} {at} {word} {e} {r} {f} {s} {g} {t} {h} {u} {i} {v} a b c fits w₁ w₂ w₃ w₄ w₅ =
     let s≤ : s ≤ length d = omega (arith, w₃ .ends, w₄ .ends) in
@@ -67,7 +65,8 @@ put-three {d} {at} {word} {e} {r} {f} {s} {g} {t} {h} {u} {i} {v} a b c fits w�
     subst (λ (l : List ℕ). Written d at (l ++ (10 ∷ [])) i v) same
     (written-then fits (written-then t≤ (written-then s≤ (written-then (omega (arith, w₂ .ends)) w₁ w₂) w₃) w₄) w₅)
 
-pub put-two : {d : List ℕ} {at : ℕ} {word e : List ℕ} {r : ℕ} {f : List ℕ} {s : ℕ} {g : List ℕ} {t : ℕ} {h : List ℕ} {u : ℕ} (a b : ℕ) → t ≤ length d → Written d at word e r → Written e r (field a) f s → Written f s (field b) g t → Written g t (10 ∷ []) h u → Written d at (line word (a ∷ b ∷ [])) h u
+pub put-two : {d : List ℕ} {at : ℕ} {word e : List ℕ} {r : ℕ} {f : List ℕ} {s : ℕ} {g : List ℕ} {t : ℕ} {h : List ℕ} {u : ℕ} (a b : ℕ) → t ≤ length d → Written d at word e r → Written e r
+    (field a) f s → Written f s (field b) g t → Written g t (10 ∷ []) h u → Written d at (line word (a ∷ b ∷ [])) h u
 unfolding line flat
 put-two {d} {at} {word} {e} {r} {f} {s} {g} {t} {h} {u} a b fits w₁ w₂ w₃ w₄ =
     let s≤ : s ≤ length d = omega (arith, w₃ .ends) in
@@ -76,7 +75,8 @@ put-two {d} {at} {word} {e} {r} {f} {s} {g} {t} {h} {u} a b fits w₁ w₂ w₃ 
     (written-then fits (written-then s≤ (written-then (omega (arith, w₂ .ends)) w₁ w₂) w₃) w₄)
 
 -- a word, two numbers and the dash
-pub put-dash : {d : List ℕ} {at : ℕ} {word e : List ℕ} {r : ℕ} {f : List ℕ} {s : ℕ} {g : List ℕ} {t : ℕ} {h : List ℕ} {u : ℕ} (a b : ℕ) → t ≤ length d → Written d at word e r → Written e r (field a) f s → Written f s (field b) g t → Written g t (32 ∷ 45 ∷ 10 ∷ []) h u →
+pub put-dash : {d : List ℕ} {at : ℕ} {word e : List ℕ} {r : ℕ} {f : List ℕ} {s : ℕ} {g : List ℕ} {t : ℕ} {h : List ℕ} {u : ℕ} (a b : ℕ) → t ≤ length d → Written d at word e r → Written e r
+    (field a) f s → Written f s (field b) g t → Written g t (32 ∷ 45 ∷ 10 ∷ []) h u →
     Written d at (figureLine word a b dash) h u
 put-dash a b fits w₁ w₂ w₃ w₄ = written-then fits (written-then (omega (arith, w₃ .ends)) (written-then (omega (arith, w₂ .ends, w₃ .ends)) w₁ w₂) w₃) w₄
 
@@ -108,7 +108,8 @@ plans-snoc n i l =
 pub row-at : (n i at : ℕ) (l : List ℕ) → at ≡ i * n → take (at + n - at) (drop at l) ≡ take n (drop (i * n) l)
 row-at n i at l p = ap (λ (k : ℕ). take k (drop at l)) (add-sub-cancel-left at n) ∙ ap (λ (k : ℕ). take n (drop k l)) p
 
-pub plans-turn : {d e : List ℕ} {r : ℕ} {f : List ℕ} {s : ℕ} (n i at : ℕ) (l : List ℕ) → at ≡ i * n → r ≤ length d → Written d 0 (planLines n i l) e r → Written e r (line planWord (take (at + n - at) (drop at l))) f s → Written d 0 (planLines n (i + 1) l) f s
+pub plans-turn : {d e : List ℕ} {r : ℕ} {f : List ℕ} {s : ℕ} (n i at : ℕ) (l : List ℕ) → at ≡ i * n → r ≤ length d → Written d 0 (planLines n i l) e r → Written e r
+    (line planWord (take (at + n - at) (drop at l))) f s → Written d 0 (planLines n (i + 1) l) f s
 plans-turn {d} {e} {r} {f} {s} n i at l p fits v w =
     subst (λ (t : List ℕ). Written d 0 t f s) (sym (plans-snoc n i l))
     (written-then fits v (subst (λ (t : List ℕ). Written e r (line planWord t) f s) (row-at n i at l p) w))
@@ -116,7 +117,8 @@ plans-turn {d} {e} {r} {f} {s} n i at l p fits v w =
 -- the length of the lines with one more, and with so many more
 pub lines-step : (n i at : ℕ) (l : List ℕ) → at ≡ i * n → length (planLines n (i + 1) l) ≡ length (planLines n i l) + length (line planWord (take (at + n - at) (drop at l)))
 lines-step n i at l p =
-    ap length (plans-snoc n i l) ∙ length-append (planLines n i l) (line planWord (take n (drop (i * n) l))) ∙ ap (λ (r : List ℕ). length (planLines n i l) + length (line planWord r)) (sym (row-at n i at l p))
+    ap length (plans-snoc n i l) ∙ length-append (planLines n i l) (line planWord (take n (drop (i * n) l))) ∙ ap (λ (r : List ℕ). length (planLines n i l) + length (line planWord r))
+    (sym (row-at n i at l p))
 
 -- the lines of k plans are five bytes each beside the fields of their values
 fields-append : (a b : List ℕ) → fields (a ++ b) ≡ fields a ++ fields b
@@ -160,7 +162,8 @@ lines-more n i (suc k) l =
     omega (arith, ap (λ (m : ℕ). length (planLines n m l)) s, lines-more n i k l)
 
 pub lines-fit : (n i plans : ℕ) (l : List ℕ) → i < plans → length (planLines n (i + 1) l) ≤ length (planLines n plans l)
-lines-fit n i plans l h = subst (λ (m : ℕ). length (planLines n (i + 1) l) ≤ length (planLines n m l)) (let e : i + 1 + (plans - (i + 1)) ≡ plans = omega arith in e) (lines-more n (i + 1) (plans - (i + 1)) l)
+lines-fit n i plans l h = subst (λ (m : ℕ). length (planLines n (i + 1) l) ≤ length (planLines n m l)) (let e : i + 1 + (plans - (i + 1)) ≡ plans = omega arith in e)
+    (lines-more n (i + 1) (plans - (i + 1)) l)
 
 -- ---- the whole report
 -- a line that stands at the front of a buffer
@@ -182,7 +185,8 @@ module _ (d lines last : List ℕ) (r : ℕ) (counted : r ≡ length lines + len
       record { count = f .count; most = omega (arith, f .count); fits = λ z. f .bytes; short = λ z. absurd (omega arith) }
 
 -- the plans and then the ending are the text of an ending
-pub ended-fits : {d after : List ℕ} {r : ℕ} (end : Ending) (figure : Figure) (n : ℕ) (list last : List ℕ) → last ≡ endingLine end figure → Fitted d (planLines n (plansIn end) list ++ last) after r → Fitted d (endedText end figure n list) after r
+pub ended-fits : {d after : List ℕ} {r : ℕ} (end : Ending) (figure : Figure) (n : ℕ) (list last : List ℕ) → last ≡ endingLine end figure → Fitted d (planLines n (plansIn end) list ++ last) after r
+    → Fitted d (endedText end figure n list) after r
 unfolding endedText resultText
 ended-fits {d} {after} {r} end figure n list last e f = subst (λ (l : List ℕ). Fitted d (planLines n (plansIn end) list ++ l) after r) e f
 

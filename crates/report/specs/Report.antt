@@ -1,14 +1,15 @@
 -- The text of the report, as bytes (paper 01, "The report"); its last figure is the number of families (paper 02, #104).
-use mathlib.Core.Bool.{true, false}
-use mathlib.Core.List.{List, [], _∷_, _++_, map}
-use Prim.Native.Nat.{ℕ, zero, suc, _+_, _*_, _/_, _%_}
-use lib.ListN.{take}
-use lib.Dec.{ltb}
-use Rattle.model.specs.Lists.{flat}
-use Rattle.model.specs.Verdict.{Verdict, accepted, refused}
-use Rattle.model.specs.Sheet.{verdictOf, problemOf}
-use Rattle.model.specs.Run.{Ending, finished, spent, full, Result, resultOf}
+use Rattle.model.specs.Kit.{true, false, List, [], _∷_, _++_, map, ℕ, zero, suc, _+_, _*_, _/_, _%_, take, ltb}
+use Rattle.model.specs.{Lists.flat, Verdict.Verdict, Verdict.accepted, Verdict.refused, Sheet.verdictOf, Sheet.problemOf, Run.Ending, Run.finished, Run.spent, Run.full, Run.Result}
+use Rattle.model.specs.Run.{resultOf}
 use Rattle.families_figure.specs.Figure.{Figure, number, dash, reportFigure}
+
+-- the limit of a report's run, and the plans that it has room for
+abbrev pub REPORT-LIMIT : ℕ
+REPORT-LIMIT = 1000000
+
+abbrev pub REPORT-PLANS : ℕ
+REPORT-PLANS = 4096
 
 -- a number in decimal, at most k digits
 unfoldable pub digits : ℕ → ℕ → List ℕ
@@ -52,7 +53,7 @@ unfoldable pub resultText : Result → Figure → List ℕ
 resultText r f = flat (map (line planWord) (r .rows)) ++ endingLine (r .ending) f
 
 unfoldable pub reportFor : Verdict → List ℕ → List ℕ
-reportFor accepted b = resultText (resultOf (problemOf b) 1000000 (4096 * problemOf b .variables)) (reportFigure b 1000000)
+reportFor accepted b = resultText (resultOf (problemOf b) REPORT-LIMIT (REPORT-PLANS * problemOf b .variables)) (reportFigure b REPORT-LIMIT)
 reportFor (refused n i) b = line refusedWord (n ∷ i ∷ [])
 
 -- the report on an input: of a longer one its first 65,536 bytes are the sheet

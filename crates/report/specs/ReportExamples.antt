@@ -1,7 +1,6 @@
 -- Reports of paper 01's sheet A and of paper 02's rotation, as one list of statements about the definitions. One theorem says that each holds
 -- (proofs/ReportExamples).
-use mathlib.Core.Path.{_≡_}
-use mathlib.Core.List.{List, [], _∷_}
+use Rattle.model.specs.Kit.{_≡_, List, [], _∷_}
 use Rattle.model.specs.Examples.{sheetA, sheetR}
 use Rattle.report.specs.Report.{reportOf}
 

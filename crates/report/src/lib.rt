@@ -7,8 +7,13 @@ ghost use lib.ListN.{length};
 ghost use Rattle.model.specs.Run.{finished, spent, full};
 ghost use Rattle.families_figure.specs.Figure.{number, dash};
 ghost use Rattle.report.specs.Report.{decimal, line, figureLine, planWord, refusedWord};
-ghost use Rattle.report.specs.Text.{field, fields, planLines, endedText, room, Fitted};
+ghost use Rattle.report.specs.inner.Text.{field, fields, planLines, endedText, room, Fitted};
 ghost use Rattle.model.specs.Written.{Written, Fronted};
+
+// The limit of a report's run, and the plans that it has room for.
+pub const REPORT_LIMIT: u32 = 1000000;
+
+pub const REPORT_PLANS: usize = 4096;
 
 // The room that every report fits.
 pub const REPORT_ROOM: usize = 217160;

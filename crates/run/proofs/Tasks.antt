@@ -1,27 +1,14 @@
 -- What a run that counted up to one plan less than are asked for says. Assumes nothing.
-use mathlib.Core.Path.{_≡_, refl, sym, ap, _∙_}
-use mathlib.Core.Bool.{Bool, true, false}
-use mathlib.Core.List.{List}
-use Prim.Native.Nat.{ℕ, zero, suc, _*_, _-_, _≤_}
-use native.Mathlib.Omega.{arith}
-use lib.Dec.{leb}
-use lib.ListN.{length}
-use Rattle.model.specs.Problem.{Problem}
-use Rattle.model.specs.Search.{nodes}
-use Rattle.model.specs.Verdict.{Verdict, accepted, refused, reply}
-use Rattle.model.specs.Sheet.{problemOf}
-use Rattle.model.specs.Run.{Ending, finished, spent, full, ended, resultOf}
-use Rattle.model.specs.Run as Run
-use Rattle.model.specs.Claims.{plansAmong}
+use Rattle.model.specs.Kit.{_≡_, refl, sym, ap, _∙_, Bool, true, false, List, ℕ, zero, suc, _*_, _-_, _≤_, arith, leb, length}
+use Rattle.model.specs.{Problem.Problem, Search.nodes, Verdict.Verdict, Verdict.accepted, Verdict.refused, Verdict.reply, Sheet.problemOf, Run.Ending, Run.finished, Run.spent}
+use Rattle.model.specs.{Run.full, Run.ended, Run.resultOf, Claims.plansAmong}
 use Rattle.run_input.specs.Lent.{verdictLent, problemLent}
-use Rattle.run_input.proofs.Lent.{passed-all, well-sheet}
-use Rattle.run_enough.specs.AtLeast.{Enough, enough, tooFew, unknown, enoughOf, nodesTo, says}
-use Rattle.run_enough.specs.Lent.{answered, enoughLent}
+use Rattle.run_input.proofs.Lent.{well-sheet}
+use Rattle.run_enough.specs.{AtLeast.Enough, AtLeast.enough, AtLeast.tooFew, AtLeast.unknown, AtLeast.enoughOf, AtLeast.nodesTo, AtLeast.says, Lent.answered, Lent.enoughLent}
 use Rattle.run_enough.proofs.AtLeast.{enough-none, enough-run}
-use Rattle.run.specs.Meaning.{means}
-use Rattle.run.specs.Whole.{Wanted}
-use Rattle.run.specs.Tasks.{enoughNone, enoughFor}
-use Rattle.run.specs.declared.Answer.{Answer}
+use Rattle.run.specs.{Meaning.means, inner.Whole.Wanted, inner.Tasks.enoughNone, inner.Tasks.enoughFor, declared.Answer.Answer}
+use Rattle.model.proofs.Accepted.{is-accepted}
+use Rattle.model.specs.Run as Run
 
 pub none-asked : (b pairs block : List ℕ) (limit : ℕ) → enoughNone b pairs block ≡ enoughLent b pairs block limit 0
 unfolding enoughNone enoughLent
@@ -63,7 +50,7 @@ module _ (b pairs block : List ℕ) (limit : ℕ) (r : Answer) where
       go : (v : Verdict) → verdictLent b pairs block ≡ v → enoughFor (means r) (suc m) ≡ reply v (enoughOf (problemLent b pairs block) limit (suc m))
       go (refused number item) v = ap (λ (x : Run.Answer). enoughFor x (suc m)) (h .refused number item v)
       go accepted v =
-          let some = well-sheet b pairs block (passed-all (verdictLent b pairs block) v) .some in
+          let some = well-sheet b pairs block (is-accepted (verdictLent b pairs block) v) .some in
           let e : suc m - 1 ≡ m = omega arith in
           ap (λ (x : Run.Answer). enoughFor x (suc m)) (h .ended v ∙ ap (λ (k : ℕ). ended (resultOf (problemLent b pairs block) limit (k * problemOf b .variables) .ending)) e)
           ∙ said-ending (problemLent b pairs block) limit m some (resultOf (problemLent b pairs block) limit (m * problemOf b .variables) .ending) refl

@@ -1,38 +1,24 @@
 -- A whole run: its answer, list and tally, of what the search leaves. Assumes nothing.
-use mathlib.Core.Path.{_≡_, refl, sym, ap, ap₂, _∙_}
-use mathlib.Core.Bool.{Bool, true, false}
-use mathlib.Core.List.{List, [], _∷_, map}
-use Prim.Native.Nat.{ℕ, zero, suc, _*_, _-_, _≤_, _<_}
-use native.Mathlib.Omega.{arith}
-use lib.Dec.{eqb}
-use borrow.Author.Tests.{eqb-true, eqb-false}
-use lib.ListN.{length, set, replicate, length-set}
-use Rattle.model.specs.Lists.{flat, at, choose}
-use Rattle.model.specs.Problem.{Problem}
-use Rattle.model.specs.Search.{nodes}
-use Rattle.model.specs.Verdict.{Verdict, accepted, refused, reply}
-use Rattle.model.specs.Verdict as model
-use Rattle.model.specs.Run.{finished, spent, full, refusal, ended, Result, resultOf, written, Tally, tallyFor, plansIn, nodesIn}
-use Rattle.model.specs.Run as Run
-use Rattle.model.specs.Sheet.{problemOf}
-use Rattle.model.proofs.Lists.{at-set, at-set-other}
-use Rattle.model.proofs.Runs.{rows-fit}
-use Rattle.order.specs.Reordered.{write}
-use Rattle.order.specs.RunBy.{resultBy, placeCounts, placeTally, answerBy, listBy, talliedBy}
+use Rattle.model.specs.Kit.{_≡_, refl, sym, ap, ap₂, _∙_, Bool, true, false, List, [], _∷_, map, ℕ, zero, suc, _*_, _-_, _≤_, _<_, arith, eqb, eqb-true, eqb-false, length, set}
+use Rattle.model.specs.Kit.{replicate, length-set}
+use Rattle.model.specs.{Lists.flat, Lists.at, Lists.choose, Problem.Problem, Search.nodes, Verdict.Verdict, Verdict.accepted, Verdict.refused, Verdict.reply, Run.finished}
+use Rattle.model.specs.{Run.spent, Run.full, Run.refusal, Run.ended, Run.Result, Run.resultOf, Run.written, Run.Tally, Run.tallyFor, Run.plansIn, Run.nodesIn, Sheet.problemOf}
+use Rattle.model.proofs.{Lists.at-set, Lists.at-set-other, Runs.rows-fit, Accepted.is-accepted}
+use Rattle.order.specs.{Reordered.write, RunBy.resultBy, RunBy.placeCounts, RunBy.placeTally, RunBy.answerBy, RunBy.listBy, RunBy.talliedBy}
 use Rattle.run_input.specs.Lent.{verdictLent, orderLent, problemWith, problemLent, answerLent, listLent, tallyLent}
-use Rattle.run_input.proofs.Lent.{passed-all, well-sheet}
-use Rattle.arrays.specs.Places.{PLANS, ALL, SPENT, REFUSED, NUMBERS, STACK, SUPPORTS, TABLES, WORK, WANTED}
+use Rattle.run_input.proofs.Lent.{well-sheet}
+use Rattle.arrays.specs.inner.Places.{PLANS, ALL, SPENT, REFUSED, NUMBERS, STACK, SUPPORTS, TABLES, WORK, WANTED}
 use Rattle.sheet.proofs.Whole.{zeros}
 use Rattle.run_state.specs.Walk.{kept, stopIn, tallyBy}
-use Rattle.run.specs.Meaning.{means}
-use Rattle.run_search.specs.Prepared.{bytesFor, Blank}
-use Rattle.run_search.specs.Explored.{resultFor, Explored}
-use Rattle.run.specs.Whole.{Stopped, Answered, Wanted}
-use Rattle.run.specs.declared.Answer.{Answer}
+use Rattle.run.specs.{Meaning.means, inner.Whole.Stopped, inner.Whole.Answered, inner.Whole.Wanted, declared.Answer.Answer}
+use Rattle.run_search.specs.{inner.Prepared.bytesFor, inner.Prepared.Blank, inner.Explored.resultFor, inner.Explored.Explored}
 use Rattle.run_state.proofs.Outcome.{kept-none, kept-over}
+use Rattle.model.specs.Verdict as model
+use Rattle.model.specs.Run as Run
 
 -- ---- the answer
-pub stopped : (task b pairs block : List ℕ) (limit : ℕ) (list : List ℕ) (tally : Tally) (work′ list′ : List ℕ) (tally′ : Tally) (stop : ℕ) → Explored task b pairs block limit list tally work′ list′ tally′ stop → Stopped work′ stop
+pub stopped : (task b pairs block : List ℕ) (limit : ℕ) (list : List ℕ) (tally : Tally) (work′ list′ : List ℕ) (tally′ : Tally) (stop : ℕ)
+    → Explored task b pairs block limit list tally work′ list′ tally′ stop → Stopped work′ stop
 stopped task b pairs block limit list tally work′ list′ tally′ stop h = record { number = λ z. h .refused z .0 .number; known = h .known }
 
 -- an ending is known by its figures and how it stopped
@@ -62,7 +48,8 @@ pub record Ran (task b pairs block : List ℕ) (limit : ℕ) (list : List ℕ) (
       × (list′ ≡ kept (map (write (orderLent b pairs)) (resultFor task b pairs block limit (length list) .rows)) list)
       × (tally′ ≡ tallyBy (orderLent b pairs) (nodes (problemLent b pairs block)) (nodesIn (resultFor task b pairs block limit (length list) .ending)))
 
-module _ (task b pairs block : List ℕ) (limit : ℕ) (list : List ℕ) (tally : Tally) (work′ list′ : List ℕ) (tally′ : Tally) (stop : ℕ) (h : Explored task b pairs block limit list tally work′ list′ tally′ stop) (made : ℕ) (is : made ≡ tally′ .nodes) (r : Answer) (a : Answered work′ made stop r) where
+module _ (task b pairs block : List ℕ) (limit : ℕ) (list : List ℕ) (tally : Tally) (work′ list′ : List ℕ) (tally′ : Tally) (stop : ℕ)
+    (h : Explored task b pairs block limit list tally work′ list′ tally′ stop) (made : ℕ) (is : made ≡ tally′ .nodes) (r : Answer) (a : Answered work′ made stop r) where
   abbrev x : Result
   x = resultFor task b pairs block limit (length list)
 
@@ -123,7 +110,8 @@ kept-listed p order limit list s = go (eqb (length list) 0) refl
         ∙ sym (ap (λ (rows : List (List ℕ)). written (map (write order) rows) list) (ap (λ (k : ℕ). resultOf p limit k .rows) z ∙ no-rows p limit s))
     go false e = kept-over (map (write order) (resultOf p limit (length list) .rows)) list (eqb-false (length list) 0 e)
 
-module _ (task b pairs block : List ℕ) (limit : ℕ) (list : List ℕ) (tally : Tally) (list′ : List ℕ) (tally′ : Tally) (r : Answer) (h : Ran task b pairs block limit list tally list′ tally′ r) (lists : at task WANTED ≡ 0) where
+module _ (task b pairs block : List ℕ) (limit : ℕ) (list : List ℕ) (tally : Tally) (list′ : List ℕ) (tally′ : Tally) (r : Answer) (h : Ran task b pairs block limit list tally list′ tally′ r)
+    (lists : at task WANTED ≡ 0) where
   abbrev y : Result
   y = resultOf (problemLent b pairs block) limit (length list)
 
@@ -140,7 +128,7 @@ module _ (task b pairs block : List ℕ) (limit : ℕ) (list : List ℕ) (tally 
   told (refused number item) v = h .refused number item v
   told accepted v =
       let f = h .ended v in
-      let some = well-sheet b pairs block (passed-all (verdictLent b pairs block) v) .some in (
+      let some = well-sheet b pairs block (is-accepted (verdictLent b pairs block) v) .some in (
         f .0 ∙ ap (λ (z : Result). ended (z .ending)) same-result,
         f .1 ∙ ap (λ (z : Result). kept (map (write (orderLent b pairs)) (z .rows)) list) same-result ∙ kept-listed (problemLent b pairs block) (orderLent b pairs) limit list some,
         f .2 ∙ ap (λ (z : Result). tallyBy (orderLent b pairs) (nodes (problemLent b pairs block)) (nodesIn (z .ending))) same-result,
@@ -169,12 +157,15 @@ module _ (wanted : ℕ) (some : wanted ≡ 0 → ⊥) where
     unlisted = λ n. refl;
   }
 
-  pub wanted-so : (b pairs block : List ℕ) (limit : ℕ) (list : List ℕ) (tally : Tally) (list′ : List ℕ) (tally′ : Tally) (r : Answer) → Ran (set (replicate WORK 0) WANTED wanted) b pairs block limit list tally list′ tally′ r → Wanted wanted b pairs block limit r
+  pub wanted-so : (b pairs block : List ℕ) (limit : ℕ) (list : List ℕ) (tally : Tally) (list′ : List ℕ) (tally′ : Tally) (r : Answer) → Ran
+      (set (replicate WORK 0) WANTED wanted) b pairs block limit list tally list′ tally′ r → Wanted wanted b pairs block limit r
   wanted-so b pairs block limit list tally list′ tally′ r h = record {
     refused = λ number item v. h .refused number item v .0;
-    ended = λ v. h .ended v .0 ∙ ap (λ (k : ℕ). ended (resultOf (problemLent b pairs block) limit k .ending)) (bytes (eqb (at task WANTED) 0) refl ∙ ap (λ (w : ℕ). (w - 1) * problemOf b .variables) at-wanted);
+    ended = λ v. h .ended v .0 ∙ ap (λ (k : ℕ). ended (resultOf (problemLent b pairs block) limit k .ending))
+        (bytes (eqb (at task WANTED) 0) refl ∙ ap (λ (w : ℕ). (w - 1) * problemOf b .variables) at-wanted);
   }
     where
-      bytes : (c : Bool) → eqb (at (set (replicate WORK 0) WANTED wanted) WANTED) 0 ≡ c → choose c (length list) ((at (set (replicate WORK 0) WANTED wanted) WANTED - 1) * problemOf b .variables) ≡ (at (set (replicate WORK 0) WANTED wanted) WANTED - 1) * problemOf b .variables
+      bytes : (c : Bool) → eqb (at (set (replicate WORK 0) WANTED wanted) WANTED) 0 ≡ c → choose c (length list) ((at (set (replicate WORK 0) WANTED wanted) WANTED - 1) * problemOf b .variables) ≡
+          (at (set (replicate WORK 0) WANTED wanted) WANTED - 1) * problemOf b .variables
       bytes true e = absurd (some (sym at-wanted ∙ eqb-true (at task WANTED) 0 e))
       bytes false e = refl

@@ -1,19 +1,11 @@
 -- A call of `run`, `run_with`, `run_lent`, `run_counted` and `at_least`: what it was lent, what it answered, and what the lent bytes are at the end. Each is the function's contract;
 -- promises' `Demands` and its like say what a caller may rely on.
-use mathlib.Core.Path.{_≡_}
-use mathlib.Core.List.{List}
-use Prim.Native.Nat.{ℕ}
-use lib.ListN.{replicate}
+use Rattle.model.specs.Kit.{_≡_, List, ℕ, replicate}
 use Rattle.model.specs.Run.{answerOf, listOf, tallyOf}
 use Rattle.run_input.specs.Lent.{answerLent, listLent, tallyLent}
 use Rattle.run_enough.specs.Lent.{enoughLent}
-use Rattle.run_state.specs.Walk.{noNodes}
-use Rattle.run_state.specs.Meaning.{tallyIn}
-use Rattle.run.specs.Meaning.{means, saidEnough}
-use Rattle.run_state.specs.declared.Tally.{Tally}
-use Rattle.run.specs.declared.Answer.{Answer}
-use Rattle.run.specs.declared.CountedRun.{CountedRun}
-use Rattle.run.specs.declared.Enough.{Enough}
+use Rattle.run_state.specs.{Walk.noNodes, Meaning.tallyIn, declared.Tally.Tally}
+use Rattle.run.specs.{Meaning.means, Meaning.saidEnough, declared.Answer.Answer, declared.CountedRun.CountedRun, declared.Enough.Enough}
 
 -- `run`: sheet b, node limit, list `out` as it came, answer r, list `after` at the end
 pub record Call (b : List ℕ) (limit : ℕ) (out : List ℕ) (r : Answer) (after : List ℕ) : Type 0 where

@@ -1,5 +1,4 @@
 -- What a run answers.
 pub mod Meaning
-pub mod Tasks
-pub mod Whole
 pub mod Calls
+pub mod inner

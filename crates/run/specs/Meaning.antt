@@ -1,13 +1,10 @@
 -- What the answers of `run` mean in the words of model's definitions.
 use Rattle.model.specs.Run.{refusal, answered, ended}
-use Rattle.model.specs.Run as Run
 use Rattle.run_state.specs.Meaning.{endingOf}
-use Rattle.run.specs.declared.Answer.{Answer}
-use Rattle.run.specs.declared.Answer.the-variants.{Refused, Ended}
-use Rattle.run.specs.declared.Enough.{Enough}
+use Rattle.run.specs.{declared.Answer.Answer, declared.Answer.the-variants.Refused, declared.Answer.the-variants.Ended, declared.Enough.Enough}
+use Rattle.run_enough.specs.{AtLeast.enough, AtLeast.tooFew, AtLeast.unknown, Lent.EnoughAnswer}
+use Rattle.model.specs.Run as Run
 use Rattle.run.specs.declared.Enough.the-variants as E
-use Rattle.run_enough.specs.AtLeast.{enough, tooFew, unknown}
-use Rattle.run_enough.specs.Lent.{EnoughAnswer}
 
 abbrev pub means : Answer → Run.Answer
 means (Refused number item) = refusal number item

@@ -17,8 +17,8 @@ use run_state::Tally;
 ghost use mathlib.Core.Path.{_≡_};
 ghost use Rattle.run.specs.Meaning.{means, saidEnough};
 ghost use Rattle.run.specs.Calls.{Call, CallWith, CallLent, CallCounted, CallEnough};
-ghost use Rattle.run.specs.Tasks.{enoughNone, enoughFor};
-ghost use Rattle.run.specs.Whole.{Stopped, Answered, Wanted};
+ghost use Rattle.run.specs.inner.Tasks.{enoughNone, enoughFor};
+ghost use Rattle.run.specs.inner.Whole.{Stopped, Answered, Wanted};
 
 pub enum Answer {
     Refused { number: u8, item: usize },
@@ -72,7 +72,8 @@ pub fn run_lent(
     list: &mut [u8],
     tally: &mut Tally,
 ) -> Answer
-    ensures { λ r. ⌜ CallLent (now (sheet .entry)) (now (pairs .entry)) (now (block .entry)) limit (now (list .entry)) (now (tally .entry)) r (now (list .exit)) (now (tally .exit)) ⌝ }
+    ensures { λ r. ⌜ CallLent (now (sheet .entry)) (now (pairs .entry)) (now (block .entry)) limit (now (list .entry)) (now (tally .entry)) r
+        (now (list .exit)) (now (tally .exit)) ⌝ }
 {
     let mut stack = [0u16; STACK];
     let mut work = [0u64; WORK];

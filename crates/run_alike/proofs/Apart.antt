@@ -1,37 +1,22 @@
 -- Where two prefixes differ and their sets settle the images of their own pairs, a symmetry takes each one's own pairs there among themselves; so it takes
 -- no pair of another variable to one of these. This is what needs question 16. Assumes nothing.
-use mathlib.Core.Path.{_≡_, refl, sym, ap, ap₂, _∙_, subst}
-use mathlib.Core.Bool.{Bool, true, false}
-use mathlib.Core.Logic.{_⊎_, inl, inr, ⊎-elim}
-use mathlib.Core.List.{List, [], _∷_, map, List·Memᴰ, List·Memᴰ·head, List·Memᴰ·tail, List·Memᴰ·cases-cons, List·Memᴰ·append-cases, List·Memᴰ·eq-of-singleton, Memᴰ·append-right, Memᴰ·map, Memᴰ·of-map}
-use Prim.Native.Nat.{ℕ, _/_, _%_, _^_, _≤_, _<_}
-use native.Mathlib.Decide.{decLt, ℕ-discrete}
-use native.Mathlib.Omega.{arith}
-use native.Mathlib.Nat.{lt-of-lt-of-le}
-use lib.Dec.{T, eqb, ltb}
-use lib.ListN.{length, length-map}
-use borrow.Author.Tests.{eqb-true, eqb-false}
-use Rattle.model.specs.Lists.{both, any, keep, below, at, same}
-use Rattle.model.specs.ValueSets.{has, members}
-use Rattle.model.specs.Problem.{Problem, Constraint, pair, pairsAt, doubled, excluded, forbidden}
-use Rattle.model.specs.Nogood.{Entry, equality, disequality}
-use Rattle.model.specs.Search.{entriesAt, nogoodsOf, rowWith, setsAt, isLive}
-use Rattle.model.specs.Claims.{Drawn, Consistent}
-use Rattle.model.specs.WellFormed.{WellFormed, GoodSymmetry, Respected}
+use Rattle.model.specs.Kit.{_≡_, refl, sym, ap, ap₂, _∙_, subst, Bool, true, false, _⊎_, inl, inr, ⊎-elim, List, [], _∷_, map, List·Memᴰ, List·Memᴰ·head, List·Memᴰ·tail}
+use Rattle.model.specs.Kit.{List·Memᴰ·cases-cons, Memᴰ·map, Memᴰ·of-map, ℕ, _/_, _%_, _^_, _≤_, _<_, decLt, ℕ-discrete, arith, lt-of-lt-of-le, T, eqb, ltb, length, length-map}
+use Rattle.model.specs.Kit.{eqb-true, eqb-false}
+use mathlib.Core.List.{List·Memᴰ·append-cases, List·Memᴰ·eq-of-singleton, Memᴰ·append-right}
+use Rattle.model.specs.{Lists.both, Lists.any, Lists.keep, Lists.below, Lists.at, Lists.same, ValueSets.has, ValueSets.members, Problem.Problem, Problem.Constraint, Problem.pair}
+use Rattle.model.specs.{Problem.pairsAt, Problem.doubled, Problem.excluded, Problem.forbidden, Nogood.Entry, Nogood.equality, Nogood.disequality, Search.entriesAt}
+use Rattle.model.specs.{Search.nogoodsOf, Search.rowWith, Search.setsAt, Search.isLive, Claims.Drawn, Claims.Consistent, WellFormed.WellFormed, WellFormed.GoodSymmetry}
+use Rattle.model.specs.WellFormed.{Respected}
 use Rattle.model.proofs.Lists.{both-l, both-r, any-i, any-e, flat-i, flat-e, below-i, below-e, at-mem, mem-at, at-map, same-refl, length-below}
-use Rattle.model.proofs.Counting.{onto, distinct-below}
-use Rattle.model.proofs.Assignments.{drawn-e}
-use Rattle.model.proofs.Prune.{Sized}
-use Rattle.model.proofs.Consistent.{live-consistent}
-use Rattle.model.proofs.Tree.{well-sized}
+use Rattle.model.proofs.{Counting.onto, Counting.distinct-below, Assignments.drawn-e, Prune.Sized, Consistent.live-consistent, Tree.well-sized}
+use Rattle.run_alike.specs.inner.Alike.{Residue, residue}
+use Rattle.run_alike.proofs.{Sets.own-value, Sets.own-set, Residue.single, Residue.single-has, Residue.kept-e, Residue.held-e}
 use Rattle.model.proofs.Pairs as P
 use Rattle.model.proofs.Symmetry as S
-use Rattle.run_alike.specs.Alike.{Residue, residue}
-use Rattle.run_alike.proofs.Sets.{own-value, own-set}
-use Rattle.run_alike.proofs.Residue.{single, single-has, kept-e, held-e}
 
 -- ---- forbidden sets and consistent sets
-module _ (p : Problem) (w : WellFormed p) (prefix ds : List ℕ) (cons : Consistent p prefix ds) where
+module _ (p : Problem) (w : WellFormed p) (prefix ds : List ℕ) (cons : Consistent (λ x. x) p prefix ds) where
   -- the pair's value is the only one that the sets leave its variable
   abbrev pub Sole : ℕ → Type 0
   Sole q = at ds (q / p .values) ≡ 2 ^ (q % p .values)

@@ -1,23 +1,11 @@
 -- Prefixes that agree on what is left have the same nodes below them, up to the values settled before. Assumes nothing.
-use mathlib.Core.Path.{_≡_, refl, sym, ap, ap₂, _∙_, subst}
-use mathlib.Core.Bool.{Bool, true, false}
-use mathlib.Core.List.{List, [], _∷_, _++_, map, List·Memᴰ, Memᴰ·of-map, append-assoc, append-nil}
-use Prim.Native.Nat.{ℕ, zero, suc, _+_, _-_}
-use native.Mathlib.Decide.{ℕ-discrete}
-use native.Mathlib.Omega.{arith}
-use lib.Dec.{eqb}
-use lib.ListN.{length, drop, length-append, length-map}
+use Rattle.model.specs.Kit.{_≡_, refl, sym, ap, ap₂, _∙_, subst, Bool, true, false, List, [], _∷_, _++_, map, List·Memᴰ, Memᴰ·of-map, append-assoc, append-nil, ℕ, zero, suc, _+_}
+use Rattle.model.specs.Kit.{_-_, ℕ-discrete, arith, eqb, length, drop, length-append, length-map, ne-eqb}
 use lib.Seq.{drop-at}
-use borrow.Author.Tests.{ne-eqb}
-use Rattle.model.specs.Lists.{both, keep, flat, at, tabulate}
-use Rattle.model.specs.ValueSets.{members}
-use Rattle.model.specs.Problem.{Problem}
-use Rattle.model.specs.Search.{setsAt, isLive, nodesBelow, isPlan}
-use Rattle.model.specs.Run.{settledBy, countsBy}
-use Rattle.model.specs.WellFormed.{WellFormed}
+use Rattle.model.specs.{Lists.both, Lists.keep, Lists.flat, Lists.at, Lists.tabulate, ValueSets.members, Problem.Problem, Search.setsAt, Search.isLive, Search.nodesBelow}
+use Rattle.model.specs.{Search.isPlan, Run.settledBy, Run.countsBy, WellFormed.WellFormed}
 use Rattle.model.proofs.Lists.{map-ext, map-flat-map, keep-ext}
-use Rattle.run_alike.specs.Alike.{moved}
-use Rattle.run_alike.specs.Claims.{SameBelow}
+use Rattle.run_alike.specs.{inner.Alike.moved, inner.Claims.SameBelow}
 use Rattle.run_alike.proofs.Sets.{Agree, live-alike, sets-alike}
 
 -- ---- lists

@@ -1,18 +1,13 @@
 -- What is left of a list, and why the law wants question 16: a table that permutes the pairs and does not respect them, by computation. Assumes nothing.
 -- Values 0 and 1; the table trades (0, 1) with (1, 1), and variables 2 and 3. The prefixes 0 and 1 leave the same sets and nothing of the list, not ended;
 -- but variable 1's own pair has the image (0, 1), which the prefix 1 has and the prefix 0 has not, so that the list ends there below 0 alone.
-use mathlib.Core.Path.{_≡_, refl}
-use mathlib.Core.Bool.{true, false}
-use mathlib.Core.List.{List, [], _∷_, map}
-use Prim.Native.Nat.{ℕ}
-use lib.ListN.{length, drop}
-use Rattle.model.specs.Lists.{all, any, keep, flat, tabulate, upFrom, below, at, same}
-use Rattle.model.specs.ValueSets.{has, maskBelow, members, anyEmpty}
-use Rattle.model.specs.Problem.{Problem, assignments, pair, isPair, within, doubled, pairsAt, excluded, forbidden, respects}
-use Rattle.model.specs.Sheet.{distinct, permutesPairs}
-use Rattle.model.specs.Nogood.{equality, disequality, obeysFrom, obeying, used, filtered}
-use Rattle.model.specs.Search.{entriesAt, nogoodsOf, rowWith, supported, pruned, narrowed, rounds, setsAt, isLive, nodesBelow}
-use Rattle.run_alike.specs.Alike.{Residue, residue, moved}
+use Rattle.model.specs.Kit.{_≡_, refl, true, false, List, [], _∷_, map, ℕ, length, drop}
+use Rattle.model.specs.{Lists.all, Lists.any, Lists.keep, Lists.flat, Lists.tabulate, Lists.upFrom, Lists.below, Lists.at, Lists.same, ValueSets.has, ValueSets.maskBelow}
+use Rattle.model.specs.{ValueSets.members, ValueSets.anyEmpty, Problem.Problem, Problem.assignments, Problem.pair, Problem.isPair, Problem.within, Problem.doubled, Problem.pairsAt}
+use Rattle.model.specs.{Problem.excluded, Problem.forbidden, Problem.respects, Sheet.distinct, Sheet.permutesPairs, Nogood.equality, Nogood.disequality, Nogood.obeysFrom}
+use Rattle.model.specs.{Nogood.obeying, Nogood.used, Nogood.filtered, Search.entriesAt, Search.nogoodsOf, Search.rowWith, Search.supported, Search.pruned, Search.narrowed}
+use Rattle.model.specs.Search.{rounds, setsAt, isLive, nodesBelow}
+use Rattle.run_alike.specs.inner.Alike.{Residue, residue, moved}
 
 -- every definition that computes
 listed : ℕ

@@ -1,33 +1,15 @@
 -- Prefixes whose first levels say nothing more, with the same values from there on, leave the same of a list (specs/Claims). Assumes nothing.
-use mathlib.Core.Path.{_≡_, refl, sym, ap, ap₂, _∙_, subst}
-use mathlib.Core.Bool.{Bool, true, false, not}
-use mathlib.Core.Logic.{⊎-elim}
-use mathlib.Core.List.{List, [], _∷_, _++_, map, List·Memᴰ, List·Memᴰ·head, List·Memᴰ·tail, List·Memᴰ·not-nil, List·Memᴰ·cases-cons, Memᴰ·append-left}
-use Prim.Native.Nat.{ℕ, zero, suc, _+_, _-_, _/_, _%_, _^_, _≤_, _<_}
-use native.Mathlib.Decide.{decLt, ℕ-discrete}
-use native.Mathlib.Omega.{arith}
-use lib.Dec.{T, eqb}
-use lib.ListN.{length, getD, take, drop, take-append-drop, length-drop}
-use lib.Pow.{pow-lt}
-use lib.Seq.{length-take-le, take-take}
-use borrow.Author.Tests.{eq-eqb, ne-eqb}
-use Rattle.model.specs.Lists.{both, flat, upFrom, at}
-use Rattle.model.specs.ValueSets.{has}
-use Rattle.model.specs.Problem.{Problem, pair}
-use Rattle.model.specs.Nogood.{Entry, equality, disequality, is, obeysFrom}
-use Rattle.model.specs.Search.{entriesAt, nogoodsOf, setsAt, isLive}
-use Rattle.model.specs.WellFormed.{WellFormed, Respected}
-use Rattle.model.proofs.Lists.{of-T, T-ext, not-of, of-not, at-take}
-use Rattle.model.proofs.Sets.{has-lt, has-none, member, mask-ext}
-use Rattle.model.proofs.Assignments.{Filled, drawn-through, drawn-i, drawn-e}
-use Rattle.model.proofs.Prune.{Sized, setsAt-sets}
-use Rattle.model.proofs.Tree.{well-sized, nogoods-append}
-use Rattle.run_alike.specs.Alike.{Residue, front, residue, Vacuous}
-use Rattle.run_alike.specs.Claims.{Kept-left}
-use Rattle.run_alike.proofs.Sets.{behind-alike, some-value, own-only, own-set}
-use Rattle.run_alike.proofs.Residue.{varOf, obeys-gone, single, single-has, drawn-is, is-gone, is-only}
-use Rattle.run_alike.proofs.Apart.{own-in, own-init, Settles, not-elsewhere}
-use Rattle.run_alike.proofs.Law.{entry-e, bounded}
+use Rattle.model.specs.Kit.{_≡_, refl, sym, ap, ap₂, _∙_, subst, Bool, true, false, not, ⊎-elim, List, [], _∷_, _++_, map, List·Memᴰ, List·Memᴰ·head, List·Memᴰ·tail}
+use Rattle.model.specs.Kit.{List·Memᴰ·not-nil, List·Memᴰ·cases-cons, Memᴰ·append-left, ℕ, zero, suc, _+_, _-_, _/_, _%_, _^_, _≤_, _<_, decLt, ℕ-discrete, arith, T, eqb, length}
+use Rattle.model.specs.Kit.{getD, take, drop, take-append-drop, length-drop, pow-lt, length-take-le, eq-eqb, ne-eqb}
+use lib.Seq.{take-take}
+use Rattle.model.specs.{Lists.both, Lists.flat, Lists.upFrom, Lists.at, ValueSets.has, Problem.Problem, Problem.pair, Nogood.Entry, Nogood.equality, Nogood.disequality, Nogood.is}
+use Rattle.model.specs.{Nogood.obeysFrom, Search.entriesAt, Search.nogoodsOf, Search.setsAt, Search.isLive, WellFormed.WellFormed, WellFormed.Respected}
+use Rattle.model.proofs.{Lists.of-T, Lists.T-ext, Lists.not-of, Lists.of-not, Lists.at-take, Sets.has-lt, Sets.has-none, Sets.member, Sets.mask-ext, Assignments.Filled}
+use Rattle.model.proofs.{Assignments.drawn-through, Assignments.drawn-i, Assignments.drawn-e, Prune.Sized, Prune.setsAt-sets, Tree.well-sized, Tree.nogoods-append}
+use Rattle.run_alike.specs.{inner.Alike.Residue, inner.Alike.front, inner.Alike.residue, inner.Alike.Vacuous, inner.Claims.Kept-left}
+use Rattle.run_alike.proofs.{Sets.behind-alike, Sets.some-value, Sets.own-only, Sets.own-set, Residue.varOf, Residue.obeys-gone, Residue.single, Residue.single-has}
+use Rattle.run_alike.proofs.{Residue.drawn-is, Residue.is-gone, Residue.is-only, Apart.own-in, Apart.own-init, Apart.Settles, Apart.not-elsewhere, Law.entry-e, Law.bounded}
 
 -- ---- entries that the sets decide
 abbrev pub Dropped : List ℕ → Entry → Type 0

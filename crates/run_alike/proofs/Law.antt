@@ -1,37 +1,21 @@
 -- Two live prefixes that leave the same to do have the same subtree (specs/Claims). Assumes nothing.
-use mathlib.Core.Path.{_≡_, refl, sym, ap, ap₂, _∙_, subst}
-use mathlib.Core.Bool.{Bool, true, false}
-use mathlib.Core.Logic.{_⊎_, inl, inr, ⊎-elim}
-use mathlib.Core.List.{List, _++_, map, List·Memᴰ, List·Memᴰ·append-cases, List·Memᴰ·eq-of-singleton, Memᴰ·of-map}
-use Prim.Native.Nat.{ℕ, _+_, _-_, _/_, _%_, _^_, _≤_, _<_}
-use native.Mathlib.Decide.{decLt, ℕ-discrete}
-use native.Mathlib.Omega.{arith}
-use lib.Dec.{T, eqb, ltb}
-use lib.ListN.{length, getD, drop, length-append, List·getD-append}
+use Rattle.model.specs.Kit.{_≡_, refl, sym, ap, ap₂, _∙_, subst, Bool, true, false, _⊎_, inl, inr, ⊎-elim, List, _++_, map, List·Memᴰ, Memᴰ·of-map, ℕ, _+_, _-_, _/_, _%_, _^_, _≤_}
+use Rattle.model.specs.Kit.{_<_, decLt, ℕ-discrete, arith, T, eqb, ltb, length, getD, drop, length-append, ne-eqb}
+use mathlib.Core.List.{List·Memᴰ·append-cases, List·Memᴰ·eq-of-singleton}
+use lib.ListN.{List·getD-append}
 use lib.Seq.{getD-append-add}
-use borrow.Author.Tests.{ne-eqb}
-use Rattle.model.specs.Lists.{keep, flat, upFrom, below, at}
-use Rattle.model.specs.ValueSets.{has, members}
-use Rattle.model.specs.Problem.{Problem, pair}
-use Rattle.model.specs.Nogood.{Entry, equality, disequality, is, obeys}
-use Rattle.model.specs.Search.{entriesAt, nogoodsOf, setsAt, isLive}
-use Rattle.model.specs.Claims.{Drawn}
-use Rattle.model.specs.WellFormed.{WellFormed, Respected}
+use Rattle.model.specs.{Lists.keep, Lists.flat, Lists.upFrom, Lists.below, Lists.at, ValueSets.has, ValueSets.members, Problem.Problem, Problem.pair, Nogood.Entry, Nogood.equality}
+use Rattle.model.specs.{Nogood.disequality, Nogood.is, Nogood.obeys, Search.entriesAt, Search.nogoodsOf, Search.setsAt, Search.isLive, Claims.Drawn, WellFormed.WellFormed}
+use Rattle.model.specs.WellFormed.{Respected}
 use Rattle.model.proofs.Lists.{T-of, of-T, keep-e, flat-e, map-ext, below-e, upFrom-e, at-append, at-skip, getD-at}
-use Rattle.model.proofs.Sets.{members-e, has-at-lt}
-use Rattle.model.proofs.Assignments.{drawn-i}
-use Rattle.model.proofs.Prune.{Sized, setsAt-sets}
-use Rattle.model.proofs.Consistent.{live-consistent}
-use Rattle.model.proofs.Tree.{well-sized, nogoods-append}
+use Rattle.model.proofs.{Sets.members-e, Sets.has-at-lt, Assignments.drawn-i, Prune.Sized, Prune.setsAt-sets, Consistent.live-consistent, Tree.well-sized, Tree.nogoods-append}
 use Rattle.model.proofs.Child.{child-sets}
+use Rattle.run_alike.specs.inner.Alike.{Alike, SameList, obeyed, same-left, carried, Carries, Obeyed, Residue, residue, unsettled}
+use Rattle.run_alike.specs.inner.Claims.{Alike-below}
+use Rattle.run_alike.proofs.{Sets.Agree, Sets.behind-alike, Sets.own-value, Sets.own-only, Sets.own-set, Below.same-below, Residue.varOf, Residue.Same, Residue.obeys-same}
+use Rattle.run_alike.proofs.{Residue.after, Residue.residue-obeys, Residue.Undecided, Residue.kept-e, Apart.Settles, Apart.decided, Apart.not-elsewhere}
 use Rattle.model.proofs.Pairs as P
 use Rattle.model.proofs.Symmetry as S
-use Rattle.run_alike.specs.Alike.{Alike, SameList, obeyed, same-left, carried, Carries, Obeyed, Residue, residue, unsettled}
-use Rattle.run_alike.specs.Claims.{Alike-below}
-use Rattle.run_alike.proofs.Sets.{Agree, behind-alike, own-value, own-only, own-set}
-use Rattle.run_alike.proofs.Below.{same-below}
-use Rattle.run_alike.proofs.Residue.{varOf, Same, obeys-same, after, residue-obeys, Undecided, kept-e}
-use Rattle.run_alike.proofs.Apart.{Settles, decided, not-elsewhere}
 
 later-sets : (p : Problem) (a b : List ℕ) → Alike p a b → (x : ℕ) → length a ≤ x → at (setsAt p a) x ≡ at (setsAt p b) x
 later-sets p a b h = behind-alike (setsAt p a) (setsAt p b) (length a) (h .sets)

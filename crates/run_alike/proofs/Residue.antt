@@ -1,20 +1,9 @@
 -- What is left of a list of nogoods decides whether it is obeyed, whatever follows it. Assumes nothing.
-use mathlib.Core.Path.{_≡_, refl, sym, ap, ap₂, _∙_, subst}
-use mathlib.Core.Bool.{Bool, true, false, not}
-use mathlib.Core.Logic.{_⊎_, inl, inr, ⊎-elim}
-use mathlib.Core.List.{List, [], _∷_, _++_, List·Memᴰ, List·Memᴰ·head, List·Memᴰ·tail, List·Memᴰ·not-nil, List·Memᴰ·cases-cons}
-use Prim.Native.Nat.{ℕ, _^_, _<_}
-use native.Mathlib.Omega.{arith}
-use lib.Dec.{T, eqb, eqb→eq, eqb-refl}
-use lib.ListN.{length, getD}
-use borrow.Author.Tests.{eqb-true, eqb-false}
-use Rattle.model.specs.Lists.{both, at}
-use Rattle.model.specs.ValueSets.{has}
-use Rattle.model.specs.Nogood.{Entry, equality, disequality, is, obeysFrom}
-use Rattle.model.specs.Claims.{Drawn}
-use Rattle.model.proofs.Lists.{of-T, T-of, not-of, of-not, getD-at}
-use Rattle.model.proofs.Masks.{has-one}
-use Rattle.run_alike.specs.Alike.{Residue, front, residue}
+use Rattle.model.specs.Kit.{_≡_, refl, sym, ap, ap₂, _∙_, subst, Bool, true, false, not, _⊎_, inl, inr, ⊎-elim, List, [], _∷_, _++_, List·Memᴰ, List·Memᴰ·head, List·Memᴰ·tail}
+use Rattle.model.specs.Kit.{List·Memᴰ·not-nil, List·Memᴰ·cases-cons, ℕ, _^_, _<_, arith, T, eqb, eqb→eq, eqb-refl, length, getD, eqb-true, eqb-false}
+use Rattle.model.specs.{Lists.both, Lists.at, ValueSets.has, Nogood.Entry, Nogood.equality, Nogood.disequality, Nogood.is, Nogood.obeysFrom, Claims.Drawn}
+use Rattle.model.proofs.{Lists.of-T, Lists.T-of, Lists.not-of, Lists.of-not, Lists.getD-at, Lists.both-true, Lists.both-false, Masks.has-one}
+use Rattle.run_alike.specs.inner.Alike.{Residue, front, residue}
 
 -- ---- entries
 abbrev pub varOf : Entry → ℕ
@@ -39,14 +28,6 @@ unfolding obeysFrom
 obeys-gone s [] = refl
 obeys-gone s (equality x v ∷ es) = obeys-gone s es
 obeys-gone s (disequality x v ∷ es) = obeys-gone s es
-
-both-true : (b : Bool) → both b true ≡ b
-both-true true = refl
-both-true false = refl
-
-both-false : (b : Bool) → both b false ≡ false
-both-false true = refl
-both-false false = refl
 
 -- ---- what is drawn from sets
 pub single : (s u v : ℕ) → s ≡ 2 ^ v → T (has s u) → u ≡ v

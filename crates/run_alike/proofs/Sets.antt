@@ -1,33 +1,15 @@
 -- Two prefixes that agree on what is left: behind them any values leave the same sets. Assumes nothing.
-use mathlib.Core.Path.{_≡_, refl, sym, ap, _∙_, subst}
-use mathlib.Core.Bool.{Bool, true, false}
-use mathlib.Core.Logic.{_⊎_, inl, inr}
-use mathlib.Core.List.{List, [], _∷_, _++_, map, List·Memᴰ, List·Memᴰ·head, List·Memᴰ·tail, List·Memᴰ·not-nil}
-use Prim.Native.Nat.{ℕ, _+_, _-_, _^_, _≤_, _<_}
-use native.Mathlib.Decide.{decLt}
-use native.Mathlib.Omega.{arith}
-use lib.Dec.{T, eqb, leb, eqb→eq, eqb-refl, T-not}
-use lib.ListN.{length, drop, length-append, length-drop, length-map}
-use lib.Pow.{pow-lt}
-use lib.Seq.{getD-drop}
-use borrow.Author.Tests.{eqb-true, le-leb, leb-true}
-use Rattle.model.specs.Lists.{both, any, at}
-use Rattle.model.specs.ValueSets.{has, anyEmpty}
-use Rattle.model.specs.Problem.{Problem, Constraint}
-use Rattle.model.specs.Nogood.{Entry, obeys, filtered}
-use Rattle.model.specs.Search.{nogoodsOf, rowWith, setsAt, isLive}
-use Rattle.model.specs.Claims.{Drawn, Consistent}
-use Rattle.model.specs.WellFormed.{WellFormed}
+use Rattle.model.specs.Kit.{_≡_, refl, sym, ap, _∙_, subst, Bool, true, false, _⊎_, inl, inr, List, [], _∷_, _++_, map, List·Memᴰ, List·Memᴰ·head, List·Memᴰ·tail}
+use Rattle.model.specs.Kit.{List·Memᴰ·not-nil, ℕ, _+_, _-_, _^_, _≤_, _<_, decLt, arith, T, eqb, leb, eqb→eq, eqb-refl, T-not, length, drop, length-append, length-drop, length-map}
+use Rattle.model.specs.Kit.{pow-lt, getD-drop, eqb-true, le-leb, leb-true}
+use Rattle.model.specs.{Lists.both, Lists.any, Lists.at, ValueSets.has, ValueSets.anyEmpty, Problem.Problem, Problem.Constraint, Nogood.Entry, Nogood.obeys, Nogood.filtered}
+use Rattle.model.specs.{Search.entriesAt, Search.nogoodsOf, Search.rowWith, Search.setsAt, Search.isLive, Claims.Drawn, Claims.Consistent, WellFormed.WellFormed}
 use Rattle.model.proofs.Lists.{both-i, both-l, both-r, T-of, of-T, T-ext, T-dec, not-of, of-not, any-i, any-e, keep-i, keep-e, at-append, at-skip, at-map, at-ext}
-use Rattle.model.proofs.Sets.{has-lt, has-at-lt, has-none, mask-ext, member, empty-i, empty-e, inside-antisym}
-use Rattle.model.proofs.Masks.{has-one}
-use Rattle.model.proofs.Assignments.{drawn-i, drawn-e}
-use Rattle.model.proofs.Filter.{filtered-i, filtered-e, filtered-sets, filtered-inside}
-use Rattle.model.proofs.Prune.{Sized, setsAt-sets}
-use Rattle.model.proofs.Consistent.{live-consistent, consistent-inside, dead-empty, dead-none}
-use Rattle.model.proofs.Tree.{well-sized}
+use Rattle.model.proofs.{Sets.has-lt, Sets.has-at-lt, Sets.has-none, Sets.mask-ext, Sets.member, Sets.empty-i, Sets.empty-e, Sets.inside-antisym, Masks.has-one}
+use Rattle.model.proofs.{Assignments.drawn-i, Assignments.drawn-e, Filter.filtered-i, Filter.filtered-e, Filter.filtered-sets, Filter.filtered-inside, Prune.Sized}
+use Rattle.model.proofs.{Prune.setsAt-sets, Consistent.live-consistent, Consistent.consistent-inside, Consistent.dead-empty, Consistent.dead-none, Tree.well-sized}
 use Rattle.model.proofs.Child.{child-sets}
-use Rattle.run_alike.specs.Alike.{unsettled, SameSettled, Carries}
+use Rattle.run_alike.specs.inner.Alike.{unsettled, SameSettled, Carries}
 
 -- ---- lists
 pub at-drop : (n : ℕ) (l : List ℕ) (i : ℕ) → at (drop n l) i ≡ at l (n + i)
@@ -133,10 +115,10 @@ module _ (p : Problem) (w : WellFormed p) (a b : List ℕ) (h : Agree p a b) (mo
   abbrev sb : List ℕ
   sb = setsAt p b
 
-  cd : Consistent p (a ++ more) ds
+  cd : Consistent (λ x. x) p (a ++ more) ds
   cd = live-consistent p (a ++ more) z live
 
-  cb : Consistent p b sb
+  cb : Consistent (λ x. x) p b sb
   cb = live-consistent p b z (h .second)
 
   -- b's values, then the sets behind a ++ more
@@ -313,6 +295,7 @@ module _ (p : Problem) (w : WellFormed p) (a b : List ℕ) (h : Agree p a b) (mo
       go (no l) = subst (λ (s : ℕ). s < 2 ^ 16) (sym (es-back x (omega arith))) (cd .sixteen x)
 
   es-filter : (g : List ℕ) → List·Memᴰ g (p .symmetries) → filtered es (nogoodsOf p g (b ++ more)) ≡ es
+  unfolding nogoodsOf entriesAt
   es-filter g m =
       inside-antisym (length es) (filtered es L) es (filtered-sets es L) (refl, es-small) (filtered-inside es L) (λ x v t. stays x v t (decLt x k))
     where
@@ -337,7 +320,8 @@ module _ (p : Problem) (w : WellFormed p) (a b : List ℕ) (h : Agree p a b) (mo
           through x v v (back-e x v (omega arith) t)
           (λ s d e. at-skip b (behind s d) k x (sym (h .sized)) (omega arith) ∙ behind-at s d (x - k) ∙ ap (at s) (omega arith) ∙ e)
 
-  turned : Consistent p (b ++ more) es
+  turned : Consistent (λ x. x) p (b ++ more) es
+  unfolding nogoodsOf entriesAt
   turned = record {
     sized = es-length;
     sixteen = es-small;

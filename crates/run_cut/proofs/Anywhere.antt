@@ -1,24 +1,13 @@
 -- A run that goes on from any path, cut and resumed (specs/Claims). Assumes nothing.
-use mathlib.Core.Path.{_≡_, refl, sym, ap, ap₂, _∙_, subst}
-use mathlib.Core.Bool.{Bool, true, false}
-use mathlib.Core.Logic.{_⊎_, inl, inr}
-use mathlib.Core.List.{List, [], _∷_, List·Memᴰ}
-use Prim.Native.Nat.{ℕ, _+_, _-_, _≤_}
+use Rattle.model.specs.Kit.{_≡_, refl, sym, ap, ap₂, _∙_, subst, Bool, true, false, _⊎_, inl, inr, List, [], _∷_, List·Memᴰ, ℕ, _+_, _-_, _≤_, arith, T, take, drop}
 use native.Mathlib.Nat.{sub-zero}
-use native.Mathlib.Omega.{arith}
-use lib.Dec.{T}
-use lib.ListN.{take, drop}
 use lib.Seq.{take-add}
-use Rattle.model.specs.Lists.{keep}
-use Rattle.model.specs.Problem.{Problem}
-use Rattle.model.specs.Search.{nodes}
-use Rattle.model.specs.Run.{Ending, finished, spent, full, nodesIn, Result, search, settledBy, countsBy, tallyAt}
-use Rattle.model.proofs.Lists.{T-of, of-not, keep-yes, keep-no, keep-e, sorted-keep}
-use Rattle.model.proofs.Runs.{Ended, walk}
+use Rattle.model.specs.{Lists.keep, Problem.Problem, Search.nodes, Run.Ending, Run.finished, Run.spent, Run.full, Run.nodesIn, Run.Result, Run.search, Run.settledBy, Run.countsBy}
+use Rattle.model.specs.Run.{tallyAt}
+use Rattle.model.proofs.{Lists.T-of, Lists.of-not, Lists.keep-yes, Lists.keep-no, Lists.keep-e, Lists.sorted-keep, Runs.Ended, Runs.walk}
 use Rattle.run_cut.specs.Parts.{after, nodesAfter, lastOf, Progress, start, goOn, lastAfter, added, progressAfter, andNext}
 use Rattle.run_cut.specs.Claims.{From-anywhere, Stands-anywhere, Counts-from-start}
-use Rattle.run_cut.proofs.Parts.{after-trans, Later, nodes-ascend, nodes-start}
-use Rattle.run_cut.proofs.Counts.{counts-none, counts-added, added-assoc}
+use Rattle.run_cut.proofs.{Parts.after-trans, Parts.Later, Parts.nodes-ascend, Parts.nodes-start, Counts.counts-none, Counts.counts-added, Counts.added-assoc}
 use Rattle.run_cut.proofs.Resume.{last-in, taken, after-lasts, after-last, last-append, then, walk-parts, from-start}
 
 -- of elements kept, the same are kept by a narrower test
@@ -82,8 +71,10 @@ from-anywhere p limit room k s m h = walk-parts p room k limit h ts (s .made) (s
     next = search p limit room (nodesAfter p (lastAfter p s r)) (nodesIn (r .ending)) (r .rows)
 
     go : (x : Ending) → r .ending ≡ x → then p room k limit h ts (s .made) (r .ending) (r .rows) ≡ andNext (r .ending) r next
-    go (finished a b) e = ap (λ (x : Ending). then p room k limit h ts (s .made) x (r .rows)) e ∙ sym (ap (λ (x : Ending). let w : Result = record { ending = x; rows = r .rows } in w) e) ∙ sym (ap (λ (x : Ending). andNext x r next) e)
-    go (full a b) e = ap (λ (x : Ending). then p room k limit h ts (s .made) x (r .rows)) e ∙ sym (ap (λ (x : Ending). let w : Result = record { ending = x; rows = r .rows } in w) e) ∙ sym (ap (λ (x : Ending). andNext x r next) e)
+    go (finished a b) e = ap (λ (x : Ending). then p room k limit h ts (s .made) x (r .rows)) e ∙ sym (ap (λ (x : Ending). let w : Result = record { ending = x; rows = r .rows } in w) e) ∙ sym
+        (ap (λ (x : Ending). andNext x r next) e)
+    go (full a b) e = ap (λ (x : Ending). then p room k limit h ts (s .made) x (r .rows)) e ∙ sym (ap (λ (x : Ending). let w : Result = record { ending = x; rows = r .rows } in w) e) ∙ sym
+        (ap (λ (x : Ending). andNext x r next) e)
     go (spent a b) e =
         let w = walk p k room ts (s .made) (s .rows) in
         let q = subst (Ended p k room ts (s .made) (w .passed)) e (w .ended) in
@@ -150,4 +141,5 @@ stands-anywhere p limit room k plans made s m h e =
     last = last-from p (s .last) i j ∙ ap (λ (k : ℕ). lastOf (s .last) (take k (nodesAfter p (s .last)))) sum
 
     counts : added (s′ .counts) (countsBy settledBy (take j (nodesAfter p (s′ .last)))) ≡ added (s .counts) (countsBy settledBy (take (n - s .made) (nodesAfter p (s .last))))
-    counts = added-assoc (s .counts) (countsBy settledBy (take i (nodesAfter p (s .last)))) (countsBy settledBy (take j (nodesAfter p (s′ .last)))) ∙ ap (added (s .counts)) (counts-from p (s .last) i j ∙ ap (λ (k : ℕ). countsBy settledBy (take k (nodesAfter p (s .last)))) sum)
+    counts = added-assoc (s .counts) (countsBy settledBy (take i (nodesAfter p (s .last)))) (countsBy settledBy (take j (nodesAfter p (s′ .last)))) ∙ ap (added (s .counts))
+        (counts-from p (s .last) i j ∙ ap (λ (k : ℕ). countsBy settledBy (take k (nodesAfter p (s .last)))) sum)

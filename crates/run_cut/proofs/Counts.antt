@@ -1,16 +1,8 @@
 -- Twelve counts of two lists, place by place (specs/Parts, `added`). Assumes nothing.
-use mathlib.Core.Path.{_≡_, refl, sym, ap, ap₂, _∙_, subst}
-use mathlib.Core.Bool.{Bool, true, false}
-use mathlib.Core.List.{List, [], _++_}
-use Prim.Native.Nat.{ℕ, _+_, _≤_, _<_}
-use native.Mathlib.Omega.{arith}
-use lib.Dec.{eqb, ltb}
-use lib.ListN.{length, replicate, length-append}
-use borrow.Author.Tests.{ltb-true, ltb-false}
-use Rattle.model.specs.Lists.{at, keep, tabulate}
-use Rattle.model.specs.Run.{countsBy}
-use Rattle.model.proofs.Lists.{keep-append, length-tabulate, at-tabulate, at-ext, at-out}
-use Rattle.model.proofs.Tally.{length-counts, at-counts}
+use Rattle.model.specs.Kit.{_≡_, refl, sym, ap, ap₂, _∙_, subst, Bool, true, false, List, [], _++_, ℕ, _+_, _≤_, _<_, arith, eqb, ltb, length, replicate, length-append, ltb-true}
+use Rattle.model.specs.Kit.{ltb-false}
+use Rattle.model.specs.{Lists.at, Lists.keep, Lists.tabulate, Run.countsBy}
+use Rattle.model.proofs.{Lists.keep-append, Lists.length-tabulate, Lists.at-tabulate, Lists.at-ext, Lists.at-out, Tally.length-counts, Tally.at-counts}
 use Rattle.run_cut.specs.Parts.{added}
 
 pub length-added : (xs ys : List ℕ) → length (added xs ys) ≡ 12

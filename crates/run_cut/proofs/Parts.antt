@@ -1,21 +1,12 @@
 -- A run in parts (specs/Parts): the nodes of a tree ascend in the order of the search, so those after a path are a last part of them;
 -- a tree cut into ranges; and a run that goes on from its last node is the whole run. Holds of every problem. Assumes nothing.
-use mathlib.Core.Path.{_≡_, refl, sym, ap, ap₂, _∙_, subst}
-use mathlib.Core.Bool.{Bool, true, false, not}
-use mathlib.Core.Logic.{_⊎_, inl, inr}
-use mathlib.Core.List.{List, [], _∷_, _++_, map, List·Memᴰ, List·Memᴰ·head, List·Memᴰ·tail, List·Memᴰ·not-nil, Memᴰ·of-map, append-nil}
-use Prim.Native.Nat.{ℕ, zero, suc, _<_}
-use native.Mathlib.Omega.{arith}
-use lib.Dec.{T, eqb, ltb, eqb-refl, ltb→lt, lt→ltb}
-use lib.ListN.{length}
+use Rattle.model.specs.Kit.{_≡_, refl, sym, ap, ap₂, _∙_, subst, Bool, true, false, not, _⊎_, inl, inr, List, [], _∷_, _++_, map, List·Memᴰ, List·Memᴰ·head, List·Memᴰ·tail}
+use Rattle.model.specs.Kit.{List·Memᴰ·not-nil, Memᴰ·of-map, append-nil, ℕ, zero, suc, _<_, arith, T, eqb, ltb, eqb-refl, ltb→lt, lt→ltb, length, ltb-true, ltb-false, eqb-true}
+use Rattle.model.specs.Kit.{eqb-false, ne-eqb}
 use lib.Seq.{append-snoc}
-use borrow.Author.Tests.{ltb-true, ltb-false, eqb-true, eqb-false, ne-eqb}
-use Rattle.model.specs.Lists.{both, keep, flat, below, at}
-use Rattle.model.specs.ValueSets.{has, members}
-use Rattle.model.specs.Problem.{Problem}
-use Rattle.model.specs.Search.{setsAt, nodesBelow, nodes}
-use Rattle.run_cut.specs.Parts.{after, nodesAfter, nodesBetween, ranges, Cuts, candidatesAt}
-use Rattle.run_cut.specs.Claims.{Ranges-whole}
+use Rattle.model.specs.{Lists.both, Lists.keep, Lists.flat, Lists.below, Lists.at, ValueSets.has, ValueSets.members, Problem.Problem, Search.setsAt, Search.nodesBelow}
+use Rattle.model.specs.Search.{nodes}
+use Rattle.run_cut.specs.{Parts.after, Parts.nodesAfter, Parts.nodesBetween, Parts.ranges, Parts.Cuts, Parts.candidatesAt, Claims.Ranges-whole}
 use Rattle.model.proofs.Lists.{T-of, of-T, of-not, both-r, keep-yes, keep-no, keep-all, keep-none, flat-e, Sorted, sorted-keep, sorted-flat-map, sorted-below}
 
 -- ---- the order of the search
@@ -172,7 +163,8 @@ module _ (p : Problem) where
       let r = Memᴰ·of-map (branch k prefix) (candidatesAt p prefix) (q .1) in
       go (r .0) (below-longer k (prefix ++ (r .0 ∷ [])) t) (subst (λ (l : List (List ℕ)). List·Memᴰ t l) (sym (r .2)) (q .2))
     where
-      go : (v : ℕ) → (List·Memᴰ t (nodesBelow p k (prefix ++ (v ∷ []))) → (w : ℕ) × (r : List ℕ) × (t ≡ (prefix ++ (v ∷ [])) ++ (w ∷ r))) → List·Memᴰ t (branch k prefix v) → (w : ℕ) × (r : List ℕ) × (t ≡ prefix ++ (w ∷ r))
+      go : (v : ℕ) → (List·Memᴰ t (nodesBelow p k (prefix ++ (v ∷ []))) → (w : ℕ) × (r : List ℕ) × (t ≡ (prefix ++ (v ∷ [])) ++ (w ∷ r))) → List·Memᴰ t (branch k prefix v) → (w : ℕ) × (r : List ℕ)
+          × (t ≡ prefix ++ (w ∷ r))
       go v ih (List·Memᴰ·head e) = (v, [], e)
       go v ih (List·Memᴰ·tail i) = let j = ih i in (v, j .0 ∷ j .1, j .2 ∙ append-snoc prefix v (j .0 ∷ j .1))
 

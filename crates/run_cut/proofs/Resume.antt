@@ -1,24 +1,14 @@
 -- The nodes of a tree as paths, and a run that goes on from its last node (specs/Parts). Holds of every problem. Assumes nothing.
-use mathlib.Core.Path.{_≡_, refl, sym, ap, ap₂, _∙_, subst}
-use mathlib.Core.Bool.{Bool, true, false, not}
-use mathlib.Core.Logic.{_⊎_, inl, inr}
-use mathlib.Core.List.{List, [], _∷_, _++_, map, List·Memᴰ, List·Memᴰ·head, List·Memᴰ·tail, List·Memᴰ·not-nil, Memᴰ·of-map}
-use Prim.Native.Nat.{ℕ, zero, suc, _+_, _-_, _*_, _≤_, _<_}
-use native.Mathlib.Omega.{arith}
-use lib.Dec.{T, eqb, leb}
-use lib.ListN.{length, take, drop}
+use Rattle.model.specs.Kit.{_≡_, refl, sym, ap, ap₂, _∙_, subst, Bool, true, false, not, _⊎_, inl, inr, List, [], _∷_, _++_, map, List·Memᴰ, List·Memᴰ·head, List·Memᴰ·tail}
+use Rattle.model.specs.Kit.{List·Memᴰ·not-nil, Memᴰ·of-map, ℕ, zero, suc, _+_, _-_, _*_, _≤_, _<_, arith, T, eqb, leb, length, take, drop, eqb-true, eqb-false, ne-eqb}
 use lib.Seq.{append-snoc, take-add}
-use borrow.Author.Tests.{eqb-true, eqb-false, ne-eqb}
-use Rattle.model.specs.Lists.{any, keep, flat, below, at}
-use Rattle.model.specs.ValueSets.{has, members, anyEmpty}
-use Rattle.model.specs.Problem.{Problem}
-use Rattle.model.specs.Search.{rounds, narrowed, setsAt, isLive, nodesBelow, nodes, isPlan}
-use Rattle.model.specs.Run.{Ending, finished, spent, full, plansIn, Result, search, resultOf, settledBy, countsBy}
+use Rattle.model.specs.{Lists.any, Lists.keep, Lists.flat, Lists.below, Lists.at, ValueSets.has, ValueSets.members, ValueSets.anyEmpty, Problem.Problem, Search.rounds}
+use Rattle.model.specs.{Search.narrowed, Search.setsAt, Search.isLive, Search.nodesBelow, Search.nodes, Search.isPlan, Run.Ending, Run.finished, Run.spent, Run.full, Run.plansIn}
+use Rattle.model.specs.Run.{Result, search, resultOf, settledBy, countsBy}
 use Rattle.run_cut.specs.Parts.{after, nodesAfter, candidatesAt, reached, lastOf, start, progressAt, goOn, resumed}
 use Rattle.run_cut.specs.Claims.{From-cut, In-parts}
 use Rattle.model.proofs.Lists.{T-of, not-of, of-not, both-i, among-i, keep-no, keep-all, keep-none, flat-e, Sorted, both-l, both-r, among-e}
-use Rattle.model.proofs.Sets.{has-none, members-e}
-use Rattle.model.proofs.Runs.{turn, search-turn, Ended, the-walk}
+use Rattle.model.proofs.{Sets.has-none, Sets.members-e, Runs.turn, Runs.search-turn, Runs.Ended, Runs.the-walk}
 use Rattle.run_cut.proofs.Parts.{after-not, after-asym, Later, branch, below-after, nodes-ascend, nodes-start}
 
 module _ (p : Problem) where
@@ -143,7 +133,8 @@ module _ (p : Problem) (room k limit : ℕ) (h : k ≤ limit) where
   then-next t ts made l (spent a b) rows = ap (λ (j : ℕ). search p limit room (drop j (t ∷ ts)) k rows) (let e : suc (k - suc made) ≡ k - made = omega arith in e)
 
   -- for any cut k of any walk: the walk is the part up to there, and what follows
-  pub walk-parts : (ts : List (List ℕ)) (made : ℕ) (rows : List (List ℕ)) → made ≤ k → search p limit room ts made rows ≡ then ts made (search p k room ts made rows .ending) (search p k room ts made rows .rows)
+  pub walk-parts : (ts : List (List ℕ)) (made : ℕ) (rows : List (List ℕ)) → made ≤ k → search p limit room ts made rows ≡ then ts made (search p k room ts made rows .ending)
+      (search p k room ts made rows .rows)
   unfolding search
   walk-parts [] made rows m = refl
   walk-parts (t ∷ ts) made rows m = go (eqb made k) refl (walk-parts ts (suc made))
@@ -151,7 +142,8 @@ module _ (p : Problem) (room k limit : ℕ) (h : k ≤ limit) where
       Goal : Result → Type 0
       Goal r = search p limit room (t ∷ ts) made rows ≡ then (t ∷ ts) made (r .ending) (r .rows)
 
-      go : (b : Bool) → eqb made k ≡ b → ((rows : List (List ℕ)) → suc made ≤ k → search p limit room ts (suc made) rows ≡ then ts (suc made) (search p k room ts (suc made) rows .ending) (search p k room ts (suc made) rows .rows)) →
+      go : (b : Bool) → eqb made k ≡ b → ((rows : List (List ℕ)) → suc made ≤ k → search p limit room ts (suc made) rows ≡ then ts (suc made) (search p k room ts (suc made) rows .ending)
+          (search p k room ts (suc made) rows .rows)) →
           Goal (search p k room (t ∷ ts) made rows)
       go true e ih =
           let q : made ≡ k = eqb-true made k e in
@@ -245,4 +237,5 @@ in-parts p limit room k h = go (resultOf p k room .ending) refl
     go (spent plans made) e =
         let s = stands p room k plans made e in
         sym (from-cut p limit room k plans made h e)
-        ∙ ap₂ (λ (l : List (List ℕ)) (j : ℕ). goOn p limit room record { made = j; counts = countsBy settledBy (take j (nodes p)); rows = l; last = lastOf [] (take j (nodes p)) }) (sym (s .listed)) (sym (s .there))
+        ∙ ap₂ (λ (l : List (List ℕ)) (j : ℕ). goOn p limit room record { made = j; counts = countsBy settledBy (take j (nodes p)); rows = l; last = lastOf [] (take j (nodes p)) })
+        (sym (s .listed)) (sym (s .there))

@@ -1,16 +1,7 @@
 -- Parts of one tree that are run apart (specs/Claims): together they list its plans and make its nodes. Assumes nothing.
-use mathlib.Core.Path.{_≡_, refl, sym, ap, ap₂, _∙_, subst}
-use mathlib.Core.List.{List, [], _∷_, _++_, map}
-use Prim.Native.Nat.{ℕ, _+_}
-use native.Mathlib.Omega.{arith}
-use lib.ListN.{length, length-append}
-use lib.Seq.{take-all}
-use Rattle.model.specs.Lists.{keep, flat, total}
-use Rattle.model.specs.Problem.{Problem}
-use Rattle.model.specs.Search.{isPlan}
-use Rattle.model.specs.Run.{nodesIn, Result}
-use Rattle.model.proofs.Lists.{keep-append}
-use Rattle.model.proofs.Runs.{Ended, walk}
+use Rattle.model.specs.Kit.{_≡_, refl, sym, ap, ap₂, _∙_, subst, List, [], _∷_, _++_, map, ℕ, _+_, arith, length, length-append, take-all}
+use Rattle.model.specs.{Lists.keep, Lists.flat, Lists.total, Problem.Problem, Search.isPlan, Run.nodesIn, Run.Result}
+use Rattle.model.proofs.{Lists.keep-append, Runs.Ended, Runs.walk}
 use Rattle.run_cut.specs.Claims.{Finished, AllFinished, Together}
 use Rattle.run_cut.proofs.Parts.{ranges-whole}
 

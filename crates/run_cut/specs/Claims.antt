@@ -1,12 +1,7 @@
 -- What is claimed of a run in parts, as statements about any problem; they can be read without the proofs.
-use mathlib.Core.Path.{_≡_}
-use mathlib.Core.List.{List, [], _∷_, map}
-use Prim.Native.Nat.{ℕ, _≤_}
-use lib.ListN.{length}
-use Rattle.model.specs.Lists.{keep, flat, total}
-use Rattle.model.specs.Problem.{Problem}
-use Rattle.model.specs.Search.{nodes, isPlan}
-use Rattle.model.specs.Run.{spent, finished, nodesIn, Result, search, resultOf, tallyAt}
+use Rattle.model.specs.Kit.{_≡_, List, [], _∷_, map, ℕ, _≤_, length}
+use Rattle.model.specs.{Lists.keep, Lists.flat, Lists.total, Problem.Problem, Search.nodes, Search.isPlan, Run.spent, Run.finished, Run.nodesIn, Run.Result, Run.search}
+use Rattle.model.specs.Run.{resultOf, tallyAt}
 use Rattle.run_cut.specs.Parts.{ranges, Cuts, Progress, start, progressAt, goOn, countsAfter, progressAfter, andNext, resumed}
 
 -- a run cut after k nodes goes on from the last of them to what it is in one piece

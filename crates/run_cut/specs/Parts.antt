@@ -1,15 +1,8 @@
 -- A run in parts (paper 02, #113): the order in which the search makes its nodes, the nodes that come after a path, and a run that goes on from the last node made.
 -- A path is a list of values, as a node is; the empty path is where a run starts.
-use mathlib.Core.Bool.{Bool, true, false, not}
-use mathlib.Core.List.{List, [], _∷_, _++_, map}
-use Prim.Native.Nat.{ℕ, _+_, _-_}
-use lib.ListN.{length, take, replicate}
-use lib.Dec.{T, eqb, ltb}
-use Rattle.model.specs.Lists.{any, keep, flat, at, both, tabulate}
-use Rattle.model.specs.ValueSets.{members}
-use Rattle.model.specs.Problem.{Problem}
-use Rattle.model.specs.Search.{setsAt, nodesBelow, nodes, isPlan}
-use Rattle.model.specs.Run.{Ending, finished, spent, full, nodesIn, Result, search, settledBy, countsBy}
+use Rattle.model.specs.Kit.{Bool, true, false, not, List, [], _∷_, _++_, map, ℕ, _+_, _-_, length, take, replicate, T, eqb, ltb}
+use Rattle.model.specs.{Lists.any, Lists.keep, Lists.flat, Lists.at, Lists.both, Lists.tabulate, ValueSets.members, Problem.Problem, Search.setsAt, Search.nodesBelow, Search.nodes}
+use Rattle.model.specs.{Search.isPlan, Run.Ending, Run.finished, Run.spent, Run.full, Run.nodesIn, Run.Result, Run.search, Run.settledBy, Run.countsBy}
 
 -- ---- the order of the search
 -- t comes after the path: the path is a proper first part of t, or t has the larger value at the first difference

@@ -1,23 +1,10 @@
 -- Paper 02, #101: the answer from the nodes is what a run with room for m - 1 plans says; what it says of the complete list; its figures. Assumes nothing.
-use mathlib.Core.Path.{_≡_, refl, sym, ap, ap₂, _∙_, subst}
-use mathlib.Core.Bool.{Bool, true, false}
-use mathlib.Core.List.{List, [], _∷_}
-use Prim.Native.Nat.{ℕ, zero, suc, _-_, _*_, _≤_, _<_}
-use native.Mathlib.Nat.{mul-le-mul-right, not-suc-le-zero, le-of-suc-le-suc}
-use native.Mathlib.Omega.{arith}
-use lib.Dec.{leb, ltb}
-use lib.ListN.{length, take}
-use lib.Seq.{take-all}
-use borrow.Author.Tests.{leb-true, leb-false, ltb-true, ltb-false, le-leb, lt-leb}
-use Rattle.model.specs.Lists.{keep}
-use Rattle.model.specs.ValueSets.{least}
-use Rattle.model.specs.Problem.{Problem}
-use Rattle.model.specs.Search.{nodes, isPlan}
-use Rattle.model.specs.Run.{Ending, finished, spent, full, plansIn, nodesIn, resultOf}
-use Rattle.model.specs.Claims.{plansAmong, CountsAt}
+use Rattle.model.specs.Kit.{_≡_, refl, sym, ap, ap₂, _∙_, subst, Bool, true, false, List, [], _∷_, ℕ, zero, suc, _-_, _*_, _≤_, _<_, mul-le-mul-right, not-suc-le-zero}
+use Rattle.model.specs.Kit.{le-of-suc-le-suc, arith, leb, ltb, length, take, take-all, leb-true, leb-false, ltb-true, ltb-false, le-leb, lt-leb}
+use Rattle.model.specs.{Lists.keep, ValueSets.least, Problem.Problem, Search.nodes, Search.isPlan, Run.Ending, Run.finished, Run.spent, Run.full, Run.plansIn, Run.nodesIn}
+use Rattle.model.specs.{Run.resultOf, Claims.plansAmong, Claims.CountsAt}
 use Rattle.run_enough.specs.AtLeast.{Enough, enough, tooFew, unknown, nodesTo, enoughOf, Enough-none, says, Enough-run, Enough-more}
-use Rattle.model.proofs.Masks.{least-none, least-at, least-below, least-is}
-use Rattle.model.proofs.Runs.{counts, nodes-allowed, rows-fit, rows-counted}
+use Rattle.model.proofs.{Masks.least-none, Masks.least-at, Masks.least-below, Masks.least-is, Runs.counts, Runs.nodes-allowed, Runs.rows-fit, Runs.rows-counted}
 
 -- ---- plans among the first nodes
 module _ {A : Type 0} (q : A → Bool) where
@@ -128,15 +115,18 @@ module _ (p : Problem) where
   module _ (limit m : ℕ) where
     pub is-enough : m ≤ plansAmong p limit → enoughOf p limit m ≡ enough m (nodesTo p m)
     unfolding enoughOf
-    is-enough h = ap (λ (b : Bool). elim b [ true ↦ enough m (nodesTo p m) | false ↦ elim (leb N limit) [ true ↦ tooFew (plansAmong p limit) N | false ↦ unknown (plansAmong p limit) limit ] ]) (le-leb m (plansAmong p limit) h)
+    is-enough h = ap (λ (b : Bool). elim b [ true ↦ enough m (nodesTo p m) | false ↦ elim (leb N limit) [ true ↦ tooFew (plansAmong p limit) N | false ↦ unknown (plansAmong p limit) limit ] ])
+        (le-leb m (plansAmong p limit) h)
 
     pub is-few : plansAmong p limit < m → N ≤ limit → enoughOf p limit m ≡ tooFew (plansAmong p limit) N
     unfolding enoughOf
-    is-few h l = ap₂ (λ (b c : Bool). elim b [ true ↦ enough m (nodesTo p m) | false ↦ elim c [ true ↦ tooFew (plansAmong p limit) N | false ↦ unknown (plansAmong p limit) limit ] ]) (lt-leb m (plansAmong p limit) h) (le-leb N limit l)
+    is-few h l = ap₂ (λ (b c : Bool). elim b [ true ↦ enough m (nodesTo p m) | false ↦ elim c [ true ↦ tooFew (plansAmong p limit) N | false ↦ unknown (plansAmong p limit) limit ] ])
+        (lt-leb m (plansAmong p limit) h) (le-leb N limit l)
 
     pub is-unknown : plansAmong p limit < m → limit < N → enoughOf p limit m ≡ unknown (plansAmong p limit) limit
     unfolding enoughOf
-    is-unknown h l = ap₂ (λ (b c : Bool). elim b [ true ↦ enough m (nodesTo p m) | false ↦ elim c [ true ↦ tooFew (plansAmong p limit) N | false ↦ unknown (plansAmong p limit) limit ] ]) (lt-leb m (plansAmong p limit) h) (lt-leb N limit l)
+    is-unknown h l = ap₂ (λ (b c : Bool). elim b [ true ↦ enough m (nodesTo p m) | false ↦ elim c [ true ↦ tooFew (plansAmong p limit) N | false ↦ unknown (plansAmong p limit) limit ] ])
+        (lt-leb m (plansAmong p limit) h) (lt-leb N limit l)
 
     abbrev pub Said : Enough → Type 0
     Said (enough plans made) = (plans ≡ m) × (made ≡ nodesTo p m) × (m ≤ plansAmong p limit)
@@ -156,7 +146,8 @@ module _ (p : Problem) where
   spends limit room l h = go (resultOf p limit room .ending) refl
     where
       go : (x : Ending) → resultOf p limit room .ending ≡ x → x ≡ spent (plansAmong p limit) limit
-      go (finished plans made) e = absurd (let c = counts p limit room (finished plans made) e in let a = subst (λ (y : Ending). nodesIn y ≤ limit) e (nodes-allowed p limit room) in omega (arith, c .0))
+      go (finished plans made) e = absurd (let c = counts p limit room (finished plans made) e in let a = subst (λ (y : Ending). nodesIn y ≤ limit) e (nodes-allowed p limit room) in omega
+          (arith, c .0))
       go (spent plans made) e = let c = counts p limit room (spent plans made) e in ap₂ spent (sym (c .2) ∙ ap (plansAmong p) (c .0)) (c .0)
       go (full plans made) e =
           absurd (let c = counts p limit room (full plans made) e in

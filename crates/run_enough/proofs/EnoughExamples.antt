@@ -1,7 +1,6 @@
 -- Worked cases of "at least m plans?" on sheet A, by computation. Assumes nothing.
-use mathlib.Core.Path.{_≡_, refl}
-use Rattle.model.specs.Sheet.{problemOf}
-use Rattle.model.specs.Examples.{sheetA}
+use Rattle.model.specs.Kit.{_≡_, refl}
+use Rattle.model.specs.{Sheet.problemOf, Examples.sheetA}
 use Rattle.model.proofs.Examples.{opened}
 use Rattle.run_enough.specs.AtLeast.{enough, tooFew, unknown, nodesTo, enoughOf}
 

@@ -1,45 +1,33 @@
 -- At least m plans (paper 02, #101), asked of a sheet, pairs and a block: what the answer says of the complete list, and its figures. Assumes nothing.
-use mathlib.Core.Path.{_≡_, refl, sym, ap, ap₂, _∙_, subst}
-use mathlib.Core.List.{List}
-use Prim.Native.Nat.{ℕ, _*_, _≤_, _<_}
-use native.Mathlib.Omega.{arith}
-use lib.ListN.{length, length-map}
-use Rattle.model.specs.Lists.{keep}
-use Rattle.model.specs.Problem.{Problem}
-use Rattle.model.specs.Verdict.{Verdict, accepted, refused, reply}
-use Rattle.model.specs.Sheet.{problemOf}
-use Rattle.model.specs.Search.{nodes, isPlan}
-use Rattle.model.specs.Run.{Ending, finished, spent, resultOf, ended}
-use Rattle.model.specs.Claims.{plansAmong, leaders}
-use Rattle.model.proofs.Runs.{finished-rows, finishes}
-use Rattle.model.proofs.Demands.{same-test, reply-so}
-use Rattle.model.proofs.Tree.{plans-of-tree}
-use Rattle.order.specs.Reordered.{write}
-use Rattle.order.specs.RunBy.{resultBy, leadersBy, answerBy}
-use Rattle.order.proofs.Reordered.{respected-reordered}
-use Rattle.order.proofs.RunBy.{w2, leadersBy-is}
-use Rattle.order.proofs.Demanded.{ran-by, held}
+use Rattle.model.specs.Kit.{_≡_, refl, sym, ap, ap₂, _∙_, subst, List, ℕ, _*_, _≤_, _<_, arith, length, length-map}
+use Rattle.model.specs.{Lists.keep, Problem.Problem, Verdict.Verdict, Verdict.accepted, Verdict.refused, Verdict.reply, Sheet.problemOf, Search.nodes, Search.isPlan, Run.Ending}
+use Rattle.model.specs.{Run.finished, Run.spent, Run.resultOf, Run.ended, Claims.plansAmong, Claims.leaders}
+use Rattle.model.proofs.{Runs.finished-rows, Runs.finishes, Demands.same-test, Demands.reply-so, Tree.plans-of-tree, Accepted.is-accepted}
+use Rattle.order.specs.{Reordered.write, RunBy.resultBy, RunBy.leadersBy, RunBy.answerBy}
+use Rattle.order.proofs.{Reordered.respected-reordered, RunBy.w2, RunBy.leadersBy-is, Demanded.ran-by, Demanded.held}
 use Rattle.run_input.specs.Lent.{verdictLent, problemWith, orderLent, problemLent, lentInput, answerLent, plansLent}
-use Rattle.run_input.proofs.Lent.{passed-all, well-lent, respected-lent, ordering-lent, sound-lent}
-use Rattle.run_enough.specs.AtLeast.{Enough, enough, tooFew, unknown, nodesTo, enoughOf}
-use Rattle.run_enough.specs.Lent.{answered, enoughLent}
+use Rattle.run_input.proofs.Lent.{well-lent, respected-lent, ordering-lent, sound-lent}
+use Rattle.run_enough.specs.{AtLeast.Enough, AtLeast.enough, AtLeast.tooFew, AtLeast.unknown, AtLeast.nodesTo, AtLeast.enoughOf, Lent.answered, Lent.enoughLent}
 use Rattle.run_enough.specs.LentClaims.{Enough-refused-lent, Enough-none-lent, AgreesLent, Enough-agrees-lent, Enough-figures-lent, Enough-more-lent}
 use Rattle.run_enough.proofs.AtLeast.{Said, said, spends, among-all, among-most, is-enough, to-limit, to-count, to-before, enough-none, enough-more}
 
-of-answer : (b pairs block : List ℕ) (limit m : ℕ) (e : Enough) → enoughLent b pairs block limit m ≡ answered e → (verdictLent b pairs block ≡ accepted) × (enoughOf (problemLent b pairs block) limit m ≡ e)
+of-answer : (b pairs block : List ℕ) (limit m : ℕ) (e : Enough) → enoughLent b pairs block limit m ≡ answered e → (verdictLent b pairs block ≡ accepted) ×
+    (enoughOf (problemLent b pairs block) limit m ≡ e)
 unfolding enoughLent
 of-answer b pairs block limit m e h = reply-so (verdictLent b pairs block) (enoughOf (problemLent b pairs block) limit m) e h
 
-run-of : (b pairs block : List ℕ) (limit : ℕ) (out : List ℕ) (e : Ending) → verdictLent b pairs block ≡ accepted → resultOf (problemLent b pairs block) limit (length out) .ending ≡ e → answerLent b pairs block limit out ≡ ended e
+run-of : (b pairs block : List ℕ) (limit : ℕ) (out : List ℕ) (e : Ending) → verdictLent b pairs block ≡ accepted → resultOf (problemLent b pairs block) limit (length out) .ending ≡ e
+    → answerLent b pairs block limit out ≡ ended e
 unfolding answerBy resultBy
 run-of b pairs block limit out e h q = ap₂ (λ (v : Verdict) (x : Ending). reply v x) h q
 
 -- as many plans in the tree as leaders in the order
-pub tree-leaders : (b pairs block : List ℕ) → verdictLent b pairs block ≡ accepted → length (keep (isPlan (problemLent b pairs block)) (nodes (problemLent b pairs block))) ≡ length (leadersBy (orderLent b pairs) (problemWith b block))
+pub tree-leaders : (b pairs block : List ℕ) → verdictLent b pairs block ≡ accepted → length (keep (isPlan (problemLent b pairs block)) (nodes (problemLent b pairs block))) ≡ length
+    (leadersBy (orderLent b pairs) (problemWith b block))
 tree-leaders b pairs block h =
     let p = problemWith b block in
     let order = orderLent b pairs in
-    let good = passed-all (verdictLent b pairs block) h in
+    let good = is-accepted (verdictLent b pairs block) h in
     let w = well-lent b pairs block good in
     let r = respected-lent b pairs block good in
     let o = ordering-lent b pairs block good in
@@ -117,7 +105,8 @@ enough-figures-lent b pairs block limit m = record {
     q : Problem
     q = problemLent b pairs block
 
-    room : (out : List ℕ) → verdictLent b pairs block ≡ accepted → length (leadersBy (orderLent b pairs) (problemWith b block)) * problemOf b .variables ≤ length out → length (keep (isPlan q) (nodes q)) * problemOf b .variables ≤ length out
+    room : (out : List ℕ) → verdictLent b pairs block ≡ accepted → length (leadersBy (orderLent b pairs) (problemWith b block)) * problemOf b .variables ≤ length out → length
+        (keep (isPlan q) (nodes q)) * problemOf b .variables ≤ length out
     room out h r = subst (λ (l : ℕ). l * problemOf b .variables ≤ length out) (sym (tree-leaders b pairs block h)) r
 
 pub enough-more-lent : Enough-more-lent
@@ -125,5 +114,6 @@ unfolding enoughLent
 enough-more-lent b pairs block limit limit′ m l h = go (verdictLent b pairs block) refl
   where
     go : (v : Verdict) → verdictLent b pairs block ≡ v → reply v (enoughOf (problemLent b pairs block) limit′ m) ≡ reply v (enoughOf (problemLent b pairs block) limit m)
-    go accepted q = ap answered (enough-more (problemLent b pairs block) limit limit′ m l (λ k t e. h k t (ap (λ (v : Verdict). reply v (enoughOf (problemLent b pairs block) limit m)) q ∙ ap answered e)))
+    go accepted q = ap answered (enough-more (problemLent b pairs block) limit limit′ m l
+        (λ k t e. h k t (ap (λ (v : Verdict). reply v (enoughOf (problemLent b pairs block) limit m)) q ∙ ap answered e)))
     go (refused number item) q = refl

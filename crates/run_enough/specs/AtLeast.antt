@@ -1,15 +1,7 @@
 -- Paper 02, #101: are there at least m plans? The answer, from the tree's nodes, and what is claimed of it.
 -- The proofs are in proofs/AtLeast.antt; what a caller is told, and what it is good for, is in specs/Lent and specs/LentClaims.
-use mathlib.Core.Path.{_≡_}
-use mathlib.Core.Bool.{true, false}
-use Prim.Native.Nat.{ℕ, suc, _*_, _≤_}
-use lib.ListN.{length}
-use lib.Dec.{leb}
-use Rattle.model.specs.ValueSets.{least}
-use Rattle.model.specs.Problem.{Problem}
-use Rattle.model.specs.Search.{nodes}
-use Rattle.model.specs.Run.{Ending, finished, spent, full, resultOf}
-use Rattle.model.specs.Claims.{plansAmong}
+use Rattle.model.specs.Kit.{_≡_, true, false, ℕ, suc, _*_, _≤_, length, leb}
+use Rattle.model.specs.{ValueSets.least, Problem.Problem, Search.nodes, Run.Ending, Run.finished, Run.spent, Run.full, Run.resultOf, Claims.plansAmong}
 
 -- the paper's yes, no and spent; each carries the plans found and the nodes made (the trial figure)
 pub data Enough : Type 0 where

@@ -1,10 +1,9 @@
 -- "Are there at least m plans?" (paper 02, #101), asked of a sheet, pairs and a block: what a caller holds. No list is lent.
-use mathlib.Core.List.{List}
-use Prim.Native.Nat.{ℕ}
+use Rattle.model.specs.Kit.{List, ℕ}
 use Rattle.model.specs.Verdict.{reply}
-pub use Rattle.model.specs.Verdict.{Reply, refusal, answered}
 use Rattle.run_input.specs.Lent.{verdictLent, problemLent}
 use Rattle.run_enough.specs.AtLeast.{Enough, enoughOf}
+pub use Rattle.model.specs.Verdict.{Reply, refusal, answered}
 
 abbrev pub EnoughAnswer : Type 0
 EnoughAnswer = Reply Enough

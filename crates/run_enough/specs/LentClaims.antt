@@ -1,17 +1,9 @@
 -- What is claimed of "at least m plans?" (paper 02, #101), asked of a sheet, pairs and a block. The proofs are in proofs/LentEnough.antt.
-use mathlib.Core.Path.{_≡_}
-use mathlib.Core.Logic.{_↔_}
-use mathlib.Core.List.{List}
-use Prim.Native.Nat.{ℕ, _*_, _≤_, _<_}
-use lib.ListN.{length}
-use Rattle.model.specs.Verdict.{accepted, refused}
-use Rattle.model.specs.Sheet.{problemOf}
-use Rattle.model.specs.Run.{finished, spent, ended}
-use Rattle.model.specs.Claims.{plansAmong}
+use Rattle.model.specs.Kit.{_≡_, _↔_, List, ℕ, _*_, _≤_, _<_, length}
+use Rattle.model.specs.{Verdict.accepted, Verdict.refused, Sheet.problemOf, Run.finished, Run.spent, Run.ended, Claims.plansAmong}
 use Rattle.order.specs.RunBy.{leadersBy}
 use Rattle.run_input.specs.Lent.{verdictLent, problemWith, orderLent, problemLent, answerLent, plansLent}
-use Rattle.run_enough.specs.AtLeast.{enough, tooFew, unknown}
-use Rattle.run_enough.specs.Lent.{EnoughAnswer, refusal, answered, enoughLent}
+use Rattle.run_enough.specs.{AtLeast.enough, AtLeast.tooFew, AtLeast.unknown, Lent.EnoughAnswer, Lent.refusal, Lent.answered, Lent.enoughLent}
 
 -- a refusal is answered with its number and item
 abbrev pub Enough-refused-lent : Type 0

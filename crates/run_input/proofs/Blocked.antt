@@ -1,23 +1,12 @@
 -- The block in the problem that the run walks: the positions of its variables in the order are a block of the compiled problem, whose orderings are those of the run.
 -- Assumes nothing.
-use mathlib.Core.Path.{_≡_, refl, sym, ap, _∙_}
-use mathlib.Core.List.{List, map}
-use Prim.Native.Nat.{ℕ, _<_}
-use lib.Dec.{T}
-use lib.ListN.{length, take}
+use Rattle.model.specs.Kit.{_≡_, refl, sym, ap, _∙_, List, map, ℕ, _<_, T, length, take}
 use lib.Seq.{take-at}
-use Rattle.model.specs.Lists.{at}
-use Rattle.model.specs.ValueSets.{has}
-use Rattle.model.specs.Problem.{pair}
-use Rattle.model.specs.Verdict.{isAccepted}
-use Rattle.model.specs.Sheet.{problemOf}
-use Rattle.model.specs.Filling.{Gathered}
+use Rattle.model.specs.{Lists.at, ValueSets.has, Problem.pair, Verdict.isAccepted, Sheet.problemOf, inner.Filling.Gathered}
 use Rattle.order.specs.Reordered.{renamed, symmetryIn, reordered}
-use Rattle.block.specs.Block.{tablesLent, inLent}
-use Rattle.block.specs.BlockSets.{BlockIn}
+use Rattle.block.specs.{Block.tablesLent, Block.inLent, BlockSets.BlockIn}
 use Rattle.run_input.specs.Lent.{verdictLent, orderLent, problemLent}
-use Rattle.model.proofs.Lists.{at-take, map-append}
-use Rattle.model.proofs.Filling.{gathered-is, gathered-lt}
+use Rattle.model.proofs.{Lists.at-take, Lists.map-append, Filling.gathered-is, Filling.gathered-lt}
 use Rattle.block.proofs.BlockLent.{block-same, lent-reordered}
 use Rattle.run_input.proofs.Lent.{lent-passed, well-sheet, ordering-lent}
 

@@ -1,35 +1,17 @@
 -- The answers to the questions from those of the parts, and the compiled problem in the settling order. Assumes nothing.
-use mathlib.Core.Path.{_≡_, refl, sym, ap, _∙_, subst}
-use mathlib.Core.Bool.{Bool}
-use mathlib.Core.List.{List, [], _∷_}
-use Prim.Native.Nat.{ℕ, _≤_}
-use native.Mathlib.Omega.{arith}
-use lib.Dec.{T, eqb}
-use lib.ListN.{length, take, length-map}
-use borrow.Author.Tests.{eq-eqb, ne-eqb}
-use Rattle.model.specs.Lists.{at}
-use Rattle.model.specs.Problem.{Problem}
-use Rattle.model.specs.Verdict.{Verdict, accepted, ask, isAccepted}
-use Rattle.model.specs.Sheet.{verdictOf, problemOf}
-use Rattle.model.proofs.Accepted.{constraints-are, symmetries-are, passed}
-use Rattle.order.specs.Order.{settlingOrder, orderVerdict, Ordering}
-use Rattle.order.specs.Reordered.{constraintIn, symmetryIn, reordered}
-use Rattle.order.specs.Settled.{Ordered}
-use Rattle.order.proofs.Order.{no-pairs}
-use Rattle.order.proofs.Reordered.{well-reordered}
-use Rattle.order.proofs.LeadersBy.{reordered-below}
-use Rattle.arrays.specs.Layout.{Compiled}
-use Rattle.arrays.specs.Places.{VARIABLES}
-use Rattle.arrays_order.specs.Reorder.{Movable, Moved}
-use Rattle.sheet.specs.Form.{Sized, Compilation}
-use Rattle.sheet.specs.Meaning.{means, andThen}
-use Rattle.sheet.specs.declared.Answer.{Answer}
-use Rattle.sheet.specs.declared.Answer.the-variants.{Accepted, Refused}
+use Rattle.model.specs.Kit.{_≡_, refl, sym, ap, _∙_, subst, Bool, List, [], _∷_, ℕ, _≤_, arith, T, eqb, length, take, length-map, eq-eqb, ne-eqb}
+use Rattle.model.specs.{Lists.at, Problem.Problem, Verdict.Verdict, Verdict.accepted, Verdict.ask, Verdict.isAccepted, Sheet.verdictOf, Sheet.problemOf}
+use Rattle.model.proofs.Accepted.{constraints-are, symmetries-are, passed, is-accepted}
+use Rattle.order.specs.{Order.settlingOrder, Order.orderVerdict, Order.Ordering, Reordered.constraintIn, Reordered.symmetryIn, Reordered.reordered, inner.Settled.Ordered}
+use Rattle.order.proofs.{Order.no-pairs, Reordered.well-reordered, LeadersBy.reordered-below}
+use Rattle.arrays.specs.{inner.Layout.Compiled, inner.Places.VARIABLES}
+use Rattle.arrays_order.specs.inner.Reorder.{Movable, Moved}
+use Rattle.sheet.specs.{Form.Sized, Form.Compilation, Meaning.means, Meaning.andThen, declared.Answer.Answer, declared.Answer.the-variants.Accepted}
+use Rattle.sheet.specs.declared.Answer.the-variants.{Refused}
 use Rattle.block.specs.Block.{blockLent}
-use Rattle.arrays_block.specs.Asked.{Held}
-use Rattle.run_input.specs.Lent.{verdictLent, orderLent}
-use Rattle.run_input.specs.Compile.{WithinLimits, CompiledLent, Lendings, AskedLent}
-use Rattle.run_input.proofs.Lent.{passed-all, lent-passed, well-sheet, ordering-lent}
+use Rattle.arrays_block.specs.inner.Asked.{Held}
+use Rattle.run_input.specs.{Lent.verdictLent, Lent.orderLent, inner.Compile.WithinLimits, inner.Compile.CompiledLent, inner.Compile.Lendings, inner.Compile.AskedLent}
+use Rattle.run_input.proofs.Lent.{lent-passed, well-sheet, ordering-lent}
 
 -- a refusal is no acceptance
 never : (r : Answer) (number item : ℕ) → r ≡ Refused number item → r ≡ Accepted → ⊥
@@ -79,7 +61,7 @@ module _ (b numbers supports images : List ℕ) (r : Answer) (c : Compilation b 
 
     pub held : Held (problemOf b) numbers supports
     held =
-        let x = passed b (passed-all (verdictOf b) accepts) in
+        let x = passed b (is-accepted (verdictOf b) accepts) in
         let w = x .well in
         let l = constraints-are b in
         let m = symmetries-are b in
@@ -125,7 +107,7 @@ module _ (b pairs block numbers supports images order : List ℕ) (r : Answer) (
   p = problemOf b
 
   good : T (isAccepted (verdictLent b pairs block))
-  good = passed-all (verdictLent b pairs block) (sym (a .answers) ∙ ap means e)
+  good = is-accepted (verdictLent b pairs block) (sym (a .answers) ∙ ap means e)
 
   ordered : Ordering (problemOf b .variables) (orderLent b pairs)
   ordered = ordering-lent b pairs block good
@@ -143,7 +125,8 @@ module _ (b pairs block numbers supports images order : List ℕ) (r : Answer) (
     symmetries = let l = length-map (p .symmetries) (symmetryIn (orderLent b pairs) p) in let f = few-symmetries in omega arith;
   }
 
-  whole : (numbers′ supports′ images′ : List ℕ) → Compiled (reordered (orderLent b pairs) (problemOf b)) numbers′ supports′ images′ → Sized numbers′ supports′ images′ → CompiledLent b pairs block numbers′ supports′ images′ order Accepted
+  whole : (numbers′ supports′ images′ : List ℕ) → Compiled (reordered (orderLent b pairs) (problemOf b)) numbers′ supports′ images′ → Sized numbers′ supports′ images′
+      → CompiledLent b pairs block numbers′ supports′ images′ order Accepted
   whole numbers′ supports′ images′ c s = record {
     answers = sym (ap means e) ∙ a .answers;
     compiled = λ q. c;
@@ -166,17 +149,24 @@ module _ (b pairs block numbers supports images order : List ℕ) (r : Answer) (
     images-length = a .sizes e .images-length;
   }
 
-  pub compiled-moved : (numbers′ supports′ images′ : List ℕ) → Moved (problemOf b) order numbers supports images numbers′ supports′ images′ → CompiledLent b pairs block numbers′ supports′ images′ order Accepted
+  pub compiled-moved : (numbers′ supports′ images′ : List ℕ) → Moved (problemOf b) order numbers supports images numbers′ supports′ images′
+      → CompiledLent b pairs block numbers′ supports′ images′ order Accepted
   compiled-moved numbers′ supports′ images′ m =
       whole numbers′ supports′ images′ (subst (λ (o : List ℕ). Compiled (reordered o p) numbers′ supports′ images′) (a .order-is e) (m .compiled))
-      (record { numbers-length = m .numbers-length ∙ a .sizes e .numbers-length; supports-length = m .supports-length ∙ a .sizes e .supports-length; images-length = m .images-length ∙ a .sizes e .images-length })
+      (record {
+        numbers-length = m .numbers-length ∙ a .sizes e .numbers-length;
+        supports-length = m .supports-length ∙ a .sizes e .supports-length;
+        images-length = m .images-length
+            ∙ a .sizes e .images-length;
+      })
 
   -- without pairs the order is 0, 1, .., and the problem is the sheet's own
   pub compiled-same : length pairs ≡ 0 → CompiledLent b pairs block numbers supports images order Accepted
   compiled-same h =
       whole numbers supports images
       (subst (λ (q : Problem). Compiled q numbers supports images)
-      (sym (ap (λ (l : List ℕ). reordered (settlingOrder (p .variables) l) p) (none pairs h) ∙ ap (λ (o : List ℕ). reordered o p) (no-pairs (p .variables)) ∙ reordered-below p (well-sheet b pairs block good))) (a .compiled e))
+      (sym (ap (λ (l : List ℕ). reordered (settlingOrder (p .variables) l) p) (none pairs h) ∙ ap (λ (o : List ℕ). reordered o p) (no-pairs (p .variables)) ∙ reordered-below p
+      (well-sheet b pairs block good))) (a .compiled e))
       (a .sizes e)
     where
       none : (l : List ℕ) → length l ≡ 0 → l ≡ []

@@ -1,36 +1,22 @@
 -- The demands of a run that is lent a sheet, pairs and a block, and an empty lending, which changes nothing (specs/LentClaims). Assumes nothing.
-use mathlib.Core.Path.{_≡_, refl, sym, ap, ap₂, _∙_, subst}
-use mathlib.Core.Logic.{⊎-elim}
-use mathlib.Core.List.{List, [], _++_, append-nil, List·Memᴰ, List·Memᴰ·append-cases, Memᴰ·append-left, Memᴰ·append-right}
-use Prim.Native.Nat.{ℕ}
-use lib.Dec.{T}
-use Rattle.model.specs.Problem.{Problem, respects, withSymmetries}
-use Rattle.model.specs.Verdict.{Verdict, accepted, refused, isAccepted}
-use Rattle.model.specs.Sheet.{verdictOf, problemOf}
-use Rattle.model.specs.WellFormed.{WellFormed, GoodSymmetry, Respected}
-use Rattle.model.specs.Run.{Ending, ended}
-use Rattle.model.proofs.Accepted.{Passed, passed}
-use Rattle.model.proofs.OneMore.{one-more}
-use Rattle.order.specs.Order.{Ordering, settlingOrder, orderVerdict}
-use Rattle.order.specs.Reordered.{reordered}
-use Rattle.order.specs.RunBy.{Input, sheetInput, answerBy, listBy, talliedBy}
+use Rattle.model.specs.Kit.{_≡_, refl, ap, ap₂, _∙_, ⊎-elim, List, [], _++_, append-nil, List·Memᴰ, Memᴰ·append-left, ℕ, T}
+use mathlib.Core.List.{List·Memᴰ·append-cases, Memᴰ·append-right}
+use Rattle.model.specs.{Problem.Problem, Problem.respects, Problem.withSymmetries, Verdict.Verdict, Verdict.accepted, Verdict.refused, Verdict.isAccepted, Sheet.verdictOf}
+use Rattle.model.specs.{Sheet.problemOf, WellFormed.WellFormed, WellFormed.GoodSymmetry, WellFormed.Respected, Run.Ending, Run.ended}
+use Rattle.model.proofs.{Accepted.Passed, Accepted.passed, Accepted.is-accepted, OneMore.one-more}
+use Rattle.order.specs.{Order.Ordering, Order.settlingOrder, Order.orderVerdict, Reordered.reordered, RunBy.Input, RunBy.sheetInput, RunBy.answerBy, RunBy.listBy, RunBy.talliedBy}
 use Rattle.order.specs.Claims.{OrderPassed}
-use Rattle.order.proofs.Order.{order-passed, no-pairs, no-pairs-asked}
-use Rattle.order.proofs.Demanded.{Sound, ran-by, demanded, fewer, sheet-run}
+use Rattle.order.proofs.{Order.order-passed, Order.no-pairs, Order.no-pairs-asked, Demanded.Sound, Demanded.ran-by, Demanded.demanded, Demanded.fewer, Demanded.sheet-run}
 use Rattle.sheet.specs.Meaning.{andThen}
 use Rattle.block.specs.Block.{tablesLent, blockLent}
-use Rattle.block.proofs.Tables.{Passes, well-formed-with, respected-with}
-use Rattle.block.proofs.BlockLent.{tables-pass, tables-other}
-use Rattle.run_input.specs.Lent.{verdictLent, problemWith, orderLent, lentInput, answerLent}
-use Rattle.run_input.specs.LentClaims.{Nothing-lent, Demanded-lent, Fewer-lent}
+use Rattle.block.proofs.{Tables.Passes, Tables.well-formed-with, Tables.respected-with, BlockLent.tables-pass, BlockLent.tables-other}
+use Rattle.run_input.specs.{Lent.verdictLent, Lent.problemWith, Lent.orderLent, Lent.lentInput, Lent.answerLent, LentClaims.Nothing-lent, LentClaims.Demanded-lent}
+use Rattle.run_input.specs.LentClaims.{Fewer-lent}
 
 -- ---- what the questions show
 pub both-passed : (v u : Verdict) → T (isAccepted (andThen v u)) → T (isAccepted v) × T (isAccepted u)
 both-passed accepted u t = (tt, t)
 both-passed (refused number item) u t = absurd t
-
-pub passed-all : (v : Verdict) → v ≡ accepted → T (isAccepted v)
-passed-all v h = subst (λ (v : Verdict). T (isAccepted v)) (sym h) tt
 
 pub record LentPassed (b pairs block : List ℕ) : Type 0 where
   pub sheet : Passed b
@@ -68,12 +54,12 @@ module _ (b pairs block : List ℕ) (good : T (isAccepted (verdictLent b pairs b
 
 -- an answer that ended: all questions are passed
 pub lent-good : (b pairs block : List ℕ) (limit : ℕ) (out : List ℕ) (e : Ending) → answerLent b pairs block limit out ≡ ended e → T (isAccepted (verdictLent b pairs block))
-lent-good b pairs block limit out e h = passed-all (verdictLent b pairs block) (ran-by (lentInput b pairs block) limit out e h .good)
+lent-good b pairs block limit out e h = is-accepted (verdictLent b pairs block) (ran-by (lentInput b pairs block) limit out e h .good)
 
 -- ---- the demands
 pub sound-lent : (b pairs block : List ℕ) → verdictLent b pairs block ≡ accepted → Sound (lentInput b pairs block)
 sound-lent b pairs block v =
-    let good = passed-all (verdictLent b pairs block) v in
+    let good = is-accepted (verdictLent b pairs block) v in
     record { well = well-lent b pairs block good; respected = respected-lent b pairs block good; ordering = ordering-lent b pairs block good }
 
 pub demanded-lent : Demanded-lent
@@ -81,7 +67,8 @@ demanded-lent b pairs block = demanded (lentInput b pairs block) (sound-lent b p
 
 -- ---- one exchange more, under the same pairs and block
 -- the sheet's problem with other exchanges, and the same block
-pub problem-other : (b c : List ℕ) (gs : List (List ℕ)) (block : List ℕ) → problemOf c ≡ withSymmetries (problemOf b) gs → problemWith c block ≡ withSymmetries (problemOf b) (gs ++ tablesLent (problemOf b) block)
+pub problem-other : (b c : List ℕ) (gs : List (List ℕ)) (block : List ℕ) → problemOf c ≡ withSymmetries (problemOf b) gs → problemWith c block ≡ withSymmetries (problemOf b)
+    (gs ++ tablesLent (problemOf b) block)
 problem-other b c gs block e =
     ap (λ (q : Problem). withSymmetries q (q .symmetries ++ tablesLent q block)) e
     ∙ ap (λ (ts : List (List ℕ)). withSymmetries (problemOf b) (gs ++ ts)) (tables-other (problemOf b) gs block)
@@ -90,7 +77,7 @@ pub fewer-lent : Fewer-lent
 unfolding verdictLent
 fewer-lent b c t pairs block k more =
     fewer (lentInput b pairs block) (lentInput c pairs block) (sound-lent b pairs block) (sound-lent c pairs block)
-    (λ v. let good = both-passed (verdictOf b) (orderVerdict (problemOf b .variables) pairs (blockLent (problemOf b) block)) (passed-all (verdictLent b pairs block) v) .0 in
+    (λ v. let good = both-passed (verdictOf b) (orderVerdict (problemOf b .variables) pairs (blockLent (problemOf b) block)) (is-accepted (verdictLent b pairs block) v) .0 in
     let r = one-more b c t k more good in
     let ts = tablesLent (problemOf b) block in
     record {

@@ -1,25 +1,15 @@
 -- The questions put to a sheet, pairs and a block (specs/LentClaims): their order, and what 30 and 36 mean. Assumes nothing.
-use mathlib.Core.Path.{_≡_, refl, sym, ap, ap₂, _∙_, subst}
-use mathlib.Core.Bool.{Bool, true, false}
-use mathlib.Core.Logic.{_↔_, _⊎_, inl, inr, ⊎-elim}
-use mathlib.Core.List.{List, [], _∷_, List·Memᴰ}
-use Prim.Native.Nat.{ℕ, suc, _%_, _≤_, _<_}
-use native.Mathlib.Omega.{arith}
-use lib.Dec.{T, leb, ltb, eqb, leb→le, ltb→lt, eqb→eq}
-use lib.ListN.{length}
-use borrow.Author.Tests.{le-leb, eq-eqb}
-use Rattle.model.specs.Lists.{both, all}
-use Rattle.model.specs.Problem.{Problem, respects}
-use Rattle.model.specs.Verdict.{Verdict, accepted, refused, ask}
-use Rattle.model.specs.Sheet.{problemOf, permutesPairs, symmetriesVerdict, verdictOf}
+use Rattle.model.specs.Kit.{_≡_, refl, sym, ap, ap₂, _∙_, subst, Bool, true, false, _↔_, _⊎_, inl, inr, ⊎-elim, List, [], _∷_, List·Memᴰ, ℕ, suc, _%_, _≤_, _<_, arith, T, leb, ltb}
+use Rattle.model.specs.Kit.{eqb, leb→le, ltb→lt, eqb→eq, length, le-leb, eq-eqb}
+use Rattle.model.specs.{Lists.both, Lists.all, Problem.Problem, Problem.respects, Verdict.Verdict, Verdict.accepted, Verdict.refused, Verdict.ask, Sheet.problemOf}
+use Rattle.model.specs.Sheet.{permutesPairs, symmetriesVerdict, verdictOf}
 use Rattle.model.proofs.Lists.{both-l, both-r, of-T, T-of, not-of, all-e}
 use Rattle.order.specs.Order.{Circle, settlesAll, orderVerdict}
 use Rattle.order.proofs.Order.{question-30, no-circle-passes}
 use Rattle.sheet.specs.Meaning.{andThen}
 use Rattle.block.specs.Block.{blockTables, isBlock, blockVerdict, blockLent}
 use Rattle.block.proofs.Block.{block-is, is-block}
-use Rattle.run_input.specs.Lent.{verdictLent}
-use Rattle.run_input.specs.LentClaims.{Pairs, NamesBlock, Questions-lent}
+use Rattle.run_input.specs.{Lent.verdictLent, LentClaims.Pairs, LentClaims.NamesBlock, LentClaims.Questions-lent}
 
 -- ---- the block's questions
 abbrev numberIn : Verdict → ℕ
@@ -79,7 +69,8 @@ is-36 : (p : Problem) (block : List ℕ) → (blockLent p block ≡ refused 36 0
 is-36 p block = (
   λ e. (
     λ z. let c : _≡_ {A = ℕ} 0 36 = ap numberIn (sym (none-passes p)) ∙ ap (λ (l : List ℕ). numberIn (blockLent p l)) (sym z) ∙ ap numberIn e in omega arith,
-    λ n. tables-not 36 0 (omega arith) (symmetriesVerdict p (length (p .symmetries)) (blockTables p (n .0) (n .1))) (tables-number p (length (p .symmetries)) (blockTables p (n .0) (n .1))) (sym (named p block n) ∙ e),
+    λ n. tables-not 36 0 (omega arith) (symmetriesVerdict p (length (p .symmetries)) (blockTables p (n .0) (n .1))) (tables-number p (length (p .symmetries)) (blockTables p (n .0) (n .1)))
+        (sym (named p block n) ∙ e),
   ),
   λ r. not-named p block (r .0) (r .1),
 )
@@ -89,7 +80,8 @@ unfolding blockLent
 not-30 p [] e = let c : _≡_ {A = ℕ} 0 30 = ap numberIn e in omega arith
 not-30 p (first ∷ []) e = let c : _≡_ {A = ℕ} 36 30 = ap numberIn e in omega arith
 not-30 p (first ∷ m ∷ []) e =
-    ⊎-elim {C = ⊥} (λ t. tables-not 30 0 (omega arith) (symmetriesVerdict p (length (p .symmetries)) (blockTables p first m)) (tables-number p (length (p .symmetries)) (blockTables p first m)) (sym (block-asked p first m t) ∙ e))
+    ⊎-elim {C = ⊥} (λ t. tables-not 30 0 (omega arith) (symmetriesVerdict p (length (p .symmetries)) (blockTables p first m)) (tables-number p (length (p .symmetries)) (blockTables p first m))
+    (sym (block-asked p first m t) ∙ e))
     (λ q. let c : _≡_ {A = ℕ} 36 30 = ap numberIn (sym q ∙ e) in omega arith) (block-cases p first m)
 not-30 p (first ∷ m ∷ x ∷ more) e = let c : _≡_ {A = ℕ} 36 30 = ap numberIn e in omega arith
 
@@ -127,8 +119,10 @@ questions-lent b pairs block = record {
     n : ℕ
     n = problemOf b .variables
 
-    rest : verdictOf b ≡ accepted → andThen (verdictOf b) (orderVerdict (problemOf b .variables) pairs (blockLent (problemOf b) block)) ≡ orderVerdict (problemOf b .variables) pairs (blockLent (problemOf b) block)
+    rest : verdictOf b ≡ accepted → andThen (verdictOf b) (orderVerdict (problemOf b .variables) pairs (blockLent (problemOf b) block)) ≡ orderVerdict (problemOf b .variables) pairs
+        (blockLent (problemOf b) block)
     rest e = ap (λ (v : Verdict). andThen v (orderVerdict (problemOf b .variables) pairs (blockLent (problemOf b) block))) e
 
-    pass : verdictOf b ≡ accepted → Pairs (problemOf b .variables) pairs → (Circle pairs → ⊥) → andThen (verdictOf b) (orderVerdict (problemOf b .variables) pairs (blockLent (problemOf b) block)) ≡ blockLent (problemOf b) block
+    pass : verdictOf b ≡ accepted → Pairs (problemOf b .variables) pairs → (Circle pairs → ⊥) → andThen (verdictOf b)
+        (orderVerdict (problemOf b .variables) pairs (blockLent (problemOf b) block)) ≡ blockLent (problemOf b) block
     pass e q ok = rest e ∙ no-circle-passes n pairs (q .few) (q .whole) (q .inside) (blockLent p block) ok

@@ -1,10 +1,6 @@
 -- A call of `question`: bytes of a sheet, pairs and a block, and the answer. proofs/Calls has the theorem; what the verdict is, is `Questions-lent`.
-use mathlib.Core.Path.{_≡_}
-use mathlib.Core.List.{List}
-use Prim.Native.Nat.{ℕ}
-use Rattle.sheet.specs.Meaning.{means}
-use Rattle.sheet.specs.Calls.{Says}
-use Rattle.sheet.specs.declared.Answer.{Answer}
+use Rattle.model.specs.Kit.{_≡_, List, ℕ}
+use Rattle.sheet.specs.{Meaning.means, Calls.Says, declared.Answer.Answer}
 use Rattle.run_input.specs.Lent.{verdictLent}
 
 -- It is the function's contract.

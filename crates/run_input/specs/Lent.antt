@@ -1,14 +1,8 @@
 -- A run that is lent a sheet, pairs and a block (paper 02, #107, #108 and #111): its questions, its problem, its answer, its list and its tally.
 -- Pairs: two bytes each, "this place before that place". Block: no bytes for none, else two, its first place and how many.
-use mathlib.Core.List.{List}
-use Prim.Native.Nat.{ℕ}
-use Rattle.model.specs.Problem.{Problem}
-use Rattle.model.specs.Verdict.{Verdict}
-use Rattle.model.specs.Sheet.{problemOf, verdictOf}
-use Rattle.model.specs.Run.{Ending, Answer, Tally}
-use Rattle.order.specs.Order.{settlingOrder, orderVerdict}
-use Rattle.order.specs.Reordered.{reordered}
-use Rattle.order.specs.RunBy.{Input, answerBy, listBy, plansBy, talliedBy}
+use Rattle.model.specs.Kit.{List, ℕ}
+use Rattle.model.specs.{Problem.Problem, Verdict.Verdict, Sheet.problemOf, Sheet.verdictOf, Run.Ending, Run.Answer, Run.Tally}
+use Rattle.order.specs.{Order.settlingOrder, Order.orderVerdict, Reordered.reordered, RunBy.Input, RunBy.answerBy, RunBy.listBy, RunBy.plansBy, RunBy.talliedBy}
 use Rattle.block.specs.Block.{blockLent, withLent}
 use Rattle.sheet.specs.Meaning.{andThen}
 

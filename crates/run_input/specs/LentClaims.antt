@@ -1,18 +1,10 @@
 -- What is claimed of a run that is lent a sheet, pairs and a block (specs/Lent): its questions, an empty lending, and that all holds of it that crate order's
 -- `Demanded` says of a run: "reads earlier" is "in the settling order" (paper 02, #108), and leaders and chains read the block's orderings (#111).
 -- The proofs are in proofs/Lent.antt and LentQuestions.antt.
-use mathlib.Core.Path.{_≡_}
-use mathlib.Core.Logic.{_↔_}
-use mathlib.Core.List.{List, [], _∷_, List·Memᴰ}
-use Prim.Native.Nat.{ℕ, _+_, _%_, _≤_, _<_}
-use lib.ListN.{length}
-use Rattle.model.specs.Verdict.{accepted, refused}
-use Rattle.model.specs.Sheet.{problemOf, symmetriesVerdict, verdictOf}
-use Rattle.model.specs.Run.{answerOf, listOf, Tally, tallyOf}
+use Rattle.model.specs.Kit.{_≡_, _↔_, List, [], _∷_, List·Memᴰ, ℕ, _+_, _%_, _≤_, _<_, length}
+use Rattle.model.specs.{Verdict.accepted, Verdict.refused, Sheet.problemOf, Sheet.symmetriesVerdict, Sheet.verdictOf, Run.answerOf, Run.listOf, Run.Tally, Run.tallyOf}
 use Rattle.model.specs.Claims.{OneMore}
-use Rattle.order.specs.Order.{Circle}
-use Rattle.order.specs.RunBy.{sheetInput}
-use Rattle.order.specs.Demanded.{Demanded, Fewer}
+use Rattle.order.specs.{Order.Circle, RunBy.sheetInput, Demanded.Demanded, Demanded.Fewer}
 use Rattle.block.specs.Block.{blockTables}
 use Rattle.run_input.specs.Lent.{verdictLent, lentInput, problemLent, answerLent, listLent, tallyLent}
 

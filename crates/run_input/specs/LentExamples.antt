@@ -1,11 +1,6 @@
 -- Runs that are lent pairs and a block (paper 02, #108, #107 and #111), as one list of statements about the definitions. One theorem says that each holds (proofs/LentExamples).
-use mathlib.Core.Path.{_≡_}
-use mathlib.Core.List.{List, [], _∷_}
-use Prim.Native.Nat.{ℕ}
-use lib.ListN.{replicate}
-use Rattle.model.specs.Verdict.{accepted, refused}
-use Rattle.model.specs.Run.{ended, finished, Tally}
-use Rattle.model.specs.Examples.{sheetA, sheetA0, sheetR, sheetF}
+use Rattle.model.specs.Kit.{_≡_, List, [], _∷_, ℕ, replicate}
+use Rattle.model.specs.{Verdict.accepted, Verdict.refused, Run.ended, Run.finished, Run.Tally, Examples.sheetA, Examples.sheetA0, Examples.sheetR, Examples.sheetF}
 use Rattle.run_input.specs.Lent.{verdictLent, answerLent, plansLent, tallyLent}
 
 abbrev room : List ℕ

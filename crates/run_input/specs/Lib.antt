@@ -2,5 +2,5 @@
 pub mod Lent
 pub mod Calls
 pub mod LentClaims
-pub mod Compile
 pub mod LentExamples
+pub mod inner

@@ -2,11 +2,11 @@
 ghost use mathlib.Core.Path.{_≡_};
 ghost use lib.ListN.{length};
 ghost use Rattle.model.specs.Problem.{Problem};
-ghost use Rattle.arrays.specs.Places.{IMAGES, NUMBERS, SUPPORTS};
+ghost use Rattle.arrays.specs.inner.Places.{IMAGES, NUMBERS, SUPPORTS};
 ghost use Rattle.sheet.specs.Form.{Zeros};
-ghost use Rattle.arrays_block.specs.Asked.{Held};
+ghost use Rattle.arrays_block.specs.inner.Asked.{Held};
 ghost use Rattle.run_input.specs.Calls.{CallQuestionLent};
-ghost use Rattle.run_input.specs.Compile.{Lendings, AskedLent, CompiledLent};
+ghost use Rattle.run_input.specs.inner.Compile.{Lendings, AskedLent, CompiledLent};
 use arrays::IMAGES;
 use arrays::Images;
 use arrays::NUMBERS;
@@ -25,7 +25,8 @@ fn lendings(
     order: &mut [u8; 16],
 ) -> Answer
     requires { ⌜ ((p : Problem) × Held p (now numbers) (now supports)) × (length (now order) ≡ 16) ⌝ }
-    ensures { λ r. ⌜ ((p : Problem) → Held p (now (numbers .entry)) (now (supports .entry)) → Lendings p (now (pairs .entry)) (now (block .entry)) (now (order .exit)) r) ⌝ }
+    ensures { λ r. ⌜ ((p : Problem) → Held p (now (numbers .entry)) (now (supports .entry)) → Lendings p (now (pairs .entry)) (now (block .entry))
+        (now (order .exit)) r) ⌝ }
 {
     let number = order::settling_order(numbers[VARIABLES] as usize, pairs, order);
     if number != 0 {
@@ -45,7 +46,8 @@ pub fn ask(
     order: &mut [u8; 16],
 ) -> Answer
     requires { ⌜ Zeros NUMBERS (now numbers) × Zeros SUPPORTS (now supports) × (length (now images) ≡ IMAGES) × (length (now order) ≡ 16) ⌝ }
-    ensures { λ r. ⌜ AskedLent (now (sheet .entry)) (now (pairs .entry)) (now (block .entry)) (now (numbers .exit)) (now (supports .exit)) (now (images .exit)) (now (order .exit)) r ⌝ }
+    ensures { λ r. ⌜ AskedLent (now (sheet .entry)) (now (pairs .entry)) (now (block .entry)) (now (numbers .exit)) (now (supports .exit))
+        (now (images .exit)) (now (order .exit)) r ⌝ }
 {
     let first = sheet::compile(sheet, numbers, supports, images);
     let Answer::Accepted = first else {
@@ -86,7 +88,8 @@ pub fn compile(
     order: &mut [u8; 16],
 ) -> Answer
     requires { ⌜ Zeros NUMBERS (now numbers) × Zeros SUPPORTS (now supports) × (length (now images) ≡ IMAGES) × (length (now order) ≡ 16) ⌝ }
-    ensures { λ r. ⌜ CompiledLent (now (sheet .entry)) (now (pairs .entry)) (now (block .entry)) (now (numbers .exit)) (now (supports .exit)) (now (images .exit)) (now (order .exit)) r ⌝ }
+    ensures { λ r. ⌜ CompiledLent (now (sheet .entry)) (now (pairs .entry)) (now (block .entry)) (now (numbers .exit)) (now (supports .exit))
+        (now (images .exit)) (now (order .exit)) r ⌝ }
 {
     let answer = ask(sheet, pairs, block, numbers, supports, images, order);
     let Answer::Accepted = answer else {

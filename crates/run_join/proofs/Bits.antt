@@ -1,20 +1,9 @@
 -- Marks as bits, and the heads that are marked. Assumes nothing.
-use mathlib.Core.Path.{_≡_, refl, sym, ap, ap₂, _∙_, subst}
-use mathlib.Core.Bool.{Bool, true, false, not}
-use mathlib.Core.List.{List}
-use Prim.Native.Nat.{ℕ, _+_, _-_, _/_, _%_, _≤_, _<_}
-use native.Mathlib.Omega.{arith}
-use lib.Bits.{bitOr}
-use lib.Dec.{T, eqb, ltb}
-use lib.ListN.{length, set, replicate, length-set, length-replicate}
-use borrow.Author.Tests.{eq-eqb, ne-eqb, eqb-true, eqb-false, ltb-true, ltb-false}
-use Rattle.model.specs.Lists.{at, both, either}
-use Rattle.model.specs.ValueSets.{has}
-use Rattle.model.proofs.Lists.{T-of, of-T, of-not, at-set, at-set-other, at-replicate, either-l}
-use Rattle.model.proofs.Masks.{has-or}
-use Rattle.model.proofs.Members.{either-no}
-use Rattle.model.proofs.Sets.{has-none}
-use Rattle.run_join.specs.Inner.{marked, NoMarks, MarkedToo, Pending}
+use Rattle.model.specs.Kit.{_≡_, refl, sym, ap, ap₂, _∙_, subst, Bool, true, false, not, List, ℕ, _+_, _-_, _/_, _%_, _≤_, _<_, arith, bitOr, T, eqb, ltb, length, set, replicate}
+use Rattle.model.specs.Kit.{length-set, length-replicate, eq-eqb, ne-eqb, eqb-true, eqb-false, ltb-true, ltb-false}
+use Rattle.model.specs.{Lists.at, Lists.both, Lists.either, ValueSets.has}
+use Rattle.model.proofs.{Lists.T-of, Lists.of-T, Lists.of-not, Lists.at-set, Lists.at-set-other, Lists.at-replicate, Lists.either-l, Masks.has-or, Members.either-no, Sets.has-none}
+use Rattle.run_join.specs.inner.Inner.{marked, NoMarks, MarkedToo, Pending}
 
 pub marked-none : NoMarks (replicate 1024 0)
 unfolding marked
@@ -70,7 +59,12 @@ module _ (marks done : List ℕ) (n k : ℕ) where
   waits j = both (marked marks j) (not (marked done j))
 
   pub pending-one : k < n → waits k ≡ true → Pending marks done n (k + 1)
-  pending-one h e = record { few = omega arith; none = λ z. absurd (omega (arith, z)); one = λ d. let z : k ≡ k + 1 - 1 = omega arith in subst (λ (j : ℕ). T (marked marks j) × (T (marked done j) → ⊥)) z (go (marked marks k) (marked done k) e) }
+  pending-one h e = record {
+    few = omega arith;
+    none = λ z. absurd (omega (arith, z));
+    one = λ d. let z : k ≡ k + 1 - 1 = omega arith in subst
+        (λ (j : ℕ). T (marked marks j) × (T (marked done j) → ⊥)) z (go (marked marks k) (marked done k) e);
+  }
     where
       go : (a b : Bool) → both a (not b) ≡ true → T a × (T b → ⊥)
       go true false q = (tt, λ t. t)

@@ -1,21 +1,13 @@
 -- The heads that lead to the last path. Assumes nothing.
-use mathlib.Core.Path.{_≡_, refl, sym, ap, _∙_, subst}
-use mathlib.Core.Bool.{Bool, true, false, not}
-use mathlib.Core.Logic.{_⊎_, inl, inr}
-use mathlib.Core.List.{List, [], _∷_}
-use Prim.Native.Nat.{ℕ, zero, suc, _+_, _-_, _*_, _≤_, _<_}
-use native.Mathlib.Omega.{arith}
-use lib.Dec.{T, eqb, ltb}
-use lib.ListN.{length}
-use borrow.Author.Tests.{eq-eqb, ne-eqb, eqb-true, eqb-false, ltb-true, ltb-false}
+use Rattle.model.specs.Kit.{_≡_, refl, sym, ap, _∙_, subst, Bool, true, false, not, _⊎_, inl, inr, List, [], _∷_, ℕ, zero, suc, _+_, _-_, _*_, _≤_, _<_, arith, T, eqb, ltb, length}
+use Rattle.model.specs.Kit.{eq-eqb, ne-eqb, eqb-true, eqb-false, ltb-true, ltb-false}
 use Rattle.model.specs.Lists.{any, at, below, both, either, choose, keep, same, tabulate}
 use Rattle.model.proofs.Lists.{T-of, of-T, not-of, of-not, T-ext, both-i, both-l, both-r, either-l, either-r, either-e, any-i, any-e, below-i, below-e, same-eq, same-refl}
 use Rattle.model.proofs.Members.{either-no}
 use Rattle.run_cut.specs.Parts.{after}
 use Rattle.run_join.specs.Join.{pathAt, fromAt, reachPlace, reachAt, headsIn, goesOn, comes, joined, leads, mayTake}
-use Rattle.run_join.specs.Inner.{marked, NoMarks, MarkedToo, MarkedBack, Pending, Leading, Ways}
-use Rattle.run_join.proofs.Fewer.{keep-less, further, fewer, further-few}
-use Rattle.run_join.proofs.Bits.{too-itself, too-kept, too-other}
+use Rattle.run_join.specs.inner.Inner.{marked, NoMarks, MarkedToo, MarkedBack, Pending, Leading, Ways}
+use Rattle.run_join.proofs.{Fewer.keep-less, Fewer.further, Fewer.fewer, Fewer.further-few, Bits.too-itself, Bits.too-kept, Bits.too-other}
 
 abbrev end : List ℕ
 end = 255 ∷ []
@@ -51,7 +43,8 @@ module _ (l : List ℕ) where
 
       go : (b : Bool) → T (elim b [ true ↦ true | false ↦ any (test f s) (below (headsIn l)) ])
       go true = tt
-      go false = any-i (test f s) (below (headsIn l)) k (below-i (headsIn l) k i) (passed (both (same (fromAt l k) s) (goesOn l k)) (both-i (same (fromAt l k) s) (goesOn l k) (same-of (fromAt l k) s b) g))
+      go false = any-i (test f s) (below (headsIn l)) k (below-i (headsIn l) k i) (passed (both (same (fromAt l k) s) (goesOn l k))
+          (both-i (same (fromAt l k) s) (goesOn l k) (same-of (fromAt l k) s b) g))
 
   pub comes-e : (f : ℕ) (s : List ℕ) → T (comes l (suc f) s) → (s ≡ end) ⊎ Next f s
   unfolding comes
@@ -240,7 +233,14 @@ module _ (l : List ℕ) (n : ℕ) (many : n ≡ headsIn l) where
         leading k h (inl u) = m .sound k h u
         leading k h (inr (e, g)) =
             both-i (goesOn l k) (comes l (headsIn l) (reachAt l k)) g
-            (comes-from l (reachAt l k) (j, let i = marking-inside d in omega arith, sym e, both-l (goesOn l j) (comes l (headsIn l) (reachAt l j)) lead, both-r (goesOn l j) (comes l (headsIn l) (reachAt l j)) lead))
+            (comes-from l (reachAt l k) (
+              j,
+              let i = marking-inside d in omega arith,
+              sym e,
+              both-l (goesOn l j) (comes l (headsIn l) (reachAt l j)) lead,
+              both-r (goesOn l j)
+                  (comes l (headsIn l) (reachAt l j)) lead,
+            ))
 
         before : (i : ℕ) → i < n → T (marked done′ i) → (k : ℕ) → k < n → reachAt l k ≡ fromAt l i → T (goesOn l k) → (c : Bool) → eqb i j ≡ c → T (marked new k)
         before i h u k q e g true z = marked-back (fromAt l j) marks new b k q (e ∙ ap (fromAt l) (eqb-true i j z)) g
@@ -264,7 +264,11 @@ module _ (l : List ℕ) (n : ℕ) (many : n ≡ headsIn l) where
         not-i false f = tt
 
     pub marking-end : next ≡ 0 → Leading l n marks
-    marking-end z = record { long = m .long; bits = λ k h. T-ext (marked marks k) (leads l k) (m .sound k h) (λ t. all (headsIn l) k h (both-l (goesOn l k) (comes l (headsIn l) (reachAt l k)) t) (both-r (goesOn l k) (comes l (headsIn l) (reachAt l k)) t)) }
+    marking-end z = record {
+      long = m .long;
+      bits = λ k h. T-ext (marked marks k) (leads l k) (m .sound k h)
+          (λ t. all (headsIn l) k h (both-l (goesOn l k) (comes l (headsIn l) (reachAt l k)) t) (both-r (goesOn l k) (comes l (headsIn l) (reachAt l k)) t));
+    }
       where
         all : (f k : ℕ) → k < n → T (goesOn l k) → T (comes l f (reachAt l k)) → T (marked marks k)
         all zero k h g t = m .last k h (comes-zero l (reachAt l k) t) g
@@ -287,13 +291,21 @@ module _ (l : List ℕ) (n : ℕ) (many : n ≡ headsIn l) where
           let k = any-e first (below n) t in
           let h = below-e n (k .0) (k .1) in
           let u = subst T (m .bits (k .0) h) (both-l (marked marks (k .0)) (same (fromAt l (k .0)) []) (k .2)) in
-          comes-from l [] (k .0, omega (arith, h), same-eq (fromAt l (k .0)) [] (both-r (marked marks (k .0)) (same (fromAt l (k .0)) []) (k .2)), both-l (goesOn l (k .0)) (comes l (headsIn l) (reachAt l (k .0))) u, both-r (goesOn l (k .0)) (comes l (headsIn l) (reachAt l (k .0))) u)
+          comes-from l [] (
+            k .0,
+            omega (arith, h),
+            same-eq (fromAt l (k .0)) [] (both-r (marked marks (k .0)) (same (fromAt l (k .0)) []) (k .2)),
+            both-l (goesOn l (k .0))
+                (comes l (headsIn l) (reachAt l (k .0))) u,
+            both-r (goesOn l (k .0)) (comes l (headsIn l) (reachAt l (k .0))) u,
+          )
 
       back : ([] ≡ end) ⊎ Next l (headsIn l) [] → T (any first (below n))
       back (inl e) = absurd (same-of [] end e)
       back (inr (k, i, b, g, t)) =
           let h : k < n = omega arith in
-          any-i first (below n) k (below-i n k h) (both-i (marked marks k) (same (fromAt l k) []) (subst T (sym (m .bits k h)) (both-i (goesOn l k) (comes l (headsIn l) (reachAt l k)) g t)) (same-of (fromAt l k) [] b))
+          any-i first (below n) k (below-i n k h) (both-i (marked marks k) (same (fromAt l k) []) (subst T (sym (m .bits k h)) (both-i (goesOn l k) (comes l (headsIn l) (reachAt l k)) g t))
+          (same-of (fromAt l k) [] b))
 
   pub ways-yes : (marks : List ℕ) → Leading l n marks → joined l ≡ true → Ways l n marks true
   unfolding mayTake

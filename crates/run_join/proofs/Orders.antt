@@ -1,18 +1,11 @@
 -- Paths in bytes: the order of two paths by the first byte in which they differ, else by their lengths. Assumes nothing.
-use mathlib.Core.Path.{_≡_, refl, sym, ap, ap₂, _∙_, subst}
-use mathlib.Core.Bool.{Bool, true, false}
-use mathlib.Core.List.{List, _∷_}
-use Prim.Native.Nat.{ℕ, zero, suc, _+_, _≤_, _<_}
-use native.Mathlib.Omega.{arith}
-use lib.Dec.{T, eqb, ltb, leb}
-use lib.ListN.{length}
-use borrow.Author.Tests.{eq-eqb, ne-eqb, eqb-true, eqb-false, lt-ltb, le-ltb, ltb-true, ltb-false, le-leb, lt-leb, leb-true}
+use Rattle.model.specs.Kit.{_≡_, refl, sym, ap, ap₂, _∙_, subst, Bool, true, false, List, _∷_, ℕ, zero, suc, _+_, _≤_, _<_, arith, T, eqb, ltb, leb, length, eq-eqb, ne-eqb}
+use Rattle.model.specs.Kit.{eqb-true, eqb-false, lt-ltb, le-ltb, ltb-true, ltb-false, le-leb, lt-leb, leb-true}
 use Rattle.model.specs.Lists.{all, at, below, both, either, choose, same, tabulate}
-use Rattle.model.proofs.Lists.{T-of, of-T, not-of, of-not, all-i, all-e, below-i, below-e, length-tabulate, at-tabulate, same-eq, same-refl}
+use Rattle.model.proofs.Lists.{T-of, of-T, not-of, of-not, all-i, all-e, below-i, below-e, length-tabulate, at-tabulate, same-eq, same-refl, both-no-r, both-yes, both-second}
 use Rattle.run_cut.specs.Parts.{after}
 use Rattle.run_cut.proofs.Parts.{after-ne, after-eq}
-use Rattle.run_join.specs.Join.{pathAt, pathShaped}
-use Rattle.run_join.specs.Inner.{orderOf}
+use Rattle.run_join.specs.{Join.pathAt, Join.pathShaped, inner.Inner.orderOf}
 
 -- ---- tests of all numbers below n
 module _ (p : ℕ → Bool) (n : ℕ) where
@@ -25,23 +18,9 @@ module _ (p : ℕ → Bool) (n : ℕ) where
   pub each-below : all p (below n) ≡ true → (k : ℕ) → k < n → p k ≡ true
   each-below e k l = of-T (p k) (all-e p (below n) (T-of (all p (below n)) e) k (below-i n k l))
 
-pub both-yes : (a b : Bool) → a ≡ true → b ≡ true → both a b ≡ true
-both-yes a b e f = ap₂ both e f
-
-pub both-none : (a b : Bool) → a ≡ false → both a b ≡ false
-both-none a b e = ap (λ (x : Bool). both x b) e
-
-pub both-no : (a b : Bool) → b ≡ false → both a b ≡ false
-both-no true b e = e
-both-no false b e = refl
-
 pub both-first : (a b : Bool) → both a b ≡ true → a ≡ true
 both-first true b e = refl
 both-first false b e = e
-
-pub both-second : (a b : Bool) → both a b ≡ true → b ≡ true
-both-second true b e = e
-both-second false b e = absurd (of-not false refl (T-of false e))
 
 -- ---- a path's shape
 module _ (l : List ℕ) (o : ℕ) where
@@ -68,7 +47,7 @@ module _ (l : List ℕ) (o : ℕ) where
   pub shaped-behind : (m k : ℕ) → m ≡ at l o → k < 12 → m ≤ k → (at l (o + 1 + k) ≡ 0 → ⊥) → pathShaped l o ≡ false
   unfolding pathShaped
   shaped-behind m k e i h z =
-      both-no (leb (at l o) 12) (all behind (below 12))
+      both-no-r (leb (at l o) 12) (all behind (below 12))
       (some-below behind 12 k i (zero-or (ltb k (at l o)) (eqb (at l (o + 1 + k)) 0) (le-ltb k (at l o) (omega arith)) ∙ ne-eqb (at l (o + 1 + k)) 0 z))
 
   module _ (so : pathShaped l o ≡ true) where
@@ -102,7 +81,8 @@ first-diff zero n f g (suc m) (suc k) l z y e d = after-ne (f 0) (g 0) (tabulate
 first-diff (suc i) zero f g (suc m) (suc k) l z y e d = absurd (omega arith)
 first-diff (suc i) (suc n) f g (suc m) (suc k) l z y e d =
     front-same (f 0) (g 0) (tabulate m (λ j. f (suc j))) (tabulate k (λ j. g (suc j))) (e 0 (omega arith))
-    ∙ first-diff i n (λ j. f (suc j)) (λ j. g (suc j)) m k (omega arith) (λ j h q. z (suc j) (omega arith) (omega arith)) (λ j h q. y (suc j) (omega arith) (omega arith)) (λ j h. e (suc j) (omega arith)) d
+    ∙ first-diff i n (λ j. f (suc j)) (λ j. g (suc j)) m k (omega arith) (λ j h q. z (suc j) (omega arith) (omega arith)) (λ j h q. y (suc j) (omega arith) (omega arith))
+    (λ j h. e (suc j) (omega arith)) d
 
 ltb-suc : (m k : ℕ) → ltb m k ≡ ltb (suc m) (suc k)
 ltb-suc m k = go (ltb m k) refl
@@ -162,7 +142,8 @@ Compared x y r = (x ≡ y → r ≡ 0) × (x < y → r ≡ 1) × (y < x → r �
 
 module _ (a b : List ℕ) (o p : ℕ) (s : pathShaped a o ≡ true) (t : pathShaped b p ≡ true) where
   -- at the first difference
-  pub order-diff : (i x y r : ℕ) → i < 12 → ((k : ℕ) → k < i → at a (o + 1 + k) ≡ at b (p + 1 + k)) → x ≡ at a (o + 1 + i) → y ≡ at b (p + 1 + i) → (x ≡ y → ⊥) → Compared x y r → r ≡ orderOf (pathAt a o) (pathAt b p)
+  pub order-diff : (i x y r : ℕ) → i < 12 → ((k : ℕ) → k < i → at a (o + 1 + k) ≡ at b (p + 1 + k)) → x ≡ at a (o + 1 + i) → y ≡ at b (p + 1 + i) → (x ≡ y → ⊥) → Compared x y r → r ≡ orderOf
+      (pathAt a o) (pathAt b p)
   unfolding pathAt
   order-diff i x y r l e f g d c =
       let u : ℕ → ℕ = λ k. at a (o + 1 + k) in

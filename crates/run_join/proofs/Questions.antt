@@ -1,17 +1,9 @@
 -- The questions to the heads. Assumes nothing.
-use mathlib.Core.Path.{_≡_, sym, ap, ap₂, _∙_}
-use mathlib.Core.Bool.{Bool, true, false}
-use mathlib.Core.List.{List}
-use Prim.Native.Nat.{ℕ, _+_, _*_, _%_, _≤_, _<_}
-use native.Mathlib.Omega.{arith}
-use lib.Dec.{eqb, leb}
-use lib.ListN.{length}
-use borrow.Author.Tests.{eq-eqb, ne-eqb, le-leb, lt-leb}
-use Rattle.model.specs.Lists.{all, at, below, both, choose}
-use Rattle.model.specs.Verdict.{Verdict, ask}
-use Rattle.run_join.specs.Join.{kindAt, reachPlace, pathShaped, headShaped, alike, headsIn, wholeHeads}
-use Rattle.run_join.specs.Inner.{numberIn}
-use Rattle.run_join.proofs.Orders.{all-below, some-below, both-yes, both-no}
+use Rattle.model.specs.Kit.{_≡_, sym, ap, ap₂, _∙_, Bool, true, false, List, ℕ, _+_, _*_, _%_, _≤_, _<_, arith, eqb, leb, length, eq-eqb, ne-eqb, le-leb, lt-leb}
+use Rattle.model.specs.{Lists.all, Lists.at, Lists.below, Lists.both, Lists.choose, Verdict.Verdict, Verdict.ask}
+use Rattle.run_join.specs.{Join.kindAt, Join.reachPlace, Join.pathShaped, Join.headShaped, Join.alike, Join.headsIn, Join.wholeHeads, inner.Inner.numberIn}
+use Rattle.run_join.proofs.Orders.{all-below, some-below}
+use Rattle.model.proofs.Lists.{both-no-r, both-yes}
 
 module _ (l : List ℕ) (k : ℕ) where
   pub alike-yes : (i : ℕ) → 16 ≤ i → ((j : ℕ) → j < i → at l (115 * k + 60 + j) ≡ at l (60 + j)) → true ≡ alike l k
@@ -32,7 +24,7 @@ module _ (l : List ℕ) (k : ℕ) where
 
   pub shape-high : (kind : ℕ) → kind ≡ kindAt l k → 3 < kind → false ≡ headShaped l k
   unfolding headShaped
-  shape-high kind e h = sym (ap (λ (b : Bool). both b pathsAre) (both-no (leb 1 (kindAt l k)) (leb (kindAt l k) 3) (lt-leb (kindAt l k) 3 (omega arith))))
+  shape-high kind e h = sym (ap (λ (b : Bool). both b pathsAre) (both-no-r (leb 1 (kindAt l k)) (leb (kindAt l k) 3) (lt-leb (kindAt l k) 3 (omega arith))))
 
   pub shape-paths : (kind : ℕ) (r : Bool) → kind ≡ kindAt l k → 1 ≤ kind → kind ≤ 3 → r ≡ pathsAre → r ≡ headShaped l k
   unfolding headShaped
@@ -83,7 +75,7 @@ module _ (l : List ℕ) where
 
   pub whole-many : 65536 < headsIn l → wholeHeads l ≡ false
   unfolding wholeHeads
-  whole-many h = both-no (eqb (length l % 115) 0) (leb (headsIn l) 65536) (lt-leb (headsIn l) 65536 h)
+  whole-many h = both-no-r (eqb (length l % 115) 0) (leb (headsIn l) 65536) (lt-leb (headsIn l) 65536 h)
 
   pub whole-yes : length l % 115 ≡ 0 → headsIn l ≤ 65536 → wholeHeads l ≡ true
   unfolding wholeHeads

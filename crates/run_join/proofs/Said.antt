@@ -1,18 +1,10 @@
 -- What `join` answers, by what it called. Assumes nothing.
-use mathlib.Core.Path.{_≡_, refl, sym, ap, ap₂, _∙_}
-use mathlib.Core.Bool.{Bool, true, false}
-use mathlib.Core.List.{List}
-use Prim.Native.Nat.{ℕ, zero, suc, _≤_}
-use native.Mathlib.Omega.{arith}
-use lib.ListN.{replicate}
-use Rattle.model.specs.Lists.{both, choose}
+use Rattle.model.specs.Kit.{_≡_, refl, sym, ap, ap₂, _∙_, Bool, true, false, List, ℕ, zero, suc, _≤_, arith, replicate}
+use Rattle.model.specs.{Lists.both, Lists.choose, Verdict.Verdict, Verdict.accepted, Verdict.refused}
 use Rattle.run_cut.specs.Parts.{after}
-use Rattle.model.specs.Verdict.{Verdict, accepted, refused}
 use Rattle.model.proofs.Lists.{at-replicate}
 use Rattle.run_join.specs.Join.{joinVerdict, headsIn, fromAt, joined, standPath, nearer, nearestOf, plansOf, nodesOf, countOf}
-use Rattle.run_join.specs.Inner.{Said, Summed, numberIn}
-use Rattle.run_join.specs.Calls.{answerFor, figureFor, CallJoin}
-use Rattle.run_join.specs.declared.Answer.{Answer}
+use Rattle.run_join.specs.{inner.Inner.Said, inner.Inner.Summed, inner.Inner.numberIn, Calls.answerFor, Calls.figureFor, Calls.CallJoin, declared.Answer.Answer}
 use Rattle.run_join.specs.declared.Answer.the-variants.{Refused, Joined, Missing}
 
 module _ (l : List ℕ) (stand : ℕ) where
@@ -44,9 +36,17 @@ module _ (l : List ℕ) (number : ℕ) (e : number ≡ numberIn (joinVerdict l))
   pub said-refused : (number ≡ 0 → ⊥) → CallJoin l (record { answer = Refused number; plans = 0; nodes = 0; counts = replicate 12 0 })
   said-refused d =
       let f = refused-so (joinVerdict l) d e in
-      record { answers = f .0; inside = λ s n q. absurd (let z : _≡_ {A = ℕ} 0 1 = cc in omega arith); plans = f .1 (plansOf l); nodes = f .1 (nodesOf l); counts = λ x h. at-replicate 12 x ∙ f .1 (countOf l x) }
+      record {
+        answers = f .0;
+        inside = λ s n q. absurd (let z : _≡_ {A = ℕ} 0 1 = cc in omega arith);
+        plans = f .1 (plansOf l);
+        nodes = f .1 (nodesOf l);
+        counts = λ x h. at-replicate 12 x ∙ f .1
+            (countOf l x);
+      }
 
-pub said-all : (l : List ℕ) (answer : Answer) (joins : Bool) (stand p m : ℕ) (cs : List ℕ) → joinVerdict l ≡ accepted → joins ≡ joined l → Summed l stand p m cs → Said l joins stand answer → CallJoin l (record { answer = answer; plans = p; nodes = m; counts = cs })
+pub said-all : (l : List ℕ) (answer : Answer) (joins : Bool) (stand p m : ℕ) (cs : List ℕ) → joinVerdict l ≡ accepted → joins ≡ joined l → Summed l stand p m cs → Said l joins stand answer
+    → CallJoin l (record { answer = answer; plans = p; nodes = m; counts = cs })
 unfolding answerFor
 said-all l answer joins stand p m cs v j s a =
     record {

@@ -1,25 +1,20 @@
 -- The sums of the heads taken, turn by turn, and the answer. Assumes nothing.
-use mathlib.Core.Path.{_≡_, refl, sym, ap, ap₂, _∙_, subst}
-use mathlib.Core.Bool.{Bool, true, false}
-use mathlib.Core.List.{List, [], _∷_, map}
-use Prim.Native.Nat.{ℕ, zero, suc, _+_, _-_, _*_, _/_, _%_, _^_, _≤_, _<_}
-use native.Mathlib.Omega.{arith}
-use lib.Dec.{eqb, ltb, leb}
-use lib.ListN.{length, set, replicate, length-set}
-use borrow.Author.Tests.{ltb-true, ltb-false, leb-true}
-use Rattle.model.specs.Lists.{all, at, below, total}
-use Rattle.model.specs.Verdict.{Verdict, accepted, ask}
-use Rattle.model.proofs.Lists.{at-set, at-set-other, at-replicate}
+use Rattle.model.specs.Kit.{_≡_, refl, sym, ap, ap₂, _∙_, subst, Bool, true, false, List, [], _∷_, map, ℕ, zero, suc, _+_, _-_, _*_, _/_, _%_, _^_, _≤_, _<_, arith, eqb, ltb, leb}
+use Rattle.model.specs.Kit.{length, set, replicate, length-set, ltb-true, ltb-false, leb-true}
+use Rattle.model.specs.{Lists.all, Lists.at, Lists.below, Lists.total, Verdict.Verdict, Verdict.accepted, Verdict.ask}
+use Rattle.model.proofs.Lists.{at-set, at-set-other, at-replicate, both-second}
 use Rattle.run_join.specs.Join.{fourAt, kindAt, headShaped, alike, headsIn, wholeHeads, joinVerdict, stepOf, takenFrom, taken, standAfter, stands, plansOf, nodesOf, countOf}
-use Rattle.run_join.specs.Inner.{Heads, AddedHead, Summed, numberIn}
-use Rattle.run_join.proofs.Orders.{each-below, both-second}
+use Rattle.run_join.specs.inner.Inner.{Heads, AddedHead, Summed, numberIn}
+use Rattle.run_join.proofs.Orders.{each-below}
 
 -- ---- twelve counts
 abbrev pub Half : List ℕ → List ℕ → ℕ → ℕ → List ℕ → Type 0
 Half counts l k i sums =
-    (length sums ≡ 12) × ((x : ℕ) → x < i → at sums x ≡ at counts x + fourAt l (115 * k + 12 + 4 * x)) × ((x : ℕ) → x < i → at sums x < at counts x + 2 ^ 32) × ((x : ℕ) → i ≤ x → at sums x ≡ at counts x)
+    (length sums ≡ 12) × ((x : ℕ) → x < i → at sums x ≡ at counts x + fourAt l (115 * k + 12 + 4 * x)) × ((x : ℕ) → x < i → at sums x < at counts x + 2 ^ 32) ×
+    ((x : ℕ) → i ≤ x → at sums x ≡ at counts x)
 
-pub counts-turn : (counts l sums : List ℕ) (k i v f : ℕ) → i < 12 → Half counts l k i sums → f ≡ fourAt l (115 * k + 12 + 4 * i) → f < 2 ^ 32 → v ≡ at sums i + f → Half counts l k (i + 1) (set sums i v)
+pub counts-turn : (counts l sums : List ℕ) (k i v f : ℕ) → i < 12 → Half counts l k i sums → f ≡ fourAt l (115 * k + 12 + 4 * i) → f < 2 ^ 32 → v ≡ at sums i + f → Half counts l k (i + 1)
+    (set sums i v)
 counts-turn counts l sums k i v f h (n, e, g, z) q small r = (length-set sums i v ∙ n, each, few, behind)
   where
     here : at (set sums i v) i ≡ at counts i + f
@@ -89,7 +84,8 @@ module _ (l : List ℕ) where
       }
 
   module _ (n j stand p m : ℕ) (cs : List ℕ) (u : Underway n j stand p m cs) where
-    pub underway-turn : (next stand′ p′ m′ : ℕ) (cs′ : List ℕ) → j < n → next ≡ stepOf l stand → (next ≡ 0 → ⊥) → next ≤ n → AddedHead p m cs l (next - 1) stand′ p′ m′ cs′ → Underway n (j + 1) stand′ p′ m′ cs′
+    pub underway-turn : (next stand′ p′ m′ : ℕ) (cs′ : List ℕ) → j < n → next ≡ stepOf l stand → (next ≡ 0 → ⊥) → next ≤ n → AddedHead p m cs l (next - 1) stand′ p′ m′ cs′ → Underway n
+        (j + 1) stand′ p′ m′ cs′
     unfolding standAfter total
     underway-turn zero stand′ p′ m′ cs′ h e d i a = absurd (d refl)
     underway-turn (suc k) stand′ p′ m′ cs′ h e d i a =
@@ -107,7 +103,8 @@ module _ (l : List ℕ) where
           behind = ap₂ standAfter t next ∙ stood stand k left ∙ ap (standAfter stand) (sym rest) ∙ u .behind;
           plans = moved (λ i. fourAt l (115 * i + 4)) k left (suc k - 1) z p p′ (takenFrom l (n - j) stand) (takenFrom l (n - (j + 1)) stand′) (plansOf l) rest next (a .plans) (u .plans);
           nodes = moved (λ i. fourAt l (115 * i + 8)) k left (suc k - 1) z m m′ (takenFrom l (n - j) stand) (takenFrom l (n - (j + 1)) stand′) (nodesOf l) rest next (a .nodes) (u .nodes);
-          counts = λ x q. moved (λ i. fourAt l (115 * i + 12 + 4 * x)) k left (suc k - 1) z (at cs x) (at cs′ x) (takenFrom l (n - j) stand) (takenFrom l (n - (j + 1)) stand′) (countOf l x) rest next (a .counts .each x q) (u .counts x q);
+          counts = λ x q. moved (λ i. fourAt l (115 * i + 12 + 4 * x)) k left (suc k - 1) z (at cs x) (at cs′ x) (takenFrom l (n - j) stand) (takenFrom l (n - (j + 1)) stand′)
+              (countOf l x) rest next (a .counts .each x q) (u .counts x q);
         }
       where
         stood : (s k : ℕ) (ks : List ℕ) → standAfter (suc k) ks ≡ standAfter s (k ∷ ks)

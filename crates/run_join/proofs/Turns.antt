@@ -1,20 +1,13 @@
 -- The heads taken, turn by turn. Assumes nothing.
-use mathlib.Core.Path.{_≡_, refl, sym, ap, ap₂, _∙_, subst}
-use mathlib.Core.Bool.{Bool, true, false}
-use mathlib.Core.List.{List, [], _∷_}
-use Prim.Native.Nat.{ℕ, zero, suc, _+_, _-_, _*_, _≤_, _<_}
-use native.Mathlib.Numerals.{add-one}
-use native.Mathlib.Omega.{arith}
-use lib.Dec.{T, eqb, leb}
-use lib.ListN.{length}
-use borrow.Author.Tests.{eq-eqb, ne-eqb, eqb-true, eqb-false}
+use Rattle.model.specs.Kit.{_≡_, refl, sym, ap, ap₂, _∙_, subst, Bool, true, false, List, [], _∷_, ℕ, zero, suc, _+_, _-_, _*_, _≤_, _<_, add-one, arith, T, eqb, leb, length}
+use Rattle.model.specs.Kit.{eq-eqb, ne-eqb, eqb-true, eqb-false}
 use Rattle.model.specs.Lists.{all, at, below, upFrom, both, choose, same, tabulate}
-use Rattle.model.proofs.Lists.{T-of, not-of, same-eq}
+use Rattle.model.proofs.Lists.{T-of, not-of, same-eq, both-second}
 use Rattle.run_cut.specs.Parts.{after}
 use Rattle.run_cut.proofs.Parts.{after-not}
 use Rattle.run_join.specs.Join.{pathAt, kindAt, pathShaped, headShaped, fromAt, reachPlace, reachAt, reachOr, mayTake, bestOf, headsIn, standPath, stepOf, nearer, nearestOf}
-use Rattle.run_join.specs.Inner.{Path, Heads, orderOf}
-use Rattle.run_join.proofs.Orders.{both-first, both-second}
+use Rattle.run_join.specs.inner.Inner.{Path, Heads, orderOf}
+use Rattle.run_join.proofs.Orders.{both-first}
 
 -- ---- the paths of a head
 module _ (l : List ℕ) (n k : ℕ) (h : Heads l n) (i : k < n) where
@@ -65,7 +58,8 @@ module _ (a b : List ℕ) (m : ℕ) (e : m ≡ orderOf a b) where
   after-is = go (same a b) refl (after a b) refl
     where
       go : (x : Bool) → same a b ≡ x → (y : Bool) → after a b ≡ y → eqb m 1 ≡ after a b
-      go true p y q = ne-eqb m 1 (λ z. absurd (let w : m ≡ 0 = e ∙ ap (λ (t : Bool). choose t 0 (choose (after a b) 1 2)) p in omega arith)) ∙ sym (not-of (after a b) (λ t. after-not a (subst (λ (c : List ℕ). T (after a c)) (sym (same-eq a b (T-of (same a b) p))) t)))
+      go true p y q = ne-eqb m 1 (λ z. absurd (let w : m ≡ 0 = e ∙ ap (λ (t : Bool). choose t 0 (choose (after a b) 1 2)) p in omega arith)) ∙ sym
+          (not-of (after a b) (λ t. after-not a (subst (λ (c : List ℕ). T (after a c)) (sym (same-eq a b (T-of (same a b) p))) t)))
       go false p true q = eq-eqb m 1 (e ∙ ap₂ (λ (t u : Bool). choose t 0 (choose u 1 2)) p q) ∙ sym q
       go false p false q = ne-eqb m 1 (λ z. absurd (let w : m ≡ 2 = e ∙ ap₂ (λ (t u : Bool). choose t 0 (choose u 1 2)) p q in omega arith)) ∙ sym q
 
@@ -104,7 +98,8 @@ module _ (l s : List ℕ) where
   unfolding bestOf
   best-none = refl
 
-  pub best-turn : (k best r : ℕ) (may : Bool) → may ≡ mayTake l k → best ≡ bestOf l s k → r ≡ choose (both may (both (same (fromAt l k) s) (after (reachOr l s best) (reachAt l k)))) (suc k) best → r ≡ bestOf l s (k + 1)
+  pub best-turn : (k best r : ℕ) (may : Bool) → may ≡ mayTake l k → best ≡ bestOf l s k → r ≡ choose (both may (both (same (fromAt l k) s) (after (reachOr l s best) (reachAt l k)))) (suc k) best
+      → r ≡ bestOf l s (k + 1)
   unfolding bestOf
   best-turn k best r may m e f =
       f ∙ ap₂ (λ (a : Bool) (b : ℕ). choose (both a (both (same (fromAt l k) s) (after (reachOr l s b) (reachAt l k)))) (suc k) b) m e ∙ ap (bestOf l s) (sym (add-one k))

@@ -8,7 +8,7 @@ ghost use lib.Dec.{leb};
 ghost use lib.ListN.{length};
 ghost use Rattle.model.specs.Lists.{all, below};
 ghost use Rattle.run_join.specs.Join.{kindAt, headShaped, alike, joinVerdict};
-ghost use Rattle.run_join.specs.Inner.{numberIn};
+ghost use Rattle.run_join.specs.inner.Inner.{numberIn};
 
 // Whether head k has the shape of a head.
 fn head_shaped(l: &[u8], k: usize) -> bool

@@ -14,7 +14,7 @@ use crate::ways::find_ways;
 ghost use mathlib.Core.Path.{_≡_};
 ghost use Prim.Native.Nat.{_≤_};
 ghost use Rattle.run_join.specs.Join.{headsIn};
-ghost use Rattle.run_join.specs.Inner.{Heads, Said};
+ghost use Rattle.run_join.specs.inner.Inner.{Heads, Said};
 ghost use Rattle.run_join.specs.Calls.{CallJoin};
 
 // The number of a refusal; or the heads go from the first to the last path; or where one stands (0: at the empty path; k + 1: where head k reaches) and the

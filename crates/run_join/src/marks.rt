@@ -4,7 +4,7 @@ ghost use mathlib.Core.Bool.{true, not};
 ghost use Prim.Native.Nat.{ℕ, _≤_, _<_};
 ghost use lib.ListN.{length};
 ghost use Rattle.model.specs.Lists.{both};
-ghost use Rattle.run_join.specs.Inner.{marked, MarkedToo, Pending};
+ghost use Rattle.run_join.specs.inner.Inner.{marked, MarkedToo, Pending};
 
 // Whether head k is marked.
 pub fn is_marked(marks: &[u64; 1024], k: usize) -> bool

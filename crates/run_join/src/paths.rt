@@ -3,7 +3,7 @@ ghost use mathlib.Core.Path.{_≡_};
 ghost use Prim.Native.Nat.{_+_, _*_, _^_, _≤_, _<_};
 ghost use lib.ListN.{length};
 ghost use Rattle.run_join.specs.Join.{fourAt, pathAt, pathShaped};
-ghost use Rattle.run_join.specs.Inner.{Path, orderOf};
+ghost use Rattle.run_join.specs.inner.Inner.{Path, orderOf};
 
 // A byte as a number.
 pub fn byte(x: u8) -> u64

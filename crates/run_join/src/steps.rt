@@ -9,7 +9,7 @@ ghost use lib.ListN.{length};
 ghost use Rattle.model.specs.Lists.{both, choose, same};
 ghost use Rattle.run_cut.specs.Parts.{after};
 ghost use Rattle.run_join.specs.Join.{pathAt, fromAt, reachPlace, reachAt, reachOr, bestOf, headsIn, mayTake, stepOf, standPath, nearer, nearestOf};
-ghost use Rattle.run_join.specs.Inner.{Path, Heads, AtHead, marked};
+ghost use Rattle.run_join.specs.inner.Inner.{Path, Heads, AtHead, marked};
 
 // Where the path stands to which head k reaches.
 pub fn reach_place(l: &[u8], k: usize) -> usize
@@ -45,7 +45,8 @@ fn better(
     k: usize,
 ) -> usize
     requires { ⌜ AtHead (now here) o (now l) n best k ⌝ }
-    ensures { λ r. ⌜ r ≡ choose (both (marked (now (marks .entry)) k) (both (same (fromAt (now (l .entry)) k) (pathAt (now (here .entry)) o)) (after (reachOr (now (l .entry)) (pathAt (now (here .entry)) o) best) (reachAt (now (l .entry)) k)))) (suc k) best ⌝ }
+    ensures { λ r. ⌜ r ≡ choose (both (marked (now (marks .entry)) k) (both (same (fromAt (now (l .entry)) k) (pathAt (now (here .entry)) o))
+        (after (reachOr (now (l .entry)) (pathAt (now (here .entry)) o) best) (reachAt (now (l .entry)) k)))) (suc k) best ⌝ }
 {
     if !is_marked(marks, k) {
         return best;
@@ -111,7 +112,8 @@ pub fn step(l: &[u8], n: usize, marks: &[u64; 1024], stand: usize) -> usize
 // The nearer of the nearest so far and head k, where it begins after the path at o.
 fn nearer_one(here: &[u8], o: usize, l: &[u8], n: usize, near: usize, k: usize) -> usize
     requires { ⌜ AtHead (now here) o (now l) n near k ⌝ }
-    ensures { λ r. ⌜ r ≡ choose (both (after (pathAt (now (here .entry)) o) (fromAt (now (l .entry)) k)) (nearer (now (l .entry)) near (fromAt (now (l .entry)) k))) (suc k) near ⌝ }
+    ensures { λ r. ⌜ r ≡ choose (both (after (pathAt (now (here .entry)) o) (fromAt (now (l .entry)) k))
+        (nearer (now (l .entry)) near (fromAt (now (l .entry)) k))) (suc k) near ⌝ }
 {
     if order(here, o, l, 115 * k + 76) != 1 {
         return near;

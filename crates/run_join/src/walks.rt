@@ -6,7 +6,7 @@ ghost use Prim.Native.Nat.{ℕ, _+_, _*_, _^_, _≤_, _<_};
 ghost use lib.ListN.{length};
 ghost use Rattle.model.specs.Lists.{at};
 ghost use Rattle.run_join.specs.Join.{headsIn, mayTake};
-ghost use Rattle.run_join.specs.Inner.{Heads, marked, Room, AddedCounts, AddedHead, Summed};
+ghost use Rattle.run_join.specs.inner.Inner.{Heads, marked, Room, AddedCounts, AddedHead, Summed};
 
 // Where one stands (0: at the empty path; k + 1: where head k reaches), and the sums of the heads taken.
 pub struct Walked {

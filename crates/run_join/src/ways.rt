@@ -12,7 +12,7 @@ ghost use Prim.Native.Nat.{_<_};
 ghost use lib.ListN.{length};
 ghost use Rattle.model.specs.Lists.{any, below, both, same};
 ghost use Rattle.run_join.specs.Join.{pathAt, fromAt, reachAt, headsIn, goesOn};
-ghost use Rattle.run_join.specs.Inner.{Path, Heads, AtHead, marked, NoMarks, MarkedBack, Leading, Ways};
+ghost use Rattle.run_join.specs.inner.Inner.{Path, Heads, AtHead, marked, NoMarks, MarkedBack, Leading, Ways};
 
 // Whether head k goes on and reaches the path at o.
 fn comes_to(here: &[u8], o: usize, l: &[u8], n: usize, k: usize) -> bool

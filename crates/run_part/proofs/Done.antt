@@ -1,46 +1,29 @@
 -- What a call of `run_part` holds (crate run_ranges). Assumes nothing.
-use mathlib.Core.Path.{_≡_, refl, sym, ap, ap₂, _∙_, subst}
-use mathlib.Core.Bool.{Bool, true, false}
-use mathlib.Core.Logic.{_⊎_, inl, inr}
-use mathlib.Core.List.{List, [], _∷_, map, List·Memᴰ}
-use Prim.Native.Nat.{ℕ, zero, suc, _+_, _-_, _*_, _/_, _^_, _≤_, _<_}
+use Rattle.model.specs.Kit.{_≡_, refl, sym, ap, ap₂, _∙_, subst, Bool, true, false, _⊎_, inl, inr, List, [], _∷_, map, List·Memᴰ, ℕ, zero, suc, _+_, _-_, _*_, _/_, _^_, _≤_, _<_}
+use Rattle.model.specs.Kit.{arith, eqb, length, take, eqb-true, eqb-false}
 use native.Mathlib.Nat.{sub-zero}
-use native.Mathlib.Omega.{arith}
-use lib.Dec.{eqb}
-use lib.ListN.{length, take}
-use borrow.Author.Tests.{eqb-true, eqb-false}
-use Rattle.model.specs.Lists.{at, choose, keep, flat}
-use Rattle.model.specs.Problem.{Problem}
-use Rattle.model.specs.Search.{nodes}
-use Rattle.model.specs.Verdict.{Verdict, accepted, reply}
-use Rattle.model.specs.Verdict as model
-use Rattle.model.specs.Sheet.{problemOf}
+use Rattle.model.specs.{Lists.at, Lists.choose, Lists.keep, Lists.flat, Problem.Problem, Search.nodes, Verdict.Verdict, Verdict.accepted, Verdict.reply, Sheet.problemOf}
 use Rattle.model.specs.Run.{Ending, finished, spent, full, plansIn, nodesIn, Result, search, Answer, refusal, ended, written, Tally, settledBy, countsBy}
-use Rattle.model.proofs.Lists.{keep-e}
-use Rattle.model.proofs.Runs as R
+use Rattle.model.proofs.{Lists.keep-e, Accepted.is-accepted}
 use Rattle.order.specs.Reordered.{write}
 use Rattle.run_cut.specs.Parts.{nodesBetween, lastOf}
-use Rattle.run_cut.proofs.Resume.{dead-below, last-in, taken, node-values}
+use Rattle.run_cut.proofs.{Resume.dead-below, Resume.last-in, Resume.taken, Resume.node-values, Counts.counts-none}
 use Rattle.run_input.specs.Lent.{verdictLent, orderLent, problemLent}
-use Rattle.run_input.proofs.Lent.{passed-all, well-sheet, ordering-lent}
-use Rattle.arrays.specs.Places.{ROOM, PLANS, NUMBER, ITEM, LAST, ALL, SPENT, DEEPER, REFUSED, WANTED}
-use Rattle.run_state.specs.Walk.{noNodes, State, walk, kept, stopIn, tallyBy}
-use Rattle.run_state.specs.Pair.{prefixOf, orderIn, stateOf}
-use Rattle.run_state.proofs.Prefix.{prefix-zero, prefix-at, length-prefix}
-use Rattle.run_state.proofs.Outcome.{outcome-on, kept-none, kept-over}
-use Rattle.run_task.specs.Task.{roomFor}
-use Rattle.run_search.specs.Prepared.{Prepared}
+use Rattle.run_input.proofs.Lent.{well-sheet, ordering-lent}
+use Rattle.arrays.specs.inner.Places.{ROOM, PLANS, NUMBER, ITEM, LAST, ALL, SPENT, DEEPER, REFUSED, WANTED}
+use Rattle.run_state.specs.{Walk.noNodes, Walk.State, Walk.walk, Walk.kept, Walk.stopIn, Walk.tallyBy, inner.Pair.prefixOf, inner.Pair.orderIn, inner.Pair.stateOf}
+use Rattle.run_state.proofs.{Prefix.prefix-zero, Prefix.prefix-at, Prefix.length-prefix, Outcome.outcome-on, Outcome.kept-none, Outcome.kept-over, Outcome.nothing-kept}
+use Rattle.run_task.specs.inner.Task.{roomFor}
+use Rattle.run_search.specs.inner.Prepared.{Prepared}
 use Rattle.run_search.proofs.Prepared.{room-fits, room-most}
-use Rattle.run.specs.Meaning.{means}
-use Rattle.run.specs.Whole.{Stopped, Answered}
-use Rattle.run.specs.declared.Answer as S
-use Rattle.run_ranges.specs.Ranges.{resultPart, answerPart, listPart, nodesSaid, tallyPart, lastPart}
-use Rattle.run_ranges.specs.Claims.{Call}
-use Rattle.run_ranges.specs.Within.{within}
+use Rattle.run.specs.{Meaning.means, inner.Whole.Stopped, inner.Whole.Answered}
+use Rattle.run_ranges.specs.{Ranges.resultPart, Ranges.answerPart, Ranges.listPart, Ranges.nodesSaid, Ranges.tallyPart, Ranges.lastPart, Claims.Call, inner.Within.within}
 use Rattle.run_ranges.proofs.Within.{within-whole}
-use Rattle.run_cut.proofs.Counts.{counts-none}
-use Rattle.run_part.specs.Steps.{AtBelow, Valued, Parted}
+use Rattle.run_part.specs.inner.Steps.{AtBelow, Valued, Parted}
 use Rattle.run_part.proofs.Ends.{Begun, put-last, put-short, put-asks, valued-last}
+use Rattle.model.specs.Verdict as model
+use Rattle.model.proofs.Runs as R
+use Rattle.run.specs.declared.Answer as S
 
 -- an ending is known by its figures and how it stopped
 abbrev endingBy : ℕ → ℕ → ℕ → Ending
@@ -59,29 +42,37 @@ stop-in (full k u) = omega arith
 abbrev zeroth : List ℕ → List ℕ → State
 zeroth last list = record { tally = noNodes; plans = 0; stop = ALL; list = list; last = last }
 
-nothing-kept : (out : List ℕ) → kept [] out ≡ out
-unfolding kept written flat
-nothing-kept out = go (eqb (length out) 0)
-  where
-    go : (b : Bool) → choose b out out ≡ out
-    go true = refl
-    go false = refl
-
 -- ---- a walk along some nodes, from nothing counted and nothing listed
-module _ (p : Problem) (order : List ℕ) (sized : length order ≡ p .variables) (limit room bytes : ℕ) (out last : List ℕ) (fits : room * p .variables ≤ bytes) (most : bytes < suc room * p .variables) (same : (length out ≡ 0 → ⊥) → bytes ≡ length out) (ts : List (List ℕ)) where
+module _ (p : Problem) (order : List ℕ) (sized : length order ≡ p .variables) (limit room bytes : ℕ) (out last : List ℕ) (fits : room * p .variables ≤ bytes)
+    (most : bytes < suc room * p .variables) (same : (length out ≡ 0 → ⊥) → bytes ≡ length out) (ts : List (List ℕ)) where
   abbrev r : Result
   r = search p limit bytes ts 0 []
 
   pub outcome-of : walk p order limit room ts (zeroth last out)
-      ≡ record { tally = tallyBy order ts (nodesIn (r .ending)); plans = plansIn (r .ending); stop = stopIn (r .ending); list = kept (map (write order) (r .rows)) out; last = lastOf last (take (nodesIn (r .ending)) ts) }
+      ≡ record {
+        tally = tallyBy order ts (nodesIn (r .ending));
+        plans = plansIn (r .ending);
+        stop = stopIn (r .ending);
+        list = kept (map (write order) (r .rows)) out;
+        last = lastOf last
+            (take (nodesIn (r .ending)) ts);
+      }
   unfolding flat
   outcome-of =
       outcome-on p order sized limit room bytes out fits most same ts last 0 [] (omega arith) (omega arith) (nothing-kept out)
       ∙ ap (λ (k : ℕ). done (search p k bytes ts 0 [])) (let e : limit + 0 ≡ limit = omega arith in e)
-      ∙ ap (λ (k : ℕ). record { tally = tallyBy order ts k; plans = plansIn (r .ending); stop = stopIn (r .ending); list = kept (map (write order) (r .rows)) out; last = lastOf last (take k ts) }) (sub-zero (nodesIn (r .ending)))
+      ∙ ap (λ (k : ℕ). record { tally = tallyBy order ts k; plans = plansIn (r .ending); stop = stopIn (r .ending); list = kept (map (write order) (r .rows)) out; last = lastOf last (take k ts) })
+      (sub-zero (nodesIn (r .ending)))
     where
       done : Result → State
-      done x = record { tally = tallyBy order ts (nodesIn (x .ending) - 0); plans = plansIn (x .ending); stop = stopIn (x .ending); list = kept (map (write order) (x .rows)) out; last = lastOf last (take (nodesIn (x .ending) - 0) ts) }
+      done x = record {
+        tally = tallyBy order ts (nodesIn (x .ending) - 0);
+        plans = plansIn (x .ending);
+        stop = stopIn (x .ending);
+        list = kept
+            (map (write order) (x .rows)) out;
+        last = lastOf last (take (nodesIn (x .ending) - 0) ts);
+      }
 
 -- a list of no byte has room for no row
 kept-so : (p : Problem) (order : List ℕ) (limit : ℕ) (list : List ℕ) (ts : List (List ℕ)) → 0 < p .variables →
@@ -97,12 +88,14 @@ kept-so p order limit list ts some = go (eqb (length list) 0) refl
     none-of [] e = refl
     none-of (y ∷ l) e = absurd (omega arith)
 
-    go : (c : Bool) → eqb (length list) 0 ≡ c → kept (map (write order) (search p limit (length list) ts 0 [] .rows)) list ≡ written (map (write order) (search p limit (length list) ts 0 [] .rows)) list
+    go : (c : Bool) → eqb (length list) 0 ≡ c → kept (map (write order) (search p limit (length list) ts 0 [] .rows)) list ≡ written
+        (map (write order) (search p limit (length list) ts 0 [] .rows)) list
     go true e =
         let z = eqb-true (length list) 0 e in
         let f : length (search p limit (length list) ts 0 [] .rows) * p .variables ≤ length list = R.walk p limit (length list) ts 0 [] .roomy (omega arith) in
         kept-none (map (write order) (search p limit (length list) ts 0 [] .rows)) list z
-        ∙ sym (ap (λ (rows : List (List ℕ)). written (map (write order) rows) list) (none-of (search p limit (length list) ts 0 [] .rows) (nothing-of (length (search p limit (length list) ts 0 [] .rows)) (omega arith))))
+        ∙ sym (ap (λ (rows : List (List ℕ)). written (map (write order) rows) list) (none-of (search p limit (length list) ts 0 [] .rows)
+        (nothing-of (length (search p limit (length list) ts 0 [] .rows)) (omega arith))))
     go false e = kept-over (map (write order) (search p limit (length list) ts 0 [] .rows)) list (eqb-false (length list) 0 e)
 
 module _ (task b pairs block from upto : List ℕ) (limit : ℕ) (list : List ℕ) (listing : at task WANTED ≡ 0)
@@ -165,14 +158,22 @@ module _ (task b pairs block from upto : List ℕ) (limit : ℕ) (list : List �
                 go2 false c = absurd (d (h .known z (eqb-false step ALL c)))
 
     sized : (step ≡ REFUSED → ⊥) → length order ≡ p .variables
-    sized z = ordering-lent b pairs block (passed-all (verdictLent b pairs block) (good z)) .sized
+    sized z = ordering-lent b pairs block (is-accepted (verdictLent b pairs block) (good z)) .sized
 
     some : (step ≡ REFUSED → ⊥) → 0 < n
-    some z = well-sheet b pairs block (passed-all (verdictLent b pairs block) (good z)) .some
+    some z = well-sheet b pairs block (is-accepted (verdictLent b pairs block) (good z)) .some
 
     ended-so : (step ≡ REFUSED → ⊥) → stateOf tally₂ work₂ stop list₂
-        ≡ record { tally = tallyBy order ts (nodesIn (x .ending)); plans = plansIn (x .ending); stop = stopIn (x .ending); list = kept (map (write order) (x .rows)) list; last = lastOf (take 12 from) (take (nodesIn (x .ending)) ts) }
-    ended-so z = came z ∙ outcome-of p order (sized z) limit (length list / n) (length list) list (take 12 from) (room-fits 0 n (length list) (some z)) (room-most 0 n (length list) (some z)) (λ o. refl) ts
+        ≡ record {
+          tally = tallyBy order ts (nodesIn (x .ending));
+          plans = plansIn (x .ending);
+          stop = stopIn (x .ending);
+          list = kept (map (write order) (x .rows)) list;
+          last = lastOf
+              (take 12 from) (take (nodesIn (x .ending)) ts);
+        }
+    ended-so z = came z ∙ outcome-of p order (sized z) limit (length list / n) (length list) list (take 12 from) (room-fits 0 n (length list) (some z)) (room-most 0 n (length list) (some z))
+        (λ o. refl) ts
 
     -- ---- where it stands
     stands-so : prefixOf work₂ (at work₂ LAST) ≡ lastOf (take 12 from) (take (nodesSaid (answerPart b pairs block from upto limit list)) ts)
@@ -204,7 +205,7 @@ module _ (task b pairs block from upto : List ℕ) (limit : ℕ) (list : List �
 
     node-bytes : (step ≡ REFUSED → ⊥) → (t : List ℕ) → List·Memᴰ t (nodes p) → Bytes t
     node-bytes z t m =
-        let few = well-sheet b pairs block (passed-all (verdictLent b pairs block) (good z)) .few in
+        let few = well-sheet b pairs block (is-accepted (verdictLent b pairs block) (good z)) .few in
         let s = node-values p t m in
         let l = s .1 in
         (omega arith, λ i k. let v = s .0 i k in omega arith)
@@ -277,7 +278,8 @@ module _ (task b pairs block from upto : List ℕ) (limit : ℕ) (list : List �
               let e = eqb-true step REFUSED c in
               let o = q .none (λ d. omega arith) in
               a .refused (o .0 ∙ e)
-              ∙ ap₂ refusal (ap (λ (w : List ℕ). at w NUMBER) (o .2) ∙ put .others NUMBER (omega arith) (omega arith) (λ d. omega arith)) (ap (λ (w : List ℕ). at w ITEM) (o .2) ∙ put .others ITEM (omega arith) (omega arith) (λ d. omega arith))
+              ∙ ap₂ refusal (ap (λ (w : List ℕ). at w NUMBER) (o .2) ∙ put .others NUMBER (omega arith) (omega arith) (λ d. omega arith))
+              (ap (λ (w : List ℕ). at w ITEM) (o .2) ∙ put .others ITEM (omega arith) (omega arith) (λ d. omega arith))
               ∙ sym (ap (λ (u : Verdict). reply u (resultPart b pairs block from upto limit (length list) .ending)) (h .refused e .verdict))
           go false c = let z = eqb-false step REFUSED c in same-ending z ∙ sym (ap (λ (u : Verdict). reply u (resultPart b pairs block from upto limit (length list) .ending)) (good z))
 
@@ -291,7 +293,8 @@ module _ (task b pairs block from upto : List ℕ) (limit : ℕ) (list : List �
               q .none (λ d. omega arith) .3 ∙ sym (ap (λ (u : Verdict). model.kept u list (written (resultPart b pairs block from upto limit (length list) .rows) list)) (h .refused e .verdict))
           go false c =
               let z = eqb-false step REFUSED c in
-              ap (λ (s : State). s .list) (ended-so z) ∙ kept-so p order limit list ts (some z) ∙ sym (ap (λ (u : Verdict). model.kept u list (written (resultPart b pairs block from upto limit (length list) .rows) list)) (good z))
+              ap (λ (s : State). s .list) (ended-so z) ∙ kept-so p order limit list ts (some z) ∙ sym
+              (ap (λ (u : Verdict). model.kept u list (written (resultPart b pairs block from upto limit (length list) .rows) list)) (good z))
 
       counts-so : tally₂ ≡ tallyPart b pairs block from upto limit list
       unfolding tallyPart answerPart resultPart tallyBy

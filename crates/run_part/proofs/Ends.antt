@@ -1,28 +1,16 @@
 -- Before the walk along a part and after it: the path put in `work`, and what the call holds then. Assumes nothing.
-use mathlib.Core.Path.{_≡_, refl, sym, ap, _∙_, subst}
-use mathlib.Core.Bool.{Bool, true, false}
-use mathlib.Core.List.{List}
-use Prim.Native.Nat.{ℕ, _+_, _-_, _≤_, _<_, min}
-use native.Mathlib.Decide.{ℕ-discrete}
-use native.Mathlib.Omega.{arith}
-use lib.Dec.{T, eqb}
-use lib.ListN.{length, take, set, length-set, length-take}
-use lib.Seq.{length-take-le}
-use borrow.Author.Tests.{eqb-true, eqb-false}
-use Rattle.model.specs.Lists.{at}
-use Rattle.model.specs.Problem.{Problem}
-use Rattle.model.specs.Search.{setsAt, isLive}
-use Rattle.model.specs.Run.{Tally}
+use Rattle.model.specs.Kit.{_≡_, refl, sym, ap, _∙_, subst, Bool, true, false, List, ℕ, _+_, _-_, _≤_, _<_, min, ℕ-discrete, arith, T, eqb, length, take, set, length-set}
+use Rattle.model.specs.Kit.{length-take, length-take-le, eqb-true, eqb-false}
+use Rattle.model.specs.{Lists.at, Problem.Problem, Search.setsAt, Search.isLive, Run.Tally}
 use Rattle.model.proofs.Lists.{at-set, at-set-other, at-take}
-use Rattle.arrays.specs.Places.{ROOM, PLANS, LAST, DEEPER, WORK}
-use Rattle.prune.specs.Node.{Holds, Marked}
+use Rattle.arrays.specs.inner.Places.{ROOM, PLANS, LAST, DEEPER, WORK}
+use Rattle.prune.specs.inner.Node.{Holds, Marked}
 use Rattle.prune.proofs.Marks.{marked-on}
-use Rattle.run_state.specs.Walk.{noNodes}
-use Rattle.run_state.specs.Pair.{prefixOf, ownIn, Cleared, ListRoom, AtPrefix, Walked}
+use Rattle.run_state.specs.{Walk.noNodes, inner.Pair.prefixOf, inner.Pair.ownIn, inner.Pair.Cleared, inner.Pair.ListRoom, inner.Pair.AtPrefix, inner.Pair.Walked}
 use Rattle.run_state.proofs.Prefix.{prefix-zero, prefix-is}
 use Rattle.run_tree.proofs.Turns.{ready-on}
-use Rattle.run_ranges.specs.Within.{within}
-use Rattle.run_part.specs.Steps.{AtBelow, PutPath, Valued, Parted}
+use Rattle.run_ranges.specs.inner.Within.{within}
+use Rattle.run_part.specs.inner.Steps.{AtBelow, PutPath, Valued, Parted}
 
 -- ---- `put_path`
 pub record Putting (path work₀ work : List ℕ) (i : ℕ) : Type 0 where
@@ -37,7 +25,8 @@ putting-start path work = record { values = λ j l. absurd (omega arith); bytes 
 pub putting-next : (path work₀ work : List ℕ) (i v : ℕ) → Putting path work₀ work i → length work₀ ≡ WORK → i < 12 → v ≡ at path i → v < 256 → Putting path work₀ (set work i v) (i + 1)
 putting-next path work₀ work i v h n l e b = record {
   values = λ j k. by-case (eqb j i) refl (λ q. ap (at (set work i v)) q ∙ here ∙ e ∙ ap (at path) (sym q)) (λ q. at-set-other work i v j q ∙ h .values j (omega arith));
-  bytes = λ j k. by-case2 (eqb j i) refl (λ q. subst (λ (x : ℕ). x < 256) (sym (ap (at (set work i v)) q ∙ here)) b) (λ q. subst (λ (x : ℕ). x < 256) (sym (at-set-other work i v j q)) (h .bytes j (omega arith)));
+  bytes = λ j k. by-case2 (eqb j i) refl (λ q. subst (λ (x : ℕ). x < 256) (sym (ap (at (set work i v)) q ∙ here)) b)
+      (λ q. subst (λ (x : ℕ). x < 256) (sym (at-set-other work i v j q)) (h .bytes j (omega arith)));
   others = λ j k. at-set-other work i v j (λ q. omega arith) ∙ h .others j (omega arith);
   same = length-set work i v ∙ h .same;
 }
@@ -85,7 +74,8 @@ module _ (path work work′ : List ℕ) (h : Begun path work work′) where
   pub put-short : at work′ LAST ≤ 12
   put-short = let l = h .last in omega arith
 
-  pub put-prefix : {p : Problem} {stack supports tables numbers list : List ℕ} {tally : Tally} → AtPrefix p stack work supports tables numbers list tally 0 → AtPrefix p stack work′ supports tables numbers list tally 0
+  pub put-prefix : {p : Problem} {stack supports tables numbers list : List ℕ} {tally : Tally} → AtPrefix p stack work supports tables numbers list tally 0
+      → AtPrefix p stack work′ supports tables numbers list tally 0
   put-prefix {p} {stack} {supports} {tables} {numbers} {list} {tally} g =
       let e : prefixOf work′ 0 ≡ prefixOf work 0 = prefix-zero work′ ∙ sym (prefix-zero work) in
       record {
@@ -93,7 +83,8 @@ module _ (path work work′ : List ℕ) (h : Begun path work work′) where
         inner = g .inner;
         live = subst (λ (t : List ℕ). T (isLive p t)) (sym e) (g .live);
         held = subst (λ (t : List ℕ). Holds (ownIn p numbers) stack 0 (setsAt p t)) (sym e) (g .held);
-        marked = marked-on (ownIn p numbers) (p .symmetries) work work′ (prefixOf work′ 0) 0 (g .ready .symmetries) (λ i l u. h .others i (omega arith) (omega arith) (λ q. omega arith)) (subst (λ (t : List ℕ). Marked (ownIn p numbers) (p .symmetries) work t 0) (sym e) (g .marked));
+        marked = marked-on (ownIn p numbers) (p .symmetries) work work′ (prefixOf work′ 0) 0 (g .ready .symmetries) (λ i l u. h .others i (omega arith) (omega arith) (λ q. omega arith))
+            (subst (λ (t : List ℕ). Marked (ownIn p numbers) (p .symmetries) work t 0) (sym e) (g .marked));
         limited = g .limited;
         allowed = g .allowed;
         summed = g .summed;
@@ -101,7 +92,8 @@ module _ (path work work′ : List ℕ) (h : Begun path work work′) where
         room = subst (λ (n : ℕ). ListRoom (p .variables) (at numbers ROOM) list n) (sym (h .others PLANS (omega arith) (omega arith) (λ q. omega arith))) (g .room);
       }
 
-  pub put-asks : {p : Problem} {stack supports tables numbers list : List ℕ} {tally : Tally} → AtPrefix p stack work supports tables numbers list tally 0 → AtBelow p path stack work′ supports tables numbers list tally 0
+  pub put-asks : {p : Problem} {stack supports tables numbers list : List ℕ} {tally : Tally} → AtPrefix p stack work supports tables numbers list tally 0
+      → AtBelow p path stack work′ supports tables numbers list tally 0
   put-asks g = record { prefix = put-prefix g; stands = λ i l z. ap (at work′) (let e : 0 + i ≡ i = omega arith in e) ∙ h .values i l (omega arith); short = λ z. put-short }
 
 -- ---- `last_values`
@@ -137,9 +129,11 @@ module _ (from upto stack work supports tables numbers list : List ℕ) (step : 
   parted-asks tally t {p} g = subst (λ (y : Tally). AtBelow p from stack work supports tables numbers list y 0) (sym (t .is)) g
 
   pub parted-some : step ≡ DEEPER → (tally : Tally) → Cleared tally → (stack′ work′ list′ : List ℕ) (tally′ : Tally) (stop : ℕ) →
-      ((p : Problem) → AtBelow p from stack work supports tables numbers list tally 0 → Walked p (within p (p .variables - 0) (prefixOf work 0) from upto) stack work numbers list tally 0 stack′ work′ list′ tally′ stop) →
+      ((p : Problem) → AtBelow p from stack work supports tables numbers list tally 0 → Walked p
+      (within p (p .variables - 0) (prefixOf work 0) from upto) stack work numbers list tally 0 stack′ work′ list′ tally′ stop) →
       Parted from upto stack work supports tables numbers list step stack′ work′ list′ tally′ stop
   parted-some e tally t stack′ work′ list′ tally′ stop f = record {
     none = λ n. absurd (n e);
-    some = λ z p g. subst (λ (y : Tally). Walked p (within p (p .variables - 0) (prefixOf work 0) from upto) stack work numbers list y 0 stack′ work′ list′ tally′ stop) (t .is) (f p (parted-asks tally t g));
+    some = λ z p g. subst (λ (y : Tally). Walked p (within p (p .variables - 0) (prefixOf work 0) from upto) stack work numbers list y 0 stack′ work′ list′ tally′ stop) (t .is)
+        (f p (parted-asks tally t g));
   }

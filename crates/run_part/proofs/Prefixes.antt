@@ -1,22 +1,10 @@
 -- `descend` goes one value down: what it asks, and what is known of the next prefix then. Assumes nothing.
-use mathlib.Core.Path.{_≡_, sym, ap, _∙_, subst}
-use mathlib.Core.Bool.{Bool, true, false}
-use mathlib.Core.List.{List, [], _∷_, _++_}
-use Prim.Native.Nat.{ℕ, suc, _+_, _≤_, _<_}
-use native.Mathlib.Numerals.{add-one}
-use native.Mathlib.Omega.{arith}
-use lib.Dec.{T}
-use lib.ListN.{take}
-use borrow.Author.Tests.{not-false}
-use Rattle.model.specs.Lists.{at}
-use Rattle.model.specs.ValueSets.{has}
-use Rattle.model.specs.Problem.{Problem}
-use Rattle.model.specs.Search.{setsAt, isLive}
-use Rattle.model.specs.Run.{Tally}
+use Rattle.model.specs.Kit.{_≡_, sym, ap, _∙_, subst, Bool, true, false, List, [], _∷_, _++_, ℕ, suc, _+_, _≤_, _<_, add-one, arith, T, take, not-false}
+use Rattle.model.specs.{Lists.at, ValueSets.has, Problem.Problem, Search.setsAt, Search.isLive, Run.Tally}
 use Rattle.model.proofs.Lists.{T-of}
-use Rattle.arrays.specs.Places.{ROOM, PLANS}
-use Rattle.prune.specs.Node.{Holds, Marked, AtNode, Reached, longer}
-use Rattle.run_state.specs.Pair.{prefixOf, ownIn, ListRoom, AtPrefix}
+use Rattle.arrays.specs.inner.Places.{ROOM, PLANS}
+use Rattle.prune.specs.inner.Node.{Holds, Marked, AtNode, Reached, longer}
+use Rattle.run_state.specs.inner.Pair.{prefixOf, ownIn, ListRoom, AtPrefix}
 use Rattle.run_state.proofs.Prefix.{prefix-ext, prefix-take, prefix-snoc}
 use Rattle.run_tree.proofs.Turns.{ready-on}
 

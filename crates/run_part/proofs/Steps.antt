@@ -1,41 +1,25 @@
 -- One value down a path, a node, and walks one behind the other (specs/Steps). Assumes nothing.
-use mathlib.Core.Path.{_≡_, refl, sym, ap, ap₂, _∙_, subst}
-use mathlib.Core.Bool.{Bool, true, false, not}
-use mathlib.Core.List.{List, [], _∷_, _++_}
-use Prim.Native.Nat.{ℕ, _+_, _-_, _*_, _^_, _<_}
+use Rattle.model.specs.Kit.{_≡_, refl, sym, ap, ap₂, _∙_, subst, Bool, true, false, not, List, [], _∷_, _++_, ℕ, _+_, _-_, _*_, _^_, _<_, add-one, arith, bitAnd, T, eqb, ltb}
+use Rattle.model.specs.Kit.{eqb→eq, eqb-refl, length, set, length-set, not-true, not-false}
 use native.Mathlib.Nat.{pos-of-ne-zero}
-use native.Mathlib.Numerals.{add-one}
-use native.Mathlib.Omega.{arith}
-use lib.Bits.{bitAnd}
-use lib.Dec.{T, eqb, ltb, eqb→eq, eqb-refl}
-use lib.ListN.{length, set, length-set}
-use borrow.Author.Tests.{not-true, not-false}
-use Rattle.model.specs.Lists.{at, both, keep, below}
-use Rattle.model.specs.ValueSets.{has, maskOf, fullMask, members, lowestOf}
-use Rattle.model.specs.Problem.{Problem}
-use Rattle.model.specs.Search.{setsAt, isLive}
-use Rattle.model.specs.Run.{Tally}
+use Rattle.model.specs.{Lists.at, Lists.both, Lists.keep, Lists.below, ValueSets.has, ValueSets.maskOf, ValueSets.fullMask, ValueSets.members, ValueSets.lowestOf, Problem.Problem}
+use Rattle.model.specs.{Search.setsAt, Search.isLive, Run.Tally}
 use Rattle.model.proofs.Lists.{T-of, not-of, of-not, both-l, among-i, among-e, keep-ext, below-e, at-set, at-set-other}
-use Rattle.model.proofs.Tree.{well-sized}
-use Rattle.model.proofs.Prune.{setsAt-sets}
-use Rattle.model.proofs.Sets.{has-none, has-lt, has-mask, mask-lt, mask-ext, mask-i, mask-e, members-i, members-e}
-use Rattle.model.proofs.Masks.{common-op}
-use Rattle.model.proofs.Lowest.{lowest-in}
+use Rattle.model.proofs.{Tree.well-sized, Prune.setsAt-sets, Sets.has-none, Sets.has-lt, Sets.has-mask, Sets.mask-lt, Sets.mask-ext, Sets.mask-i, Sets.mask-e, Sets.members-i}
+use Rattle.model.proofs.{Sets.members-e, Masks.common-op, Lowest.lowest-in}
 use Rattle.run_cut.specs.Parts.{nodesOf, candidatesAt}
-use Rattle.arrays.specs.Places.{LIMIT, ROOM, LAST, ALL, SPENT}
-use Rattle.prune.specs.Node.{AtNode, Reached, longer}
+use Rattle.arrays.specs.inner.Places.{LIMIT, ROOM, LAST, ALL, SPENT, DIAGONAL}
+use Rattle.prune.specs.inner.Node.{AtNode, Reached, longer}
 use Rattle.prune.proofs.BlockCut.{not-below}
-use Rattle.run_state.specs.Walk.{withNode, walk, nodesFor, exhausted}
-use Rattle.run_state.specs.Pair.{prefixOf, settling, orderIn, ownIn, stateOf, AtPrefix, AtValues, AtValue, Walked, tried, lowestNode}
-use Rattle.run_state.proofs.Walk.{walk-append, walk-stopped, visit-spent}
-use Rattle.run_state.proofs.Prefix.{length-prefix, prefix-ext, prefix-take}
+use Rattle.run_state.specs.{Walk.withNode, Walk.walk, Walk.nodesFor, Walk.exhausted, inner.Pair.prefixOf, inner.Pair.settling, inner.Pair.orderIn, inner.Pair.ownIn}
+use Rattle.run_state.specs.inner.Pair.{stateOf, AtPrefix, AtValues, AtValue, Walked, tried, lowestNode}
+use Rattle.run_state.proofs.{Walk.walk-append, Walk.walk-stopped, Walk.visit-spent, Prefix.length-prefix, Prefix.prefix-ext, Prefix.prefix-take}
 use Rattle.run_tree.proofs.Turns.{all-values, prefix-on}
+use Rattle.run_ranges.specs.inner.Within.{within, given, leaves, intoNodes, inRange, midNodes}
+use Rattle.run_ranges.proofs.{Within.within-dead, Between.keep-keep}
+use Rattle.run_part.specs.inner.Steps.{rangeMask, AtStep, Stepped, AtPut, PutNode}
 use Rattle.run_tree.proofs.Turns as turns
-use Rattle.run_ranges.specs.Within.{within, given, leaves, intoNodes, inRange, midNodes}
-use Rattle.run_ranges.proofs.Within.{within-dead}
-use Rattle.run_ranges.proofs.Between.{keep-keep}
 use Rattle.run_part.proofs.Prefixes as pre
-use Rattle.run_part.specs.Steps.{rangeMask, AtStep, Stepped, AtPut, PutNode}
 
 -- ---- the values of a range
 pub range-is : (s low high : ℕ) → s < 2 ^ 16 → bitAnd (bitAnd s ((2 ^ 16 - 1) - fullMask low)) (fullMask high) ≡ rangeMask s low high
@@ -74,23 +58,24 @@ module _ (p : Problem) (stack work supports tables numbers list : List ℕ) (tal
   shallow = let f = h .ready .wellFormed .few in let i = h .inner in omega arith
 
   -- ---- a value that the sets leave
-  pub set-is : at stack (17 * k) ≡ at (setsAt p (prefixOf work k)) (length (prefixOf work k))
+  pub set-is : at stack (DIAGONAL * k) ≡ at (setsAt p (prefixOf work k)) (length (prefixOf work k))
   set-is = all-values p stack work supports tables numbers list tally k h ∙ ap (at (setsAt p (prefixOf work k))) (sym (length-prefix work k))
 
-  set-small : at stack (17 * k) < 2 ^ 16
-  set-small = subst (λ (s : ℕ). s < 2 ^ 16) (sym (all-values p stack work supports tables numbers list tally k h)) (setsAt-sets p (prefixOf work k) (well-sized (ownIn p numbers) (h .ready .wellFormed)) .1 k)
+  set-small : at stack (DIAGONAL * k) < 2 ^ 16
+  set-small = subst (λ (s : ℕ). s < 2 ^ 16) (sym (all-values p stack work supports tables numbers list tally k h))
+      (setsAt-sets p (prefixOf work k) (well-sized (ownIn p numbers) (h .ready .wellFormed)) .1 k)
 
-  pub value-in : (v : ℕ) → T (has (at stack (17 * k)) v) → T (has (at (setsAt p (prefixOf work k)) k) v)
+  pub value-in : (v : ℕ) → T (has (at stack (DIAGONAL * k)) v) → T (has (at (setsAt p (prefixOf work k)) k) v)
   value-in v t = subst (λ (s : ℕ). T (has s v)) (all-values p stack work supports tables numbers list tally k h) t
 
-  pub value-leaves : (v : ℕ) → T (has (at stack (17 * k)) v) → T (leaves p (prefixOf work k) v)
-  value-leaves v t = among-i v (candidatesAt p prefix) (members-i _ v (has-lt 16 (at stack (17 * k)) v set-small t) (subst (λ (s : ℕ). T (has s v)) set-is t))
+  pub value-leaves : (v : ℕ) → T (has (at stack (DIAGONAL * k)) v) → T (leaves p (prefixOf work k) v)
+  value-leaves v t = among-i v (candidatesAt p prefix) (members-i _ v (has-lt 16 (at stack (DIAGONAL * k)) v set-small t) (subst (λ (s : ℕ). T (has s v)) set-is t))
 
-  pub value-out : (v : ℕ) → has (at stack (17 * k)) v ≡ false → leaves p (prefixOf work k) v ≡ false
-  value-out v e = not-of (leaves p prefix v) (λ t. of-not (has (at stack (17 * k)) v) e (subst (λ (s : ℕ). T (has s v)) (sym set-is) (members-e _ v (among-e v (candidatesAt p prefix) t) .1)))
+  pub value-out : (v : ℕ) → has (at stack (DIAGONAL * k)) v ≡ false → leaves p (prefixOf work k) v ≡ false
+  value-out v e = not-of (leaves p prefix v) (λ t. of-not (has (at stack (DIAGONAL * k)) v) e (subst (λ (s : ℕ). T (has s v)) (sym set-is) (members-e _ v (among-e v (candidatesAt p prefix) t) .1)))
 
-  pub value-small : (v : ℕ) → T (has (at stack (17 * k)) v) → v < 16
-  value-small v t = has-lt 16 (at stack (17 * k)) v set-small t
+  pub value-small : (v : ℕ) → T (has (at stack (DIAGONAL * k)) v) → v < 16
+  value-small v t = has-lt 16 (at stack (DIAGONAL * k)) v set-small t
 
   -- ---- walks
   pub walked-none : Moved [] stack work list tally ALL
@@ -100,7 +85,8 @@ module _ (p : Problem) (stack work supports tables numbers list : List ℕ) (tal
   pub walked-spent : (t : List ℕ) (ts : List (List ℕ)) → tally .nodes ≡ at numbers LIMIT → Moved (t ∷ ts) stack work list tally SPENT
   unfolding walk
   walked-spent t ts e = record {
-    state = sym (ap (walk p (orderIn numbers (p .variables)) (at numbers LIMIT) (at numbers ROOM) ts) (visit-spent p (orderIn numbers (p .variables)) (at numbers LIMIT) (at numbers ROOM) t (stateOf tally work ALL list) refl e)
+    state = sym (ap (walk p (orderIn numbers (p .variables)) (at numbers LIMIT) (at numbers ROOM) ts)
+        (visit-spent p (orderIn numbers (p .variables)) (at numbers LIMIT) (at numbers ROOM) t (stateOf tally work ALL list) refl e)
         ∙ walk-stopped p (orderIn numbers (p .variables)) (at numbers LIMIT) (at numbers ROOM) ts (exhausted (stateOf tally work ALL list)) (λ q. omega arith));
     summed = h .summed;
     sets = λ i l. refl;
@@ -124,7 +110,8 @@ module _ (p : Problem) (stack work supports tables numbers list : List ℕ) (tal
       work-length = w .work-length;
     }
 
-    pub walked-then : stop ≡ ALL → (stack″ work″ list″ : List ℕ) (tally″ : Tally) (stop″ : ℕ) → Walked p us stack′ work′ numbers list′ tally′ k stack″ work″ list″ tally″ stop″ → Moved (ts ++ us) stack″ work″ list″ tally″ stop″
+    pub walked-then : stop ≡ ALL → (stack″ work″ list″ : List ℕ) (tally″ : Tally) (stop″ : ℕ) → Walked p us stack′ work′ numbers list′ tally′ k stack″ work″ list″ tally″ stop″ → Moved
+        (ts ++ us) stack″ work″ list″ tally″ stop″
     walked-then e stack″ work″ list″ tally″ stop″ v = record {
       state = v .state ∙ ap (walk p (orderIn numbers (p .variables)) (at numbers LIMIT) (at numbers ROOM) us) (ap (λ (s : ℕ). stateOf tally′ work′ s list′) (sym e) ∙ w .state)
           ∙ sym (walk-append p (orderIn numbers (p .variables)) (at numbers LIMIT) (at numbers ROOM) ts us (stateOf tally work ALL list));
@@ -143,28 +130,29 @@ module _ (p : Problem) (stack work supports tables numbers list : List ℕ) (tal
     same-prefix = prefix-ext work′ work k (λ i l. w .values i l)
 
   -- the nodes of the values of a range
-  pub range-tried : (low high : ℕ) → tried p work k (rangeMask (at stack (17 * k)) low high) ≡ midNodes p (p .variables - (k + 1)) (prefixOf work k) low high
+  pub range-tried : (low high : ℕ) → tried p work k (rangeMask (at stack (DIAGONAL * k)) low high) ≡ midNodes p (p .variables - (k + 1)) (prefixOf work k) low high
   unfolding nodesFor midNodes nodesOf
   range-tried low high =
-      ap (nodesOf p (p .variables - (k + 1)) prefix) (members-range (at stack (17 * k)) low high ∙ ap (λ (s : ℕ). keep (inRange low high) (members s)) set-is)
+      ap (nodesOf p (p .variables - (k + 1)) prefix) (members-range (at stack (DIAGONAL * k)) low high ∙ ap (λ (s : ℕ). keep (inRange low high) (members s)) set-is)
 
-  pub range-asks : (low high : ℕ) → AtValues p stack work supports tables numbers list tally k (rangeMask (at stack (17 * k)) low high)
-  range-asks low high = record { prefix = h; inside = λ v t. value-in v (both-l (has (at stack (17 * k)) v) _ (mask-e _ v t .1)) }
+  pub range-asks : (low high : ℕ) → AtValues p stack work supports tables numbers list tally k (rangeMask (at stack (DIAGONAL * k)) low high)
+  range-asks low high = record { prefix = h; inside = λ v t. value-in v (both-l (has (at stack (DIAGONAL * k)) v) _ (mask-e _ v t .1)) }
 
 -- ---- `step`
 module _ (p : Problem) (stack work supports tables numbers list : List ℕ) (tally : Tally) (k : ℕ) (g : AtStep p stack work supports tables numbers list tally k) where
   abbrev h : AtPrefix p stack work supports tables numbers list tally k
   h = g .prefix
 
-  pub step-asks : T (has (at stack (17 * k)) (at work k)) → AtNode (ownIn p numbers) (p .symmetries) stack work supports tables numbers k
+  pub step-asks : T (has (at stack (DIAGONAL * k)) (at work k)) → AtNode (ownIn p numbers) (p .symmetries) stack work supports tables numbers k
   step-asks t = pre.child-asks p stack work supports tables numbers list tally k h (value-in p stack work supports tables numbers list tally k h (at work k) t)
 
-  pub stepped-out : has (at stack (17 * k)) (at work k) ≡ false → Stepped p stack work supports tables numbers list tally k stack work false
+  pub stepped-out : has (at stack (DIAGONAL * k)) (at work k) ≡ false → Stepped p stack work supports tables numbers list tally k stack work false
   unfolding intoNodes
   stepped-out e = record {
     next = λ z. absurd (of-not false refl (T-of false z));
     member = λ z. absurd (of-not false refl (T-of false z));
-    ends = λ z from upto. ap (λ (b : Bool). given b (within p (p .variables - (k + 1)) (prefixOf work k ++ (at work k ∷ [])) from upto)) (value-out p stack work supports tables numbers list tally k h (at work k) e);
+    ends = λ z from upto. ap (λ (b : Bool). given b (within p (p .variables - (k + 1)) (prefixOf work k ++ (at work k ∷ [])) from upto))
+        (value-out p stack work supports tables numbers list tally k h (at work k) e);
     values = λ i l. refl;
     sets = λ i l. refl;
     marks = λ i l u. refl;
@@ -172,11 +160,13 @@ module _ (p : Problem) (stack work supports tables numbers list : List ℕ) (tal
     work-length = refl;
   }
 
-  pub stepped-in : T (has (at stack (17 * k)) (at work k)) → (stack′ work′ : List ℕ) (dead : Bool) → Reached (ownIn p numbers) (p .symmetries) (longer work k) (k + 1) stack work stack′ work′ dead →
+  pub stepped-in : T (has (at stack (DIAGONAL * k)) (at work k)) → (stack′ work′ : List ℕ) (dead : Bool) → Reached (ownIn p numbers) (p .symmetries) (longer work k)
+      (k + 1) stack work stack′ work′ dead →
       Stepped p stack work supports tables numbers list tally k stack′ work′ (not dead)
   unfolding intoNodes
   stepped-in t stack′ work′ dead q = record {
-    next = λ z. subst (AtPrefix p stack′ work′ supports tables numbers list tally) (sym (add-one k)) (pre.child-next p stack work supports tables numbers list tally k h stack′ work′ dead q (not-true dead z) (let i = g .inner in omega arith));
+    next = λ z. subst (AtPrefix p stack′ work′ supports tables numbers list tally) (sym (add-one k))
+        (pre.child-next p stack work supports tables numbers list tally k h stack′ work′ dead q (not-true dead z) (let i = g .inner in omega arith));
     member = λ z. value-leaves p stack work supports tables numbers list tally k h (at work k) t;
     ends = λ z from upto. gone (leaves p (prefixOf work k) (at work k)) (within-dead p (p .variables - (k + 1)) (prefixOf work k ++ (at work k ∷ [])) from upto (deadly z));
     values = λ i l. q .kept i (omega arith);
@@ -191,7 +181,8 @@ module _ (p : Problem) (stack work supports tables numbers list : List ℕ) (tal
       gone false e = refl
 
       deadly : not dead ≡ false → isLive p (prefixOf work k ++ (at work k ∷ [])) ≡ false
-      deadly z = subst (λ (u : List ℕ). isLive p u ≡ false) (ap (λ (u : List ℕ). u ++ (at work k ∷ [])) (prefix-take work k (let w = h .ready .work-length in let f = shallow p stack work supports tables numbers list tally k h in omega arith)))
+      deadly z = subst (λ (u : List ℕ). isLive p u ≡ false) (ap (λ (u : List ℕ). u ++ (at work k ∷ []))
+          (prefix-take work k (let w = h .ready .work-length in let f = shallow p stack work supports tables numbers list tally k h in omega arith)))
           (not-true (isLive p (longer work k)) (sym (q .answers) ∙ not-false dead z))
 
 -- ---- a node
@@ -240,7 +231,8 @@ module _ (p : Problem) (stack work supports tables numbers list : List ℕ) (tal
     inner-so : k + 1 ≡ p .variables → ⊥
     inner-so e = let i = g .inner in omega arith
 
-    then-so : (ts : List (List ℕ)) (stack″ work″ list″ : List ℕ) (tally″ : Tally) (stop : ℕ) → Walked p ts stack′ work′ numbers list (withNode (settling numbers k) tally) (k + 1) stack″ work″ list″ tally″ stop →
+    then-so : (ts : List (List ℕ)) (stack″ work″ list″ : List ℕ) (tally″ : Tally) (stop : ℕ) → Walked p ts stack′ work′ numbers list (withNode (settling numbers k) tally)
+        (k + 1) stack″ work″ list″ tally″ stop →
         Walked p ((prefixOf work k ++ (v ∷ [])) ∷ ts) stack work numbers list tally k stack″ work″ list″ tally″ stop
     then-so ts stack″ work″ list″ tally″ stop w =
         subst (λ (t : List ℕ). Walked p (t ∷ ts) stack work numbers list tally k stack″ work″ list″ tally″ stop) same-node

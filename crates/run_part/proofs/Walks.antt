@@ -1,26 +1,15 @@
 -- The walk along the nodes of a part below a prefix (specs/Steps): each function's turns. Assumes nothing.
-use mathlib.Core.Path.{_≡_, refl, sym, ap, ap₂, _∙_, subst}
-use mathlib.Core.Bool.{Bool, true, false, not}
-use mathlib.Core.List.{List, [], _∷_, _++_}
-use Prim.Native.Nat.{ℕ, suc, _+_, _-_, _*_, _≤_, _<_}
-use native.Mathlib.Numerals.{add-one}
-use native.Mathlib.Omega.{arith}
-use lib.Dec.{T}
-use lib.ListN.{length, drop}
-use Rattle.model.specs.Lists.{at}
-use Rattle.model.specs.ValueSets.{has}
-use Rattle.model.specs.Problem.{Problem}
-use Rattle.model.specs.Run.{Tally}
-use Rattle.model.proofs.Lists.{T-of, of-T}
-use borrow.Author.Tests.{not-true, not-false}
-use Rattle.arrays.specs.Places.{LIMIT, ROOM, PLANS, LAST, ALL, SPENT}
-use Rattle.run_state.specs.Walk.{withNode, walk}
-use Rattle.run_state.specs.Pair.{prefixOf, settling, orderIn, stateOf, Countable, AtPrefix, AtValues, Walked, tried}
-use Rattle.run_state.proofs.Prefix.{prefix-ext, prefix-snoc}
-use Rattle.run_state.proofs.Written.{settling-inside}
-use Rattle.run_ranges.specs.Within.{within, given, leaves, intoNodes, ontoNodes, midNodes, upToNodes}
+use Rattle.model.specs.Kit.{_≡_, refl, sym, ap, ap₂, _∙_, subst, Bool, true, false, not, List, [], _∷_, _++_, ℕ, suc, _+_, _-_, _*_, _≤_, _<_, add-one, arith, T, length, drop}
+use Rattle.model.specs.Kit.{not-true, not-false}
+use Rattle.model.specs.{Lists.at, ValueSets.has, Problem.Problem, Run.Tally}
+use Rattle.model.proofs.Lists.{T-of, of-T, length-none}
+use Rattle.arrays.specs.inner.Places.{LIMIT, ROOM, PLANS, LAST, ALL, SPENT, DIAGONAL}
+use Rattle.run_state.specs.{Walk.withNode, Walk.walk, inner.Pair.prefixOf, inner.Pair.settling, inner.Pair.orderIn, inner.Pair.stateOf, inner.Pair.Countable, inner.Pair.AtPrefix}
+use Rattle.run_state.specs.inner.Pair.{AtValues, Walked, tried}
+use Rattle.run_state.proofs.{Prefix.prefix-ext, Prefix.prefix-snoc, Written.settling-inside}
+use Rattle.run_ranges.specs.inner.Within.{within, given, leaves, intoNodes, ontoNodes, midNodes, upToNodes}
 use Rattle.run_ranges.proofs.Within.{within-zero, within-dead, within-ended, within-equal, within-back, within-open, within-less, last-values}
-use Rattle.run_part.specs.Steps.{rangeMask, AtStep, Stepped, AtPut, PutNode, AtBelow, AtInto, AtUpTo, AtOnto}
+use Rattle.run_part.specs.inner.Steps.{rangeMask, AtStep, Stepped, AtPut, PutNode, AtBelow, AtInto, AtUpTo, AtOnto}
 use Rattle.run_part.proofs.Steps as st
 
 given-none : (b : Bool) → given b [] ≡ []
@@ -31,10 +20,6 @@ head-tail : (l : List ℕ) → 0 < length l → l ≡ at l 0 ∷ drop 1 l
 unfolding at
 head-tail [] h = absurd (let z : 0 < 0 = h in omega arith)
 head-tail (x ∷ l) h = refl
-
-no-values : (l : List ℕ) → length l ≡ 0 → l ≡ []
-no-values [] h = refl
-no-values (x ∷ l) h = absurd (let z : suc (length l) ≡ 0 = h in omega arith)
 
 at-tail : (l : List ℕ) (i : ℕ) → at (drop 1 l) i ≡ at l (suc i)
 unfolding at
@@ -67,7 +52,8 @@ module _ (p : Problem) (stack work supports tables numbers list : List ℕ) (tal
     pub into-last : (upto : List ℕ) → k + 1 ≡ p .variables → Out (intoNodes p left pre (at work k) from upto) stack work list tally ALL
     unfolding intoNodes
     into-last upto e = along
-        (ap (given (leaves p pre (at work k))) (ap (λ (n : ℕ). within p n (pre ++ (at work k ∷ [])) from upto) (let z : left ≡ 0 = omega arith in z) ∙ within-zero p (pre ++ (at work k ∷ [])) from upto) ∙ given-none (leaves p pre (at work k)))
+        (ap (given (leaves p pre (at work k))) (ap (λ (n : ℕ). within p n (pre ++ (at work k ∷ [])) from upto) (let z : left ≡ 0 = omega arith in z) ∙ within-zero p
+        (pre ++ (at work k ∷ [])) from upto) ∙ given-none (leaves p pre (at work k)))
         (st.walked-none p stack work supports tables numbers list tally k (h .prefix))
 
     pub into-asks : (k + 1 ≡ p .variables → ⊥) → AtStep p stack work supports tables numbers list tally k
@@ -102,18 +88,20 @@ module _ (p : Problem) (stack work supports tables numbers list : List ℕ) (tal
           short = λ z. subst (λ (n : ℕ). n ≤ 12) (sym (s .values LAST (omega arith))) (h .short);
         }
 
-        pub into-then : goes ≡ true → (upto stack″ work″ list″ : List ℕ) (tally″ : Tally) (stop : ℕ) → Walked p (within p left (prefixOf work′ (k + 1)) from upto) stack′ work′ numbers list tally (k + 1) stack″ work″ list″ tally″ stop →
+        pub into-then : goes ≡ true → (upto stack″ work″ list″ : List ℕ) (tally″ : Tally) (stop : ℕ) → Walked p (within p left (prefixOf work′ (k + 1)) from upto) stack′ work′ numbers list tally
+            (k + 1) stack″ work″ list″ tally″ stop →
             Out (intoNodes p left pre (at work k) from upto) stack″ work″ list″ tally″ stop
         unfolding intoNodes
-        into-then e upto stack″ work″ list″ tally″ stop w = along (ap (λ (b : Bool). given b (within p left (pre ++ (at work k ∷ [])) from upto)) (of-T (leaves p pre (at work k)) (s .member e))) record {
-          state = w .state ∙ ap₂ (λ (t : List ℕ) (z : _). walk p (orderIn numbers (p .variables)) (at numbers LIMIT) (at numbers ROOM) (within p left t from upto) z) node-so same-state;
-          summed = w .summed;
-          sets = λ i l. w .sets i (omega arith) ∙ s .sets i l;
-          values = λ i l. w .values i (omega arith) ∙ s .values i (let f = into-few in omega arith);
-          marks = λ i l u. w .marks i l (omega arith) ∙ s .marks i l u;
-          stack-length = w .stack-length ∙ s .stack-length;
-          work-length = w .work-length ∙ s .work-length;
-        }
+        into-then e upto stack″ work″ list″ tally″ stop w = along (ap (λ (b : Bool). given b (within p left (pre ++ (at work k ∷ [])) from upto))
+            (of-T (leaves p pre (at work k)) (s .member e))) record {
+              state = w .state ∙ ap₂ (λ (t : List ℕ) (z : _). walk p (orderIn numbers (p .variables)) (at numbers LIMIT) (at numbers ROOM) (within p left t from upto) z) node-so same-state;
+              summed = w .summed;
+              sets = λ i l. w .sets i (omega arith) ∙ s .sets i l;
+              values = λ i l. w .values i (omega arith) ∙ s .values i (let f = into-few in omega arith);
+              marks = λ i l u. w .marks i l (omega arith) ∙ s .marks i l u;
+              stack-length = w .stack-length ∙ s .stack-length;
+              work-length = w .work-length ∙ s .work-length;
+            }
 
   -- ---- `onto`
   module _ (v : ℕ) (upto : List ℕ) (h : AtOnto p stack work supports tables numbers list tally k) where
@@ -123,21 +111,22 @@ module _ (p : Problem) (stack work supports tables numbers list : List ℕ) (tal
     pub onto-few : k < 12
     onto-few = st.shallow p stack work supports tables numbers list tally k (h .prefix)
 
-    is-in : T (has (at stack (17 * k)) v) → ontoNodes p left pre v upto ≡ node ∷ within p left node [] upto
+    is-in : T (has (at stack (DIAGONAL * k)) v) → ontoNodes p left pre v upto ≡ node ∷ within p left node [] upto
     unfolding ontoNodes
     is-in t = ap (λ (b : Bool). given b (node ∷ within p left node [] upto)) (of-T (leaves p pre v) (st.value-leaves p stack work supports tables numbers list tally k (h .prefix) v t))
 
-    pub onto-out : has (at stack (17 * k)) v ≡ false → Out (ontoNodes p left pre v upto) stack work list tally ALL
+    pub onto-out : has (at stack (DIAGONAL * k)) v ≡ false → Out (ontoNodes p left pre v upto) stack work list tally ALL
     unfolding ontoNodes
-    onto-out e = along (ap (λ (b : Bool). given b (node ∷ within p left node [] upto)) (st.value-out p stack work supports tables numbers list tally k (h .prefix) v e)) (st.walked-none p stack work supports tables numbers list tally k (h .prefix))
+    onto-out e = along (ap (λ (b : Bool). given b (node ∷ within p left node [] upto)) (st.value-out p stack work supports tables numbers list tally k (h .prefix) v e))
+        (st.walked-none p stack work supports tables numbers list tally k (h .prefix))
 
-    pub onto-absent : (r : ℕ) (c : Bool) → r ≡ v → c ≡ has (at stack (17 * k)) r → not c ≡ true → has (at stack (17 * k)) v ≡ false
-    onto-absent r c e q n = subst (λ (u : ℕ). has (at stack (17 * k)) u ≡ false) e (sym q ∙ not-true c n)
+    pub onto-absent : (r : ℕ) (c : Bool) → r ≡ v → c ≡ has (at stack (DIAGONAL * k)) r → not c ≡ true → has (at stack (DIAGONAL * k)) v ≡ false
+    onto-absent r c e q n = subst (λ (u : ℕ). has (at stack (DIAGONAL * k)) u ≡ false) e (sym q ∙ not-true c n)
 
-    pub onto-there : (r : ℕ) (c : Bool) → r ≡ v → c ≡ has (at stack (17 * k)) r → not c ≡ false → T (has (at stack (17 * k)) v)
-    onto-there r c e q n = subst (λ (u : ℕ). T (has (at stack (17 * k)) u)) e (T-of (has (at stack (17 * k)) r) (sym q ∙ not-false c n))
+    pub onto-there : (r : ℕ) (c : Bool) → r ≡ v → c ≡ has (at stack (DIAGONAL * k)) r → not c ≡ false → T (has (at stack (DIAGONAL * k)) v)
+    onto-there r c e q n = subst (λ (u : ℕ). T (has (at stack (DIAGONAL * k)) u)) e (T-of (has (at stack (DIAGONAL * k)) r) (sym q ∙ not-false c n))
 
-    module _ (t : T (has (at stack (17 * k)) v)) where
+    module _ (t : T (has (at stack (DIAGONAL * k)) v)) where
       pub onto-spent : tally .nodes ≡ at numbers LIMIT → Out (ontoNodes p left pre v upto) stack work list tally SPENT
       onto-spent e = along (is-in t) (st.walked-spent p stack work supports tables numbers list tally k (h .prefix) node (within p left node [] upto) e)
 
@@ -152,9 +141,11 @@ module _ (p : Problem) (stack work supports tables numbers list : List ℕ) (tal
         pub onto-asks : AtPut p stack work supports tables numbers list tally k v
         onto-asks = record { prefix = h .prefix; member = st.value-in p stack work supports tables numbers list tally k (h .prefix) v t; inner = h .inner; due = due }
 
-        module _ (stack′ work′ : List ℕ) (live : Bool) (s : PutNode p stack work supports tables numbers list tally k v stack′ work′ live) (next : Tally) (is : next ≡ withNode (settling numbers k) tally) where
+        module _ (stack′ work′ : List ℕ) (live : Bool) (s : PutNode p stack work supports tables numbers list tally k v stack′ work′ live) (next : Tally)
+            (is : next ≡ withNode (settling numbers k) tally) where
           pub onto-dead : live ≡ false → Out (ontoNodes p left pre v upto) stack′ work′ list next ALL
-          onto-dead e = along (is-in t ∙ ap (λ (l : List (List ℕ)). node ∷ l) (within-dead p left node [] upto (s .dead e))) (subst (λ (y : Tally). Out (node ∷ []) stack′ work′ list y ALL) (sym is) (s .alone e))
+          onto-dead e = along (is-in t ∙ ap (λ (l : List (List ℕ)). node ∷ l) (within-dead p left node [] upto (s .dead e)))
+              (subst (λ (y : Tally). Out (node ∷ []) stack′ work′ list y ALL) (sym is) (s .alone e))
 
           pub onto-next : live ≡ true → AtBelow p [] stack′ work′ supports tables numbers list next (k + 1)
           onto-next e = record {
@@ -163,7 +154,8 @@ module _ (p : Problem) (stack work supports tables numbers list : List ℕ) (tal
             short = λ z. absurd (let q : 0 < 0 = z in omega arith);
           }
 
-          pub onto-then : (stack″ work″ list″ : List ℕ) (tally″ : Tally) (stop : ℕ) → Walked p (within p left (prefixOf work′ (k + 1)) [] upto) stack′ work′ numbers list next (k + 1) stack″ work″ list″ tally″ stop →
+          pub onto-then : (stack″ work″ list″ : List ℕ) (tally″ : Tally) (stop : ℕ) → Walked p (within p left (prefixOf work′ (k + 1)) [] upto) stack′ work′ numbers list next
+              (k + 1) stack″ work″ list″ tally″ stop →
               Out (ontoNodes p left pre v upto) stack″ work″ list″ tally″ stop
           onto-then stack″ work″ list″ tally″ stop w =
               along (is-in t) (s .then (within p left node [] upto) stack″ work″ list″ tally″ stop
@@ -175,7 +167,7 @@ module _ (p : Problem) (stack work supports tables numbers list : List ℕ) (tal
     abbrev b : ℕ
     b = at upto 0
 
-    module _ (high m : ℕ) (is : m ≡ rangeMask (at stack (17 * k)) low high) where
+    module _ (high m : ℕ) (is : m ≡ rangeMask (at stack (DIAGONAL * k)) low high) where
       pub up-values : AtValues p stack work supports tables numbers list tally k m
       up-values = subst (AtValues p stack work supports tables numbers list tally k) (sym is) (st.range-asks p stack work supports tables numbers list tally k (h .prefix) low high)
 
@@ -204,14 +196,17 @@ module _ (p : Problem) (stack work supports tables numbers list : List ℕ) (tal
             inner = let i = h .prefix .inner in omega arith;
           }
 
-          pub up-then : stop ≡ ALL → (v : ℕ) → v ≡ b → (rest : List ℕ) → rest ≡ drop 1 upto → (stack″ work″ list″ : List ℕ) (tally″ : Tally) (stop″ : ℕ) → Walked p (ontoNodes p left (prefixOf work′ k) v rest) stack′ work′ numbers list′ tally′ k stack″ work″ list″ tally″ stop″ →
+          pub up-then : stop ≡ ALL → (v : ℕ) → v ≡ b → (rest : List ℕ) → rest ≡ drop 1 upto → (stack″ work″ list″ : List ℕ) (tally″ : Tally) (stop″ : ℕ) → Walked p
+              (ontoNodes p left (prefixOf work′ k) v rest) stack′ work′ numbers list′ tally′ k stack″ work″ list″ tally″ stop″ →
               Out (upToNodes p left pre low b (drop 1 upto)) stack″ work″ list″ tally″ stop″
           unfolding upToNodes
           up-then g v q rest t stack″ work″ list″ tally″ stop″ u =
-              subst (λ (l : List ℕ). Out (upToNodes p left pre low b l) stack″ work″ list″ tally″ stop″) t (st.walked-then p stack work supports tables numbers list tally k (h .prefix) (midNodes p left pre low b) (ontoNodes p left pre b rest) stack′ work′ list′ tally′ stop
+              subst (λ (l : List ℕ). Out (upToNodes p left pre low b l) stack″ work″ list″ tally″ stop″) t
+              (st.walked-then p stack work supports tables numbers list tally k (h .prefix) (midNodes p left pre low b) (ontoNodes p left pre b rest) stack′ work′ list′ tally′ stop
               (subst (λ (x : ℕ). Out (midNodes p left pre low x) stack′ work′ list′ tally′ stop) e mid) g stack″ work″ list″ tally″ stop″
               (subst (λ (x : ℕ). Walked p (ontoNodes p left pre x rest) stack′ work′ numbers list′ tally′ k stack″ work″ list″ tally″ stop″) q
-              (subst (λ (l : List ℕ). Walked p (ontoNodes p left l v rest) stack′ work′ numbers list′ tally′ k stack″ work″ list″ tally″ stop″) (st.same-prefix p stack work supports tables numbers list tally k (h .prefix) (tried p work k m) [] stack′ work′ list′ tally′ stop w) u)))
+              (subst (λ (l : List ℕ). Walked p (ontoNodes p left l v rest) stack′ work′ numbers list′ tally′ k stack″ work″ list″ tally″ stop″)
+              (st.same-prefix p stack work supports tables numbers list tally k (h .prefix) (tried p work k m) [] stack′ work′ list′ tally′ stop w) u)))
 
   -- ---- `below`
   module _ (from upto : List ℕ) (h : AtBelow p from stack work supports tables numbers list tally k) where
@@ -228,7 +223,7 @@ module _ (p : Problem) (stack work supports tables numbers list : List ℕ) (tal
     nothing e = along e (st.walked-none p stack work supports tables numbers list tally k (h .prefix))
 
     pub below-none : length upto ≡ 0 → Out whole stack work list tally ALL
-    below-none e = nothing (ap (within p (p .variables - k) pre from) (no-values upto e) ∙ within-ended p (p .variables - k) pre from)
+    below-none e = nothing (ap (within p (p .variables - k) pre from) (length-none upto e) ∙ within-ended p (p .variables - k) pre from)
 
     module _ (some : 0 < length upto) where
       upto-so : upto ≡ at upto 0 ∷ drop 1 upto
@@ -239,7 +234,7 @@ module _ (p : Problem) (stack work supports tables numbers list : List ℕ) (tal
 
       pub below-open : length from ≡ 0 → whole ≡ upToNodes p left pre 0 (at upto 0) (drop 1 upto)
       below-open e =
-          ap (λ (n : ℕ). within p n pre from upto) deeper ∙ ap₂ (λ (f u : List ℕ). within p (suc left) pre f u) (no-values from e) upto-so
+          ap (λ (n : ℕ). within p n pre from upto) deeper ∙ ap₂ (λ (f u : List ℕ). within p (suc left) pre f u) (length-none from e) upto-so
           ∙ within-open p left pre (at upto 0) (drop 1 upto)
 
       module _ (more : 0 < length from) where
@@ -268,12 +263,14 @@ module _ (p : Problem) (stack work supports tables numbers list : List ℕ) (tal
             by-heads ∙ ap (λ (x : ℕ). within p (suc left) pre (at from 0 ∷ drop 1 from) (x ∷ drop 1 upto)) (sym e) ∙ within-equal p left pre (at from 0) (drop 1 from) (drop 1 upto)
             ∙ ap₂ (λ (f u : List ℕ). intoNodes p left pre (at from 0) f u) (sym q) (sym q′) ∙ ap (λ (x : ℕ). intoNodes p left pre x rest rest′) (sym value-so)
 
-        pub below-less : at from 0 < at upto 0 → (rest : List ℕ) → rest ≡ drop 1 from → whole ≡ intoNodes p left pre (at work k) rest (255 ∷ []) ++ upToNodes p left pre (at from 0 + 1) (at upto 0) (drop 1 upto)
+        pub below-less : at from 0 < at upto 0 → (rest : List ℕ) → rest ≡ drop 1 from → whole ≡ intoNodes p left pre (at work k) rest (255 ∷ []) ++ upToNodes p left pre (at from 0 + 1) (at upto 0)
+            (drop 1 upto)
         below-less l rest q =
             by-heads ∙ within-less p left pre (at from 0) (at upto 0) (drop 1 from) (drop 1 upto) l
             ∙ ap₂ (λ (x : ℕ) (f : List ℕ). intoNodes p left pre x f (255 ∷ []) ++ upToNodes p left pre (at from 0 + 1) (at upto 0) (drop 1 upto)) (sym value-so) (sym q)
 
-        module _ (less : at from 0 < at upto 0) (rest : List ℕ) (q : rest ≡ drop 1 from) (stack′ work′ list′ : List ℕ) (tally′ : Tally) (stop : ℕ) (w : Out (intoNodes p left pre (at work k) rest (255 ∷ [])) stack′ work′ list′ tally′ stop) where
+        module _ (less : at from 0 < at upto 0) (rest : List ℕ) (q : rest ≡ drop 1 from) (stack′ work′ list′ : List ℕ) (tally′ : Tally) (stop : ℕ)
+            (w : Out (intoNodes p left pre (at work k) rest (255 ∷ [])) stack′ work′ list′ tally′ stop) where
           abbrev first : List (List ℕ)
           first = intoNodes p left pre (at work k) rest (255 ∷ [])
 
@@ -291,11 +288,14 @@ module _ (p : Problem) (stack work supports tables numbers list : List ℕ) (tal
           }
 
           pub below-then : stop ≡ ALL → (low : ℕ) → low ≡ at from 0 + 1 → (stack″ work″ list″ : List ℕ) (tally″ : Tally) (stop″ : ℕ) →
-              Walked p (upToNodes p left (prefixOf work′ k) low (at upto 0) (drop 1 upto)) stack′ work′ numbers list′ tally′ k stack″ work″ list″ tally″ stop″ → Out whole stack″ work″ list″ tally″ stop″
+              Walked p (upToNodes p left (prefixOf work′ k) low (at upto 0) (drop 1 upto)) stack′ work′ numbers list′ tally′ k stack″ work″ list″ tally″ stop″
+              → Out whole stack″ work″ list″ tally″ stop″
           below-then g low e stack″ work″ list″ tally″ stop″ u =
-              along (below-less less rest q) (st.walked-then p stack work supports tables numbers list tally k (h .prefix) first second stack′ work′ list′ tally′ stop w g stack″ work″ list″ tally″ stop″
+              along (below-less less rest q) (st.walked-then p stack work supports tables numbers list tally k
+              (h .prefix) first second stack′ work′ list′ tally′ stop w g stack″ work″ list″ tally″ stop″
               (subst (λ (x : ℕ). Walked p (upToNodes p left pre x (at upto 0) (drop 1 upto)) stack′ work′ numbers list′ tally′ k stack″ work″ list″ tally″ stop″) e
-              (subst (λ (l : List ℕ). Walked p (upToNodes p left l low (at upto 0) (drop 1 upto)) stack′ work′ numbers list′ tally′ k stack″ work″ list″ tally″ stop″) (st.same-prefix p stack work supports tables numbers list tally k (h .prefix) first second stack′ work′ list′ tally′ stop w) u)))
+              (subst (λ (l : List ℕ). Walked p (upToNodes p left l low (at upto 0) (drop 1 upto)) stack′ work′ numbers list′ tally′ k stack″ work″ list″ tally″ stop″)
+              (st.same-prefix p stack work supports tables numbers list tally k (h .prefix) first second stack′ work′ list′ tally′ stop w) u)))
 
 -- ---- the measures
 pub falls-next : (k t : ℕ) → 4 * (12 - k) + 1 ≡ t → k < 12 → 4 * (12 - (k + 1)) + 3 < t

@@ -1,3 +1,3 @@
 -- A part of a run between two paths: what the functions ask and leave, and what a caller holds.
-pub mod Steps
 pub mod Calls
+pub mod inner

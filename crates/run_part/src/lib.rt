@@ -2,6 +2,7 @@
 // its own. Parts that join are the run (crate run_ranges).
 use arrays::ALL;
 use arrays::DEEPER;
+use arrays::DIAGONAL;
 use arrays::LAST;
 use arrays::NUMBERS;
 use arrays::Numbers;
@@ -26,12 +27,13 @@ ghost use lib.ListN.{length, drop};
 ghost use Rattle.model.specs.Lists.{at};
 ghost use Rattle.model.specs.Problem.{Problem};
 ghost use Rattle.model.specs.Run as Run;
-ghost use Rattle.run_state.specs.Pair.{prefixOf, Countable, Counted, Walked};
+ghost use Rattle.run_state.specs.inner.Pair.{prefixOf, Countable, Counted, Walked};
 ghost use Rattle.run_state.specs.Meaning.{tallyIn};
-ghost use Rattle.run_ranges.specs.Within.{within, intoNodes, ontoNodes, upToNodes};
-ghost use Rattle.run_part.specs.Steps.{rangeMask, AtStep, Stepped, AtPut, PutNode, AtBelow, AtInto, AtUpTo, AtOnto, PutPath, Valued, Parted};
+ghost use Rattle.run_ranges.specs.inner.Within.{within, intoNodes, ontoNodes, upToNodes};
+ghost use Rattle.run_part.specs.inner.Steps.{rangeMask, AtStep, Stepped, AtPut, PutNode, AtBelow, AtInto, AtUpTo, AtOnto, PutPath, Valued, Parted};
 ghost use Rattle.run_part.specs.Calls.{CallPart};
-ghost use Rattle.arrays.specs.Places.{LAST, DEEPER, WORK};
+ghost use Rattle.arrays.specs.inner.Places.{LAST, DEEPER, WORK};
+ghost use Rattle.arrays.specs.inner.Places.{DIAGONAL};
 ghost use Rattle.run_state.specs.Walk.{noNodes};
 
 // What a part answers, what it counted, and where it stands: the last node that it made, else where it began, as many of the values as the length says.
@@ -72,10 +74,10 @@ fn middle(set: ValueSet, low: u16, high: u16) -> ValueSet
 // The values of the set of variable k at depth k from `low` up and below `high`.
 fn values_within(stack: &Stack, k: usize, low: u16, high: u16) -> u16
     requires { ⌜ k < 12 ⌝ }
-    ensures { λ r. ⌜ r ≡ rangeMask (at (now (stack .entry)) (17 * k)) low high ⌝ }
+    ensures { λ r. ⌜ r ≡ rangeMask (at (now (stack .entry)) (DIAGONAL * k)) low high ⌝ }
 {
     let set = ValueSet {
-        bits: stack[17 * k],
+        bits: stack[DIAGONAL * k],
     };
     let others = middle(set, low, high);
     others.bits
@@ -90,11 +92,14 @@ fn step(
     numbers: &Numbers,
     k: usize,
 ) -> bool
-    requires { ⌜ ((p : Problem) × (list : List ℕ) × (tally : Run.Tally) × AtStep p (now stack) (now work) (now supports) (now tables) (now numbers) list tally k) ⌝ }
-    ensures { λ r. ⌜ ((p : Problem) (list : List ℕ) (tally : Run.Tally) → AtStep p (now (stack .entry)) (now (work .entry)) (now (supports .entry)) (now (tables .entry)) (now (numbers .entry)) list tally k → Stepped p (now (stack .entry)) (now (work .entry)) (now (supports .entry)) (now (tables .entry)) (now (numbers .entry)) list tally k (now (stack .exit)) (now (work .exit)) r) ⌝ }
+    requires { ⌜ ((p : Problem) × (list : List ℕ) × (tally : Run.Tally) × AtStep p (now stack) (now work) (now supports) (now tables)
+        (now numbers) list tally k) ⌝ }
+    ensures { λ r. ⌜ ((p : Problem) (list : List ℕ) (tally : Run.Tally) → AtStep p (now (stack .entry)) (now (work .entry)) (now (supports .entry))
+        (now (tables .entry)) (now (numbers .entry)) list tally k → Stepped p (now (stack .entry)) (now (work .entry)) (now (supports .entry))
+        (now (tables .entry)) (now (numbers .entry)) list tally k (now (stack .exit)) (now (work .exit)) r) ⌝ }
 {
     let set = ValueSet {
-        bits: stack[17 * k],
+        bits: stack[DIAGONAL * k],
     };
     if set.contains(work[k] as u16) {
         return !prune::descend(stack, work, supports, tables, numbers, k);
@@ -112,8 +117,11 @@ fn put_node(
     k: usize,
     v: u8,
 ) -> bool
-    requires { ⌜ ((p : Problem) × (list : List ℕ) × (tally : Run.Tally) × AtPut p (now stack) (now work) (now supports) (now tables) (now numbers) list tally k v) ⌝ }
-    ensures { λ r. ⌜ ((p : Problem) (list : List ℕ) (tally : Run.Tally) → AtPut p (now (stack .entry)) (now (work .entry)) (now (supports .entry)) (now (tables .entry)) (now (numbers .entry)) list tally k v → PutNode p (now (stack .entry)) (now (work .entry)) (now (supports .entry)) (now (tables .entry)) (now (numbers .entry)) list tally k v (now (stack .exit)) (now (work .exit)) r) ⌝ }
+    requires { ⌜ ((p : Problem) × (list : List ℕ) × (tally : Run.Tally) × AtPut p (now stack) (now work) (now supports) (now tables)
+        (now numbers) list tally k v) ⌝ }
+    ensures { λ r. ⌜ ((p : Problem) (list : List ℕ) (tally : Run.Tally) → AtPut p (now (stack .entry)) (now (work .entry)) (now (supports .entry))
+        (now (tables .entry)) (now (numbers .entry)) list tally k v → PutNode p (now (stack .entry)) (now (work .entry)) (now (supports .entry))
+        (now (tables .entry)) (now (numbers .entry)) list tally k v (now (stack .exit)) (now (work .exit)) r) ⌝ }
 {
     work[k] = v as u64;
     work[LAST] = (k + 1) as u64;
@@ -134,7 +142,11 @@ fn into(
     tally: Tally,
 ) -> CountedPart
     requires { ⌜ ((p : Problem) × AtInto p (now from) (now stack) (now work) (now supports) (now tables) (now numbers) (now list) (tallyIn tally) k) ⌝ }
-    ensures { λ r. ⌜ ((p : Problem) → AtInto p (now (from .entry)) (now (stack .entry)) (now (work .entry)) (now (supports .entry)) (now (tables .entry)) (now (numbers .entry)) (now (list .entry)) (tallyIn tally) k → Walked p (intoNodes p (p .variables - (k + 1)) (prefixOf (now (work .entry)) k) (at (now (work .entry)) k) (now (from .entry)) (now (upto .entry))) (now (stack .entry)) (now (work .entry)) (now (numbers .entry)) (now (list .entry)) (tallyIn tally) k (now (stack .exit)) (now (work .exit)) (now (list .exit)) (tallyIn (r .tally)) (r .stop)) ⌝ }
+    ensures { λ r. ⌜ ((p : Problem) → AtInto p (now (from .entry)) (now (stack .entry)) (now (work .entry)) (now (supports .entry)) (now (tables .entry))
+        (now (numbers .entry)) (now (list .entry)) (tallyIn tally) k → Walked p
+        (intoNodes p (p .variables - (k + 1)) (prefixOf (now (work .entry)) k) (at (now (work .entry)) k) (now (from .entry)) (now (upto .entry)))
+        (now (stack .entry)) (now (work .entry)) (now (numbers .entry)) (now (list .entry)) (tallyIn tally) k (now (stack .exit)) (now (work .exit))
+        (now (list .exit)) (tallyIn (r .tally)) (r .stop)) ⌝ }
 {
     if k + 1 == numbers[VARIABLES] as usize {
         return CountedPart { stop: ALL, tally };
@@ -170,10 +182,13 @@ fn onto(
     tally: Tally,
 ) -> CountedPart
     requires { ⌜ ((p : Problem) × AtOnto p (now stack) (now work) (now supports) (now tables) (now numbers) (now list) (tallyIn tally) k) ⌝ }
-    ensures { λ r. ⌜ ((p : Problem) → AtOnto p (now (stack .entry)) (now (work .entry)) (now (supports .entry)) (now (tables .entry)) (now (numbers .entry)) (now (list .entry)) (tallyIn tally) k → Walked p (ontoNodes p (p .variables - (k + 1)) (prefixOf (now (work .entry)) k) v (now (upto .entry))) (now (stack .entry)) (now (work .entry)) (now (numbers .entry)) (now (list .entry)) (tallyIn tally) k (now (stack .exit)) (now (work .exit)) (now (list .exit)) (tallyIn (r .tally)) (r .stop)) ⌝ }
+    ensures { λ r. ⌜ ((p : Problem) → AtOnto p (now (stack .entry)) (now (work .entry)) (now (supports .entry)) (now (tables .entry)) (now (numbers .entry))
+        (now (list .entry)) (tallyIn tally) k → Walked p (ontoNodes p (p .variables - (k + 1)) (prefixOf (now (work .entry)) k) v (now (upto .entry)))
+        (now (stack .entry)) (now (work .entry)) (now (numbers .entry)) (now (list .entry)) (tallyIn tally) k (now (stack .exit)) (now (work .exit))
+        (now (list .exit)) (tallyIn (r .tally)) (r .stop)) ⌝ }
 {
     let set = ValueSet {
-        bits: stack[17 * k],
+        bits: stack[DIAGONAL * k],
     };
     if !set.contains(wide(v)) {
         return CountedPart { stop: ALL, tally };
@@ -218,7 +233,11 @@ fn up_to(
     tally: Tally,
 ) -> CountedPart
     requires { ⌜ ((p : Problem) × AtUpTo p low (now upto) (now stack) (now work) (now supports) (now tables) (now numbers) (now list) (tallyIn tally) k) ⌝ }
-    ensures { λ r. ⌜ ((p : Problem) → AtUpTo p low (now (upto .entry)) (now (stack .entry)) (now (work .entry)) (now (supports .entry)) (now (tables .entry)) (now (numbers .entry)) (now (list .entry)) (tallyIn tally) k → Walked p (upToNodes p (p .variables - (k + 1)) (prefixOf (now (work .entry)) k) low (at (now (upto .entry)) 0) (drop 1 (now (upto .entry)))) (now (stack .entry)) (now (work .entry)) (now (numbers .entry)) (now (list .entry)) (tallyIn tally) k (now (stack .exit)) (now (work .exit)) (now (list .exit)) (tallyIn (r .tally)) (r .stop)) ⌝ }
+    ensures { λ r. ⌜ ((p : Problem) → AtUpTo p low (now (upto .entry)) (now (stack .entry)) (now (work .entry)) (now (supports .entry))
+        (now (tables .entry)) (now (numbers .entry)) (now (list .entry)) (tallyIn tally) k → Walked p
+        (upToNodes p (p .variables - (k + 1)) (prefixOf (now (work .entry)) k) low (at (now (upto .entry)) 0) (drop 1 (now (upto .entry))))
+        (now (stack .entry)) (now (work .entry)) (now (numbers .entry)) (now (list .entry)) (tallyIn tally) k (now (stack .exit)) (now (work .exit))
+        (now (list .exit)) (tallyIn (r .tally)) (r .stop)) ⌝ }
 {
     let v = upto[0];
     let high = wide(v);
@@ -260,7 +279,11 @@ fn below(
     tally: Tally,
 ) -> CountedPart
     requires { ⌜ ((p : Problem) × AtBelow p (now from) (now stack) (now work) (now supports) (now tables) (now numbers) (now list) (tallyIn tally) k) ⌝ }
-    ensures { λ r. ⌜ ((p : Problem) → AtBelow p (now (from .entry)) (now (stack .entry)) (now (work .entry)) (now (supports .entry)) (now (tables .entry)) (now (numbers .entry)) (now (list .entry)) (tallyIn tally) k → Walked p (within p (p .variables - k) (prefixOf (now (work .entry)) k) (now (from .entry)) (now (upto .entry))) (now (stack .entry)) (now (work .entry)) (now (numbers .entry)) (now (list .entry)) (tallyIn tally) k (now (stack .exit)) (now (work .exit)) (now (list .exit)) (tallyIn (r .tally)) (r .stop)) ⌝ }
+    ensures { λ r. ⌜ ((p : Problem) → AtBelow p (now (from .entry)) (now (stack .entry)) (now (work .entry)) (now (supports .entry)) (now (tables .entry))
+        (now (numbers .entry)) (now (list .entry)) (tallyIn tally) k → Walked p
+        (within p (p .variables - k) (prefixOf (now (work .entry)) k) (now (from .entry)) (now (upto .entry))) (now (stack .entry)) (now (work .entry))
+        (now (numbers .entry)) (now (list .entry)) (tallyIn tally) k (now (stack .exit)) (now (work .exit)) (now (list .exit)) (tallyIn (r .tally))
+        (r .stop)) ⌝ }
 {
     if upto.len() == 0 {
         return CountedPart { stop: ALL, tally };
@@ -398,8 +421,10 @@ pub fn walk_part(
     upto: &[u8],
     step: u8,
 ) -> CountedPart
-    requires { ⌜ (step ≡ DEEPER → (p : Problem) × AtBelow p (now from) (now stack) (now work) (now supports) (now tables) (now numbers) (now list) noNodes 0) ⌝ }
-    ensures { λ r. ⌜ Parted (now (from .entry)) (now (upto .entry)) (now (stack .entry)) (now (work .entry)) (now (supports .entry)) (now (tables .entry)) (now (numbers .entry)) (now (list .entry)) step (now (stack .exit)) (now (work .exit)) (now (list .exit)) (tallyIn (r .tally)) (r .stop) ⌝ }
+    requires { ⌜ (step ≡ DEEPER → (p : Problem) × AtBelow p (now from) (now stack) (now work) (now supports) (now tables) (now numbers)
+        (now list) noNodes 0) ⌝ }
+    ensures { λ r. ⌜ Parted (now (from .entry)) (now (upto .entry)) (now (stack .entry)) (now (work .entry)) (now (supports .entry)) (now (tables .entry))
+        (now (numbers .entry)) (now (list .entry)) step (now (stack .exit)) (now (work .exit)) (now (list .exit)) (tallyIn (r .tally)) (r .stop) ⌝ }
 {
     let tally = run_state::no_nodes();
     if step != DEEPER {
@@ -429,7 +454,8 @@ pub fn run_part(
     limit: u32,
     list: &mut [u8],
 ) -> PartRun
-    ensures { λ r. ⌜ CallPart (now (sheet .entry)) (now (pairs .entry)) (now (block .entry)) (now (from .entry)) (now (upto .entry)) limit (now (list .entry)) r (now (list .exit)) ⌝ }
+    ensures { λ r. ⌜ CallPart (now (sheet .entry)) (now (pairs .entry)) (now (block .entry)) (now (from .entry)) (now (upto .entry)) limit
+        (now (list .entry)) r (now (list .exit)) ⌝ }
 {
     let mut stack = [0u16; STACK];
     let mut work = [0u64; WORK];

@@ -1,34 +1,15 @@
 -- The law of specs/Block. Assumes nothing.
-use mathlib.Core.Path.{_≡_, refl, sym, ap, _∙_, subst}
-use mathlib.Core.Bool.{Bool}
-use mathlib.Core.List.{List, _++_, map}
-use Prim.Native.Nat.{ℕ, _+_, _-_, _^_, _≤_, _<_}
-use native.Mathlib.Decide.{decLt}
-use native.Mathlib.Omega.{arith}
-use lib.Dec.{T, eqb→eq, eqb-refl}
-use lib.ListN.{length, drop, length-append, length-map}
-use lib.Pow.{pow-lt}
-use Rattle.model.specs.Lists.{at}
-use Rattle.model.specs.ValueSets.{has}
-use Rattle.model.specs.Problem.{Problem, withSymmetries}
-use Rattle.model.specs.Nogood.{Entry, obeys}
-use Rattle.model.specs.Search.{nogoodsOf, narrowed, setsAt, isLive}
-use Rattle.model.specs.Claims.{Drawn}
-use Rattle.model.specs.Pruning.{Inside}
-use Rattle.model.specs.WellFormed.{WellFormed}
-use Rattle.model.proofs.Lists.{at-append, at-skip, at-map, at-out}
-use Rattle.model.proofs.Sets.{has-lt, has-at-lt}
-use Rattle.model.proofs.Masks.{has-one}
-use Rattle.model.proofs.Assignments.{drawn-i}
-use Rattle.model.proofs.Prune.{Sized, narrowed-i, setsAt-sets}
-use Rattle.model.proofs.Consistent.{live-consistent}
-use Rattle.model.proofs.Tree.{well-sized}
-use Rattle.model.proofs.Child.{child-sets}
-use Rattle.model.proofs.More as M
+use Rattle.model.specs.Kit.{_≡_, refl, sym, ap, _∙_, subst, Bool, List, _++_, map, ℕ, _+_, _-_, _^_, _≤_, _<_, decLt, arith, T, eqb→eq, eqb-refl, length, drop, length-append}
+use Rattle.model.specs.Kit.{length-map, pow-lt}
+use Rattle.model.specs.{Lists.at, ValueSets.has, ValueSets.Inside, Problem.Problem, Problem.withSymmetries, Nogood.Entry, Nogood.obeys, Search.nogoodsOf, Search.narrowed}
+use Rattle.model.specs.{Search.setsAt, Search.isLive, Claims.Drawn, WellFormed.WellFormed}
+use Rattle.model.proofs.{Lists.at-append, Lists.at-skip, Lists.at-map, Lists.at-out, Sets.has-lt, Sets.has-at-lt, Masks.has-one, Assignments.drawn-i, Prune.Sized, Prune.narrowed-i}
+use Rattle.model.proofs.{Prune.setsAt-sets, Consistent.live-consistent, Tree.well-sized, Child.child-sets}
 use Rattle.block.specs.BlockSets.{Reorders, BlockIn, Ascends}
 use Rattle.block.proofs.BlockSets.{ascending-obeys, live-ascends}
 use Rattle.run_alike.proofs.Sets.{at-drop, own-value, own-only}
-use Rattle.run_passed.specs.Block.{Block-carries}
+use Rattle.run_passed.specs.inner.Block.{Block-carries}
+use Rattle.model.proofs.More as M
 
 module _ (p : Problem) (w : WellFormed p) (block : ℕ → Bool) (gs : List (List ℕ)) (i : BlockIn p block gs) (a b : List ℕ) (la : T (isLive (withSymmetries p gs) a))
     (lb : T (isLive (withSymmetries p gs) b)) (sized : length a ≡ length b)

@@ -1,30 +1,17 @@
 -- The law of specs/Compared. Assumes nothing.
-use mathlib.Core.Path.{_≡_, sym, subst}
-use mathlib.Core.Bool.{Bool}
-use mathlib.Core.Logic.{⊎-elim}
-use mathlib.Core.List.{List, []}
-use Prim.Native.Nat.{ℕ, _%_, _≤_, _<_}
-use native.Mathlib.Omega.{arith}
-use lib.Dec.{T}
-use lib.ListN.{length, take, drop}
-use borrow.Author.Tests.{eq-eqb, ne-eqb}
-use Rattle.model.specs.Problem.{Problem, withSymmetries}
-use Rattle.model.specs.Search.{nogoodsOf, setsAt, isLive}
-use Rattle.model.specs.WellFormed.{WellFormed, Respected}
-use Rattle.model.proofs.Lists.{mem-getD, place-of}
-use Rattle.model.proofs.Tree.{well-sized}
-use Rattle.model.proofs.More as M
-use Rattle.arrays.specs.Places.{ENTAILED, OBEYED}
-use Rattle.arrays.specs.Layout.{symmetryAt}
+use Rattle.model.specs.Kit.{_≡_, sym, subst, Bool, ⊎-elim, List, [], ℕ, _%_, _≤_, _<_, arith, T, length, take, drop, eq-eqb, ne-eqb}
+use Rattle.model.specs.{Problem.Problem, Problem.withSymmetries, Problem.symmetryAt, Search.nogoodsOf, Search.setsAt, Search.isLive, WellFormed.WellFormed, WellFormed.Respected}
+use Rattle.model.proofs.{Lists.mem-getD, Lists.place-of, Tree.well-sized}
+use Rattle.arrays.specs.inner.Places.{ENTAILED, OBEYED}
 use Rattle.filter.specs.Marks.{Skippable}
 use Rattle.filter.proofs.Marks.{skipped-below}
-use Rattle.prune_symmetries.specs.Levels.{Resumes, MarkBy, Mark}
+use Rattle.prune_symmetries.specs.inner.Levels.{Resumes, MarkBy, Mark}
 use Rattle.block.specs.BlockSets.{BlockIn}
-use Rattle.run_alike.specs.Alike.{Obeyed, Vacuous, SameList, obeyed, same-left, carried, Alike}
-use Rattle.run_alike.proofs.Kept.{kept-left}
-use Rattle.run_alike.proofs.Law.{alike-below}
-use Rattle.run_passed.specs.Compared.{SameKey, Right, Key-below}
+use Rattle.run_alike.specs.inner.Alike.{Obeyed, Vacuous, SameList, obeyed, same-left, carried, Alike}
+use Rattle.run_alike.proofs.{Kept.kept-left, Law.alike-below}
+use Rattle.run_passed.specs.inner.Compared.{SameKey, Right, Key-below}
 use Rattle.run_passed.proofs.Block.{block-carries}
+use Rattle.model.proofs.More as M
 
 module _ (p : Problem) (w : WellFormed p) (block : ℕ → Bool) (gs : List (List ℕ)) (i : BlockIn p block gs) (wq : WellFormed (withSymmetries p gs)) where
   abbrev q : Problem

@@ -1,24 +1,15 @@
 -- The laws of specs/Passed. Assumes nothing.
-use mathlib.Core.Path.{_≡_, refl, sym, ap, ap₂, _∙_, subst}
-use mathlib.Core.Bool.{Bool, true, false}
-use mathlib.Core.List.{List, [], _∷_, map}
-use Prim.Native.Nat.{ℕ, suc, _+_, _*_, _≤_, _<_}
-use native.Mathlib.Omega.{arith}
-use lib.Dec.{eqb}
-use lib.ListN.{length, set, length-set}
-use borrow.Author.Tests.{eqb-true, eqb-false}
-use Rattle.model.specs.Lists.{at, keep, tabulate}
-use Rattle.model.specs.Search.{isPlan, nodesBelow}
-use Rattle.model.specs.Run.{settledBy, countsBy}
-use Rattle.model.proofs.Lists.{at-ext, at-set, at-set-other, at-tabulate, length-tabulate, keep-yes, keep-no}
-use Rattle.model.proofs.Tally.{at-counts}
+use Rattle.model.specs.Kit.{_≡_, refl, sym, ap, ap₂, _∙_, subst, Bool, true, false, List, [], _∷_, map, ℕ, suc, _+_, _*_, _≤_, _<_, arith, eqb, length, set, length-set, eqb-true}
+use Rattle.model.specs.Kit.{eqb-false}
+use Rattle.model.specs.{Lists.at, Lists.keep, Lists.tabulate, Search.isPlan, Search.nodesBelow, Run.settledBy, Run.countsBy}
+use Rattle.model.proofs.{Lists.at-ext, Lists.at-set, Lists.at-set-other, Lists.at-tabulate, Lists.length-tabulate, Lists.keep-yes, Lists.keep-no, Tally.at-counts}
 use Rattle.order.specs.Reordered.{write}
-use Rattle.arrays.specs.Places.{ALL}
+use Rattle.arrays.specs.inner.Places.{ALL}
 use Rattle.run_cut.specs.Parts.{lastOf}
 use Rattle.run_state.specs.Walk.{withNode, State, noted, counted, listed, visit, walk}
 use Rattle.run_state.proofs.Walk.{visit-other, visit-plan, listed-kept}
-use Rattle.run_alike.specs.Alike.{moved}
-use Rattle.run_passed.specs.Passed.{plus, notedAll, passed, Walk-over, Walk-by, Last-moved}
+use Rattle.run_alike.specs.inner.Alike.{moved}
+use Rattle.run_passed.specs.inner.Passed.{plus, notedAll, passed, Walk-over, Walk-by, Last-moved}
 
 -- ---- counts
 plus-is : (cs ds es : List ℕ) → length es ≡ 12 → ((x : ℕ) → x < 12 → at cs x + at ds x ≡ at es x) → plus cs ds ≡ es

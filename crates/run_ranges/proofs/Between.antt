@@ -1,21 +1,12 @@
 -- The nodes between two paths (parts' `nodesBetween`): parts of the tree that join, a part up to its last node, the whole tree. Holds of every problem. Assumes nothing.
-use mathlib.Core.Path.{_≡_, refl, sym, ap, ap₂, _∙_, subst}
-use mathlib.Core.Bool.{Bool, true, false, not}
-use mathlib.Core.Logic.{_⊎_, inl, inr}
-use mathlib.Core.List.{List, [], _∷_, _++_, List·Memᴰ, List·Memᴰ·head, List·Memᴰ·tail}
-use Prim.Native.Nat.{ℕ, zero, suc, _≤_, _<_}
-use native.Mathlib.Omega.{arith}
-use lib.Dec.{T, eqb, ltb}
-use lib.ListN.{length, take, drop, length-append, take-append-drop}
+use Rattle.model.specs.Kit.{_≡_, refl, sym, ap, ap₂, _∙_, subst, Bool, true, false, not, _⊎_, inl, inr, List, [], _∷_, _++_, List·Memᴰ, List·Memᴰ·head, List·Memᴰ·tail, ℕ, zero}
+use Rattle.model.specs.Kit.{suc, _≤_, _<_, arith, T, eqb, ltb, length, take, drop, length-append, take-append-drop, le-ltb}
 use lib.Seq.{take-append-seam}
-use borrow.Author.Tests.{le-ltb}
-use Rattle.model.specs.Lists.{both, keep, at}
-use Rattle.model.specs.Problem.{Problem}
-use Rattle.model.specs.Search.{nodes}
-use Rattle.model.proofs.Lists.{T-of, of-T, not-of, of-not, both-i, both-l, both-r, keep-yes, keep-no, keep-ext, keep-none, keep-e, Sorted, sorted-keep}
+use Rattle.model.specs.{Lists.both, Lists.keep, Lists.at, Problem.Problem, Search.nodes}
+use Rattle.model.proofs.Lists.{T-of, of-T, not-of, of-not, both-i, both-l, both-r, keep-yes, keep-no, keep-ext, keep-none, keep-e, Sorted, sorted-keep, T-ext}
 use Rattle.run_cut.specs.Parts.{after, nodesAfter, nodesBetween, lastOf}
-use Rattle.run_cut.proofs.Parts.{after-trans, after-later, after-ne, nil-after, Later, nodes-ascend, nodes-start}
-use Rattle.run_cut.proofs.Resume.{node-values, last-in, taken, after-lasts}
+use Rattle.run_cut.proofs.{Parts.after-trans, Parts.after-later, Parts.after-ne, Parts.nil-after, Parts.Later, Parts.nodes-ascend, Parts.nodes-start, Resume.node-values}
+use Rattle.run_cut.proofs.Resume.{last-in, taken, after-lasts}
 
 -- after one path and not after another
 abbrev pub between : List ℕ → List ℕ → List ℕ → Bool
@@ -27,17 +18,12 @@ between-i a b t u v = both-i (after a t) (not (after b t)) u (T-of (not (after b
 between-after : (a b t : List ℕ) → T (between a b t) → T (after a t)
 between-after a b t u = both-l (after a t) (not (after b t)) u
 
-between-not : (a b t : List ℕ) → T (between a b t) → T (after b t) → ⊥
+pub between-not : (a b t : List ℕ) → T (between a b t) → T (after b t) → ⊥
 between-not a b t u v = of-not (not (after b t)) (ap not (of-T (after b t) v)) (both-r (after a t) (not (after b t)) u)
 
-same-bool : (x y : Bool) → (T x → T y) → (T y → T x) → x ≡ y
-same-bool true true f g = refl
-same-bool true false f g = absurd (f tt)
-same-bool false true f g = absurd (g tt)
-same-bool false false f g = refl
-
 -- a list that ascends, cut in two
-pub join-between : (a b c : List ℕ) (l : List (List ℕ)) → Sorted Later l → ((t : List ℕ) → List·Memᴰ t l → T (after b t) → T (after a t)) → ((t : List ℕ) → List·Memᴰ t l → T (after c t) → T (after b t)) →
+pub join-between : (a b c : List ℕ) (l : List (List ℕ)) → Sorted Later l → ((t : List ℕ) → List·Memᴰ t l → T (after b t) → T (after a t)) →
+    ((t : List ℕ) → List·Memᴰ t l → T (after c t) → T (after b t)) →
     keep (between a c) l ≡ keep (between a b) l ++ keep (between b c) l
 unfolding keep
 join-between a b c [] s f g = refl
@@ -49,7 +35,7 @@ join-between a b c (x ∷ l) s f g = go (join-between a b c l (s .1) (λ t m. f 
     go : keep (between a c) l ≡ keep (between a b) l ++ keep (between b c) l → (d : Bool) → after b x ≡ d → Goal
     go ih true e =
         let all : (t : List ℕ) → List·Memᴰ t (x ∷ l) → T (after b t) = each in
-        keep-ext (between a c) (between b c) (x ∷ l) (λ t m. same-bool (between a c t) (between b c t)
+        keep-ext (between a c) (between b c) (x ∷ l) (λ t m. T-ext (between a c t) (between b c t)
         (λ u. between-i b c t (all t m) (between-not a c t u)) (λ u. between-i a c t (f t m (all t m)) (between-not b c t u)))
         ∙ sym (ap (λ (r : List (List ℕ)). r ++ keep (between b c) (x ∷ l)) (keep-none (between a b) (x ∷ l) (λ t m u. between-not a b t u (all t m))))
       where
@@ -187,7 +173,7 @@ module _ (p : Problem) where
       ahead t m = let q = keep-e (between a b) (nodes p) t m in subst T (sym (to-d t (q .0))) (between-after a b t (q .1))
 
       narrow : (t : List ℕ) → List·Memᴰ t (nodes p) → between l b t ≡ both (between a b t) (after l t)
-      narrow t m = same-bool (between l b t) (both (between a b t) (after l t))
+      narrow t m = T-ext (between l b t) (both (between a b t) (after l t))
           (λ u. both-i (between a b t) (after l t) (between-i a b t (on t m (between-after l b t u)) (between-not l b t u)) (between-after l b t u))
           (λ u. between-i l b t (both-r (between a b t) (after l t) u) (between-not a b t (both-l (between a b t) (after l t) u)))
 

@@ -1,33 +1,21 @@
 -- Parts of a run that are run apart hold together what the run holds (specs/Claims). Assumes nothing.
-use mathlib.Core.Path.{_≡_, refl, sym, ap, ap₂, _∙_, subst}
-use mathlib.Core.Logic.{_⊎_, inl, inr}
-use mathlib.Core.List.{List, [], _∷_, _++_, map, Memᴰ·of-map}
-use Prim.Native.Nat.{ℕ, suc, _+_, _*_, _≤_}
-use native.Mathlib.Nat.{mul-le-mul-right}
-use native.Mathlib.Omega.{arith}
-use lib.Dec.{T}
-use lib.ListN.{length, take, drop, replicate, length-append, length-map, take-append-drop}
-use lib.Seq.{take-all, length-take-le, take-append-seam, take-append-le}
-use Rattle.model.specs.Lists.{keep, flat, at, total}
-use Rattle.model.specs.Problem.{Problem}
-use Rattle.model.specs.Search.{nodes, isPlan}
-use Rattle.model.specs.Verdict.{Verdict, accepted, reply, kept}
-use Rattle.model.specs.Sheet.{problemOf}
-use Rattle.model.specs.Run.{Ending, finished, spent, full, plansIn, nodesIn, Result, search, resultOf, Answer, refusal, answered, ended, written, Tally, tallyFor, settledBy, countsBy, listedPlans}
-use Rattle.model.proofs.Lists.{keep-append, map-append}
-use Rattle.model.proofs.Runs.{Ended, Walk, walk}
-use Rattle.model.proofs.Demands.{read-back}
-use Rattle.order.specs.Order.{Ordering}
-use Rattle.order.specs.Reordered.{write}
-use Rattle.order.specs.RunBy.{resultBy, placeCounts, placeTally, answerBy, listBy, talliedBy}
-use Rattle.order.proofs.Reordered as O
+use Rattle.model.specs.Kit.{_≡_, refl, sym, ap, ap₂, _∙_, subst, _⊎_, inl, inr, List, [], _∷_, _++_, map, Memᴰ·of-map, ℕ, suc, _+_, _*_, _≤_, mul-le-mul-right, arith, T, length}
+use Rattle.model.specs.Kit.{take, drop, replicate, length-append, length-map, take-append-drop, take-all, length-take-le}
+use lib.Seq.{take-append-seam, take-append-le}
+use Rattle.model.specs.{Lists.keep, Lists.flat, Lists.at, Lists.total, Problem.Problem, Search.nodes, Search.isPlan, Verdict.Verdict, Verdict.accepted, Verdict.reply, Verdict.kept}
+use Rattle.model.specs.{Sheet.problemOf, Run.Ending, Run.finished, Run.spent, Run.full, Run.plansIn, Run.nodesIn, Run.Result, Run.search, Run.resultOf, Run.Answer, Run.refusal}
+use Rattle.model.specs.Run.{answered, ended, written, Tally, tallyFor, settledBy, countsBy, listedPlans}
+use Rattle.model.proofs.{Lists.keep-append, Lists.map-append, Runs.Ended, Runs.Walk, Runs.walk, Demands.read-back, Accepted.is-accepted}
+use Rattle.order.specs.{Order.Ordering, Reordered.write, RunBy.resultBy, RunBy.placeCounts, RunBy.placeTally, RunBy.answerBy, RunBy.listBy, RunBy.talliedBy}
 use Rattle.run_cut.specs.Parts.{after, Cuts, nodesBetween, lastOf}
 use Rattle.run_cut.proofs.Counts.{counts-append, counts-none}
 use Rattle.run_input.specs.Lent.{verdictLent, problemWith, orderLent, problemLent, answerLent, listLent, tallyLent}
-use Rattle.run_input.proofs.Lent.{passed-all, well-lent, ordering-lent}
+use Rattle.run_input.proofs.Lent.{well-lent, ordering-lent}
 use Rattle.run_ranges.specs.Ranges.{resultPart, answerPart, listPart, plansSaid, nodesSaid, madeBy, tallyPart, lastPart}
-use Rattle.run_ranges.specs.Claims.{Part, Call, plansHeld, Refused-part, Whole-run, Goes, reachedFor, reachedBy, Chain, allPlans, sumPlans, sumNodes, sumCounts, Together, Joined, Joined-run, One-piece, Done, CutAt, Cuts-run}
+use Rattle.run_ranges.specs.Claims.{Part, Call, plansHeld, Refused-part, Whole-run, Goes, reachedFor, reachedBy, Chain, allPlans, sumPlans, sumNodes, sumCounts, Together}
+use Rattle.run_ranges.specs.Claims.{Joined, Joined-run, One-piece, Done, CutAt, Cuts-run}
 use Rattle.run_ranges.proofs.Between.{Before, before-of, join-nodes, none-between, whole-between, stop}
+use Rattle.order.proofs.Reordered as O
 
 -- ---- a walk along some nodes
 module _ (p : Problem) (limit room : ℕ) (ts : List (List ℕ)) where
@@ -71,7 +59,8 @@ module _ (p : Problem) (limit room : ℕ) (ts : List (List ℕ)) where
           absurd (let q = subst (Ended p limit room ts 0 (w .passed)) e (w .ended) in
           let n = w .passed in
           let c : plans ≡ length (keep (isPlan p) (take n ts)) = sym (ap plansIn e) ∙ w .counted ∙ ap length (w .listed) in
-          let a = ap (λ (l : List (List ℕ)). length (keep (isPlan p) l)) (sym (take-append-drop (suc n) ts)) ∙ ap length (keep-append (isPlan p) (take (suc n) ts) (drop (suc n) ts)) ∙ length-append (keep (isPlan p) (take (suc n) ts)) (keep (isPlan p) (drop (suc n) ts)) in
+          let a = ap (λ (l : List (List ℕ)). length (keep (isPlan p) l)) (sym (take-append-drop (suc n) ts)) ∙ ap length (keep-append (isPlan p) (take (suc n) ts) (drop (suc n) ts))
+          ∙ length-append (keep (isPlan p) (take (suc n) ts)) (keep (isPlan p) (drop (suc n) ts)) in
           let m : suc plans * p .variables ≤ length (keep (isPlan p) ts) * p .variables = mul-le-mul-right (p .variables) (omega (arith, q .2)) in
           omega (arith, q .1))
 
@@ -89,10 +78,10 @@ module _ (b pairs block : List ℕ) (so : verdictLent b pairs block ≡ accepted
   place t = at order (settledBy t)
 
   o : Ordering (problemOf b .variables) (orderLent b pairs)
-  o = ordering-lent b pairs block (passed-all (verdictLent b pairs block) so)
+  o = ordering-lent b pairs block (is-accepted (verdictLent b pairs block) so)
 
   small : problemOf b .variables ≤ 12
-  small = well-lent b pairs block (passed-all (verdictLent b pairs block) so) .few
+  small = well-lent b pairs block (is-accepted (verdictLent b pairs block) so) .few
 
   -- ---- one call of an accepted lending
   abbrev walked : Part → Result
@@ -140,7 +129,8 @@ module _ (b pairs block : List ℕ) (so : verdictLent b pairs block ≡ accepted
       let rows : walked c .rows ≡ keep (isPlan p) ts = q .0 ∙ ap (keep (isPlan p)) (sym i) in
       let k : plansIn e ≡ length (keep (isPlan p) ts) = q .1 ∙ ap (λ (x : List (List ℕ)). length (keep (isPlan p) x)) (sym i) in
       record {
-        listed = ap₂ (λ (x : Answer) (y : List ℕ). listedPlans n (plansSaid x) y) a (wrote c h) ∙ rows-back (walked c .rows) (c .out) (plansIn e) (k ∙ ap length (sym rows)) ∙ ap (map (write order)) rows;
+        listed = ap₂ (λ (x : Answer) (y : List ℕ). listedPlans n (plansSaid x) y) a (wrote c h) ∙ rows-back (walked c .rows) (c .out) (plansIn e) (k ∙ ap length (sym rows)) ∙ ap
+            (map (write order)) rows;
         many = ap plansSaid a ∙ k;
         nodes = ap nodesSaid a ∙ sym (length-take-le (nodesIn e) (nodesBetween p (c .from) (c .upto)) l) ∙ ap length (sym i);
         settled = λ x. ap (λ (cs : List ℕ). at cs x) (tallied c h .1 ∙ ap (λ (y : Answer). countsBy place (take (nodesSaid y) (nodesBetween p (c .from) (c .upto)))) a ∙ ap (countsBy place) (sym i));
@@ -187,7 +177,8 @@ module _ (b pairs block : List ℕ) (so : verdictLent b pairs block ≡ accepted
   holds-more : (c : Part) (cs : List Part) (ts us : List (List ℕ)) → held c ts → heldBy cs us → heldBy (c ∷ cs) (ts ++ us)
   unfolding flat total
   holds-more c cs ts us h k = record {
-    listed = ap₂ (λ (x y : List (List ℕ)). x ++ y) (h .listed) (k .listed) ∙ sym (map-append (write order) (keep (isPlan p) ts) (keep (isPlan p) us)) ∙ ap (map (write order)) (sym (keep-append (isPlan p) ts us));
+    listed = ap₂ (λ (x y : List (List ℕ)). x ++ y) (h .listed) (k .listed) ∙ sym (map-append (write order) (keep (isPlan p) ts) (keep (isPlan p) us)) ∙ ap (map (write order))
+        (sym (keep-append (isPlan p) ts us));
     many = ap₂ (λ (x y : ℕ). x + y) (h .many) (k .many) ∙ sym (length-append (keep (isPlan p) ts) (keep (isPlan p) us)) ∙ ap length (sym (keep-append (isPlan p) ts us));
     nodes = ap₂ (λ (x y : ℕ). x + y) (h .nodes) (k .nodes) ∙ sym (length-append ts us);
     settled = λ x. ap₂ (λ (i j : ℕ). i + j) (h .settled x) (k .settled x) ∙ sym (counts-append place ts us x);
@@ -200,8 +191,11 @@ module _ (b pairs block : List ℕ) (so : verdictLent b pairs block ≡ accepted
   chained from upto (c ∷ cs) (e, f, h, g, rest) =
       let a = piece c h g f in
       let k = chained (reachedBy c) upto cs rest in
-      subst (λ (u : List ℕ). Before p u upto × heldBy (c ∷ cs) (nodesBetween p u upto)) e
-      (λ t m u. a .0 t m (k .0 t m u), subst (heldBy (c ∷ cs)) (sym (join-nodes p (c .from) (reachedBy c) upto (a .0) (k .0))) (holds-more c cs (nodesBetween p (c .from) (reachedBy c)) (nodesBetween p (reachedBy c) upto) (a .1) (k .1)))
+      subst (λ (u : List ℕ). Before p u upto × heldBy (c ∷ cs) (nodesBetween p u upto)) e (
+        λ t m u. a .0 t m (k .0 t m u),
+        subst (heldBy (c ∷ cs)) (sym (join-nodes p (c .from) (reachedBy c) upto (a .0) (k .0)))
+            (holds-more c cs (nodesBetween p (c .from) (reachedBy c)) (nodesBetween p (reachedBy c) upto) (a .1) (k .1)),
+      )
 
   -- a walk along all of them, with limit and room enough
   pub together : (cs : List Part) (ts : List (List ℕ)) → heldBy cs ts → (limit : ℕ) (out : List ℕ) → sumNodes cs ≤ limit → sumPlans cs * n ≤ length out →
@@ -220,7 +214,8 @@ module _ (b pairs block : List ℕ) (so : verdictLent b pairs block ≡ accepted
         plans = ap (listedPlans n (sumPlans cs)) leaves ∙ rows-back (r .rows) out (sumPlans cs) (h .many ∙ ap length (sym rows)) ∙ ap (map (write order)) rows ∙ sym (h .listed);
         wrote = wrote;
         nodes = counts .0 ∙ ap nodesSaid ans;
-        counts = λ x. ap (λ (y : List ℕ). at y x) (counts .1 ∙ ap (λ (y : Answer). countsBy place (take (nodesSaid y) ts)) ans ∙ ap (λ (j : ℕ). countsBy place (take j ts)) (h .nodes) ∙ ap (countsBy place) all) ∙ sym (h .settled x);
+        counts = λ x. ap (λ (y : List ℕ). at y x) (counts .1 ∙ ap (λ (y : Answer). countsBy place (take (nodesSaid y) ts)) ans ∙ ap (λ (j : ℕ). countsBy place (take j ts)) (h .nodes) ∙ ap
+            (countsBy place) all) ∙ sym (h .settled x);
       }
 
 -- an ending with the sums
@@ -238,7 +233,8 @@ pub joined : Joined
 joined b pairs block from upto cs so chain c call e f l m =
     let k = chained b pairs block so from upto cs chain in
     let ts = nodesBetween (problemLent b pairs block) (c .from) (c .upto) in
-    let h = subst (λ (x : List ℕ). heldBy b pairs block so cs (nodesBetween (problemLent b pairs block) x (c .upto))) (sym e) (subst (λ (x : List ℕ). heldBy b pairs block so cs (nodesBetween (problemLent b pairs block) from x)) (sym f) (k .1)) in
+    let h = subst (λ (x : List ℕ). heldBy b pairs block so cs (nodesBetween (problemLent b pairs block) x (c .upto))) (sym e)
+    (subst (λ (x : List ℕ). heldBy b pairs block so cs (nodesBetween (problemLent b pairs block) from x)) (sym f) (k .1)) in
     together b pairs block so cs ts h (c .limit) (c .out) l m (c .answer) (told b pairs block so c call) (c .list) (wrote b pairs block so c call) (c .tally) (tallied b pairs block so c call)
 
 -- ---- the whole tree
@@ -249,7 +245,8 @@ module _ (b pairs block : List ℕ) (limit : ℕ) (out : List ℕ) where
 
   same-list : listPart b pairs block [] (255 ∷ []) limit out ≡ listLent b pairs block limit out
   unfolding listPart resultPart listBy resultBy resultOf
-  same-list = ap (λ (ts : List (List ℕ)). kept (verdictLent b pairs block) out (written (map (write (orderLent b pairs)) (search (problemLent b pairs block) limit (length out) ts 0 [] .rows)) out)) (whole-between (problemLent b pairs block))
+  same-list = ap (λ (ts : List (List ℕ)). kept (verdictLent b pairs block) out (written (map (write (orderLent b pairs)) (search (problemLent b pairs block) limit (length out) ts 0 [] .rows))
+      out)) (whole-between (problemLent b pairs block))
 
   same-tally : tallyPart b pairs block [] (255 ∷ []) limit out ≡ tallyLent b pairs block limit out record { nodes = 0; counts = replicate 12 0 }
   unfolding tallyPart talliedBy placeCounts
@@ -260,7 +257,8 @@ module _ (b pairs block : List ℕ) (limit : ℕ) (out : List ℕ) where
 
       go : (a : Answer) → tallyOf a ≡ tallyFor a (placeTally (orderLent b pairs) (problemWith b block)) record { nodes = 0; counts = replicate 12 0 }
       go (refusal number item) = ap (λ (cs : List ℕ). let t : Tally = record { nodes = 0; counts = cs } in t) (counts-none (λ (t : List ℕ). at (orderLent b pairs) (settledBy t)))
-      go (answered e) = ap (λ (ts : List (List ℕ)). let t : Tally = record { nodes = nodesIn e; counts = countsBy (λ t. at (orderLent b pairs) (settledBy t)) (take (nodesIn e) ts) } in t) (whole-between (problemLent b pairs block))
+      go (answered e) = ap (λ (ts : List (List ℕ)). let t : Tally = record { nodes = nodesIn e; counts = countsBy (λ t. at (orderLent b pairs) (settledBy t)) (take (nodesIn e) ts) } in t)
+          (whole-between (problemLent b pairs block))
 
 pub whole-run : Whole-run
 whole-run b pairs block limit out = record { answer = same-answer b pairs block limit out; list = same-list b pairs block limit out; tally = same-tally b pairs block limit out }
@@ -285,7 +283,8 @@ joined-run b pairs block cs so chain limit out tally l m =
     let r = search p limit (length out) (nodes p) 0 [] in
     let a : answerLent b pairs block limit out ≡ ended (r .ending) = ap (λ (v : Verdict). reply v (r .ending)) so in
     let made = placeTally order (problemWith b block) in
-    together b pairs block so cs (nodes p) k limit out l m (answerLent b pairs block limit out) a (listLent b pairs block limit out) (ap (λ (v : Verdict). kept v out (written (map (write order) (r .rows)) out)) so)
+    together b pairs block so cs (nodes p) k limit out l m (answerLent b pairs block limit out) a (listLent b pairs block limit out)
+    (ap (λ (v : Verdict). kept v out (written (map (write order) (r .rows)) out)) so)
     (tallyLent b pairs block limit out tally) (
       ap (λ (x : Answer). tallyFor x made tally .nodes) a ∙ sym (ap nodesSaid a),
       ap (λ (x : Answer). tallyFor x made tally .counts) a ∙ ap (λ (x : Answer). countsBy (λ t. at order (settledBy t)) (take (nodesSaid x) (nodes p))) (sym a),
@@ -313,7 +312,8 @@ module _ (p : Problem) (limit room : ℕ) (xs ys : List (List ℕ)) (so : limit 
       w : Walk p limit room (xs ++ ys) 0 [] (search p limit room (xs ++ ys) 0 [])
       w = walk p limit room (xs ++ ys) 0 []
 
-      go : (x : Ending) → out .ending ≡ x → ((out .ending ≡ finished (length (keep (isPlan p) xs)) (length xs)) ⊎ (out .ending ≡ spent (length (keep (isPlan p) xs)) (length xs))) × (out .rows ≡ keep (isPlan p) xs)
+      go : (x : Ending) → out .ending ≡ x → ((out .ending ≡ finished (length (keep (isPlan p) xs)) (length xs)) ⊎ (out .ending ≡ spent (length (keep (isPlan p) xs)) (length xs))) ×
+          (out .rows ≡ keep (isPlan p) xs)
       go (finished plans made) e =
           let q = finished-passed p limit room (xs ++ ys) plans made e in
           let a = subst (λ (x : Ending). nodesIn x ≤ limit) e (w .allowed (omega arith)) in
@@ -345,7 +345,8 @@ one-piece b pairs block from came upto cs so chain f c call e g l m =
     let xs = nodesBetween p from came in
     let ys = nodesBetween p came upto in
     let join : nodesBetween p (c .from) (c .upto) ≡ xs ++ ys = ap₂ (nodesBetween p) e g ∙ join-nodes p from came upto (k .0) (before-of p came upto f) in
-    let z : search p (c .limit) (length (c .out)) (nodesBetween p (c .from) (c .upto)) 0 [] ≡ search p (c .limit) (length (c .out)) (xs ++ ys) 0 [] = ap (λ (ts : List (List ℕ)). search p (c .limit) (length (c .out)) ts 0 []) join in
+    let z : search p (c .limit) (length (c .out)) (nodesBetween p (c .from) (c .upto)) 0 [] ≡ search p (c .limit) (length (c .out)) (xs ++ ys) 0 [] = ap
+    (λ (ts : List (List ℕ)). search p (c .limit) (length (c .out)) ts 0 []) join in
     let o = one-walk p (c .limit) (length (c .out)) xs ys (l ∙ k .1 .nodes) (subst (λ (j : ℕ). j * n ≤ length (c .out)) (k .1 .many) m) in
     let a : c .answer ≡ ended (search p (c .limit) (length (c .out)) (xs ++ ys) 0 [] .ending) = told b pairs block so c call ∙ ap (λ (r : Result). ended (r .ending)) z in
     let ends = ended-so b pairs block so cs xs (k .1) (c .answer) (search p (c .limit) (length (c .out)) (xs ++ ys) 0 [] .ending) a (o .0) in
@@ -353,13 +354,15 @@ one-piece b pairs block from came upto cs so chain f c call e g l m =
     let t = tallied b pairs block so c call in
     record {
       ends = ends;
-      wrote = wrote b pairs block so c call ∙ ap (λ (rows : List (List ℕ)). written rows (c .out)) (ap (λ (r : Result). map (write order) (r .rows)) z ∙ ap (map (write order)) (o .1) ∙ sym (k .1 .listed));
+      wrote = wrote b pairs block so c call ∙ ap (λ (rows : List (List ℕ)). written rows (c .out))
+          (ap (λ (r : Result). map (write order) (r .rows)) z ∙ ap (map (write order)) (o .1) ∙ sym (k .1 .listed));
       nodes = t .0 ∙ made;
-      counts = λ x. ap (λ (y : List ℕ). at y x) (t .1 ∙ ap₂ (λ (j : ℕ) (ts : List (List ℕ)). countsBy (λ u. at order (settledBy u)) (take j ts)) (made ∙ k .1 .nodes) join ∙ ap (countsBy (λ u. at order (settledBy u))) (take-append-seam xs ys)) ∙ sym (k .1 .settled x);
+      counts = λ x. ap (λ (y : List ℕ). at y x) (t .1 ∙ ap₂ (λ (j : ℕ) (ts : List (List ℕ)). countsBy (λ u. at order (settledBy u)) (take j ts)) (made ∙ k .1 .nodes) join ∙ ap
+          (countsBy (λ u. at order (settledBy u))) (take-append-seam xs ys)) ∙ sym (k .1 .settled x);
     }
 
 -- ---- cuts in order
-done-goes : (a : Answer) → Done a → Goes a
+pub done-goes : (a : Answer) → Done a → Goes a
 done-goes (answered (finished plans made)) h = tt
 done-goes (answered (spent plans made)) h = absurd h
 done-goes (answered (full plans made)) h = absurd h

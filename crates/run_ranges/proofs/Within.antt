@@ -1,22 +1,15 @@
 -- The nodes of a part below a prefix, one value at a time (specs/Within). Holds of every problem. Assumes nothing.
-use mathlib.Core.Path.{_≡_, refl, sym, ap, ap₂, _∙_, subst}
-use mathlib.Core.Bool.{Bool, true, false, not}
-use mathlib.Core.List.{List, [], _∷_, _++_, map, List·Memᴰ, List·Memᴰ·head, List·Memᴰ·tail, append-nil}
-use Prim.Native.Nat.{ℕ, suc, _+_, _≤_, _<_}
-use native.Mathlib.Omega.{arith}
-use lib.Dec.{T, eqb, ltb}
-use lib.ListN.{length}
+use Rattle.model.specs.Kit.{_≡_, refl, sym, ap, ap₂, _∙_, subst, Bool, true, false, not, List, [], _∷_, _++_, map, List·Memᴰ, List·Memᴰ·head, List·Memᴰ·tail, append-nil, ℕ, suc}
+use Rattle.model.specs.Kit.{_+_, _≤_, _<_, arith, T, eqb, ltb, length, ltb-true, ltb-false, eqb-true, eqb-false, ne-eqb, lt-ltb, le-ltb}
 use lib.Seq.{append-snoc}
-use borrow.Author.Tests.{ltb-true, ltb-false, eqb-true, eqb-false, ne-eqb, lt-ltb, le-ltb}
-use Rattle.model.specs.Lists.{both, either, any, keep, flat, below, at}
-use Rattle.model.specs.ValueSets.{has, members}
-use Rattle.model.specs.Problem.{Problem}
-use Rattle.model.specs.Search.{setsAt, isLive, nodesBelow, nodes}
-use Rattle.model.proofs.Lists.{T-of, of-T, not-of, of-not, both-l, both-r, any-cons, among-i, among-e, keep-yes, keep-no, keep-ext, keep-all, keep-none, keep-e, keep-i, keep-flat-map, map-ext, below-e, Sorted, sorted-keep}
+use Rattle.model.specs.{Lists.both, Lists.either, Lists.any, Lists.keep, Lists.flat, Lists.below, Lists.at, ValueSets.has, ValueSets.members, Problem.Problem, Search.setsAt}
+use Rattle.model.specs.Search.{isLive, nodesBelow, nodes}
+use Rattle.model.proofs.Lists.{T-of, of-T, not-of, of-not, both-l, both-r, any-cons, among-i, among-e, keep-yes, keep-no, keep-ext, keep-all, keep-none, keep-e, keep-i}
+use Rattle.model.proofs.Lists.{keep-flat-map, map-ext, below-e, Sorted, sorted-keep}
 use Rattle.run_cut.specs.Parts.{after, nodesBetween, nodesOf, candidatesAt, reached}
 use Rattle.run_cut.proofs.Parts.{after-eq, after-ne, after-front, after-nil, nil-after, branch, branch-form, below-longer, sorted-candidates}
 use Rattle.run_cut.proofs.Resume.{dead-below, node-reached}
-use Rattle.run_ranges.specs.Within.{within, given, leaves, intoNodes, ontoNodes, inRange, midNodes, upToNodes}
+use Rattle.run_ranges.specs.inner.Within.{within, given, leaves, intoNodes, ontoNodes, inRange, midNodes, upToNodes}
 use Rattle.run_ranges.proofs.Between.{keep-keep}
 
 -- ---- a sorted list of values, split at one of them
@@ -39,7 +32,8 @@ module _ (G : ℕ → List (List ℕ)) where
   pick-low v lo [] s = refl
   pick-low v lo (w ∷ ms) s = go (pick-low v lo ms (s .1)) (eqb v w) refl (ltb v w) refl
     where
-      go : run ms ≡ given (any (eqb v) ms) (G v) ++ run (keep (ltb v) ms) → (b : Bool) → eqb v w ≡ b → (c : Bool) → ltb v w ≡ c → G w ++ run ms ≡ given (any (eqb v) (w ∷ ms)) (G v) ++ run (keep (ltb v) (w ∷ ms))
+      go : run ms ≡ given (any (eqb v) ms) (G v) ++ run (keep (ltb v) ms) → (b : Bool) → eqb v w ≡ b → (c : Bool) → ltb v w ≡ c → G w ++ run ms ≡ given (any (eqb v) (w ∷ ms)) (G v) ++ run
+          (keep (ltb v) (w ∷ ms))
       go ih true e c f =
           let q : v ≡ w = eqb-true v w e in
           let all : keep (ltb v) ms ≡ ms = keep-all (ltb v) ms (λ u m. let k = s .0 u m in T-of (ltb v u) (lt-ltb v u (omega arith))) in
@@ -48,7 +42,8 @@ module _ (G : ℕ → List (List ℕ)) where
       go ih false e true f =
           let h : v < w = ltb-true v w f in
           let all : keep (ltb v) ms ≡ ms = keep-all (ltb v) ms (λ u m. let k = s .0 u m in T-of (ltb v u) (lt-ltb v u (omega arith))) in
-          sym (ap₂ (λ (b : Bool) (l : List ℕ). given b (G v) ++ run l) (any-no v w ms (λ z. omega arith) ∙ none-in v ms (λ u m z. let k = s .0 u m in omega arith)) (keep-yes (ltb v) w ms f ∙ ap (λ (l : List ℕ). w ∷ l) all))
+          sym (ap₂ (λ (b : Bool) (l : List ℕ). given b (G v) ++ run l) (any-no v w ms (λ z. omega arith) ∙ none-in v ms (λ u m z. let k = s .0 u m in omega arith))
+          (keep-yes (ltb v) w ms f ∙ ap (λ (l : List ℕ). w ∷ l) all))
       go ih false e false f =
           let n = eqb-false v w e in
           let l = ltb-false v w f in
@@ -78,7 +73,8 @@ module _ (G : ℕ → List (List ℕ)) where
           each u (List·Memᴰ·head q) t = of-not (ltb u v) (le-ltb u v (omega arith)) t
           each u (List·Memᴰ·tail m) t = of-not (ltb u v) (le-ltb u v (let k = s .0 u m in omega arith)) t
 
-      go : run ms ≡ run (below-v ms) ++ given (any (eqb v) ms) (G v) → (b : Bool) → eqb v w ≡ b → (c : Bool) → ltb w v ≡ c → G w ++ run ms ≡ run (below-v (w ∷ ms)) ++ given (any (eqb v) (w ∷ ms)) (G v)
+      go : run ms ≡ run (below-v ms) ++ given (any (eqb v) ms) (G v) → (b : Bool) → eqb v w ≡ b → (c : Bool) → ltb w v ≡ c → G w ++ run ms ≡ run
+          (below-v (w ∷ ms)) ++ given (any (eqb v) (w ∷ ms)) (G v)
       go ih true e c f =
           let q : v ≡ w = eqb-true v w e in
           ap₂ (λ (l k : List (List ℕ)). l ++ k) (ap G (sym q)) (highs (omega arith)) ∙ append-nil (G v)
@@ -188,7 +184,8 @@ module _ (p : Problem) where
     part-lower : (a : ℕ) (f u g w : List ℕ) → ((x : ℕ) (r : List ℕ) → x < 16 → both (after f (x ∷ r)) (not (after u (a ∷ x ∷ r))) ≡ both (after g (x ∷ r)) (not (after w (x ∷ r)))) →
         part (a ∷ f) u a ≡ within p k (prefix ++ (a ∷ [])) g w
     part-lower a f u g w h =
-        keep-no (test (a ∷ f) u) (prefix ++ (a ∷ [])) (nodesBelow p k (prefix ++ (a ∷ []))) (test-at (a ∷ f) u a [] ∙ ap (λ (b : Bool). both b (not (after u (a ∷ [])))) (after-same a f [] ∙ nil-after f))
+        keep-no (test (a ∷ f) u) (prefix ++ (a ∷ [])) (nodesBelow p k (prefix ++ (a ∷ [])))
+        (test-at (a ∷ f) u a [] ∙ ap (λ (b : Bool). both b (not (after u (a ∷ [])))) (after-same a f [] ∙ nil-after f))
         ∙ part-below (a ∷ f) u g w a (λ x r l. ap (λ (b : Bool). both b (not (after u (a ∷ x ∷ r)))) (after-same a f (x ∷ r)) ∙ h x r l)
 
     -- the value b of the upper path, above the lower path: its node comes first
@@ -196,7 +193,8 @@ module _ (p : Problem) where
     part-upper b f u h =
         keep-yes (test f (b ∷ u)) (prefix ++ (b ∷ [])) (nodesBelow p k (prefix ++ (b ∷ []))) (test-at f (b ∷ u) b [] ∙ ap₂ (λ (x y : Bool). both x (not y)) (h []) (after-same b u [] ∙ nil-after u))
         ∙ ap (λ (l : List (List ℕ)). (prefix ++ (b ∷ [])) ∷ l)
-        (part-below f (b ∷ u) [] u b (λ x r l. ap₂ (λ (y z : Bool). both y (not z)) (h (x ∷ r)) (after-same b u (x ∷ r)) ∙ sym (ap (λ (y : Bool). both y (not (after u (x ∷ r)))) (of-T (after [] (x ∷ r)) (after-nil x r)))))
+        (part-below f (b ∷ u) [] u b (λ x r l. ap₂ (λ (y z : Bool). both y (not z)) (h (x ∷ r)) (after-same b u (x ∷ r)) ∙ sym
+        (ap (λ (y : Bool). both y (not (after u (x ∷ r)))) (of-T (after [] (x ∷ r)) (after-nil x r)))))
 
     -- the path 255 bounds nothing
     open-end : (x : ℕ) (r : List ℕ) → x < 16 → after (255 ∷ []) (x ∷ r) ≡ false
@@ -206,7 +204,8 @@ module _ (p : Problem) where
     unfolding intoNodes flat
     within-equal a f u =
         by-value (a ∷ f) (a ∷ u)
-        ∙ pick-low (part (a ∷ f) (a ∷ u)) a (λ w l. part-none (a ∷ f) (a ∷ u) w (λ r. ap (λ (b : Bool). both b (not (after (a ∷ u) (w ∷ r)))) (after-more a w f r l))) (candidatesAt p prefix) (sorted-candidates p prefix)
+        ∙ pick-low (part (a ∷ f) (a ∷ u)) a (λ w l. part-none (a ∷ f) (a ∷ u) w (λ r. ap (λ (b : Bool). both b (not (after (a ∷ u) (w ∷ r)))) (after-more a w f r l))) (candidatesAt p prefix)
+        (sorted-candidates p prefix)
         ∙ ap₂ (λ (x y : List (List ℕ)). given (leaves p prefix a) x ++ y) (part-lower a f (a ∷ u) f u (λ x r l. ap (λ (b : Bool). both (after f (x ∷ r)) (not b)) (after-same a u (x ∷ r)))) nothing
         ∙ append-nil (given (leaves p prefix a) (within p k (prefix ++ (a ∷ [])) f u))
       where
@@ -215,7 +214,9 @@ module _ (p : Problem) where
           where
             none : (ms : List ℕ) → ((w : ℕ) → List·Memᴰ w ms → a < w) → flat (map (part (a ∷ f) (a ∷ u)) ms) ≡ []
             none [] h = refl
-            none (w ∷ ms) h = ap₂ (λ (x y : List (List ℕ)). x ++ y) (part-none (a ∷ f) (a ∷ u) w (λ r. ap₂ (λ (x y : Bool). both x (not y)) (after-less a w f r (h w (List·Memᴰ·head refl))) (after-less a w u r (h w (List·Memᴰ·head refl))))) (none ms (λ v m. h v (List·Memᴰ·tail m)))
+            none (w ∷ ms) h = ap₂ (λ (x y : List (List ℕ)). x ++ y) (part-none (a ∷ f) (a ∷ u) w
+                (λ r. ap₂ (λ (x y : Bool). both x (not y)) (after-less a w f r (h w (List·Memᴰ·head refl))) (after-less a w u r (h w (List·Memᴰ·head refl)))))
+                (none ms (λ v m. h v (List·Memᴰ·tail m)))
 
     pub within-back : (a b : ℕ) (f u : List ℕ) → b < a → within p (suc k) prefix (a ∷ f) (b ∷ u) ≡ []
     unfolding flat
@@ -234,8 +235,10 @@ module _ (p : Problem) where
         flat (map (part f (b ∷ u)) (keep (λ v. not (ltb v low)) (candidatesAt p prefix))) ≡ upToNodes p k prefix low b u
     unfolding upToNodes midNodes ontoNodes nodesOf
     upper-part f b u low lb h =
-        pick-high (part f (b ∷ u)) b (λ w l. part-none f (b ∷ u) w (λ r. ap (λ (y : Bool). both (after f (w ∷ r)) (not y)) (after-less b w u r l) ∙ both-no (after f (w ∷ r)))) ms (sorted-keep (λ (x y : ℕ). x < y) (λ v. not (ltb v low)) (candidatesAt p prefix) (sorted-candidates p prefix))
-        ∙ ap₂ (λ (x y : List (List ℕ)). x ++ y) mids (ap₂ given (any-kept (λ v. not (ltb v low)) b (candidatesAt p prefix) (T-of (not (ltb b low)) (ap not (le-ltb b low lb)))) (part-upper b f u (λ r. h b r lb)))
+        pick-high (part f (b ∷ u)) b (λ w l. part-none f (b ∷ u) w (λ r. ap (λ (y : Bool). both (after f (w ∷ r)) (not y)) (after-less b w u r l) ∙ both-no (after f (w ∷ r)))) ms
+        (sorted-keep (λ (x y : ℕ). x < y) (λ v. not (ltb v low)) (candidatesAt p prefix) (sorted-candidates p prefix))
+        ∙ ap₂ (λ (x y : List (List ℕ)). x ++ y) mids (ap₂ given (any-kept (λ v. not (ltb v low)) b (candidatesAt p prefix) (T-of (not (ltb b low)) (ap not (le-ltb b low lb))))
+        (part-upper b f u (λ r. h b r lb)))
       where
         ms : List ℕ
         ms = keep (λ v. not (ltb v low)) (candidatesAt p prefix)
@@ -266,7 +269,8 @@ module _ (p : Problem) where
     unfolding intoNodes
     within-less a b f u l =
         by-value (a ∷ f) (b ∷ u)
-        ∙ pick-low (part (a ∷ f) (b ∷ u)) a (λ w l. part-none (a ∷ f) (b ∷ u) w (λ r. ap (λ (x : Bool). both x (not (after (b ∷ u) (w ∷ r)))) (after-more a w f r l))) (candidatesAt p prefix) (sorted-candidates p prefix)
+        ∙ pick-low (part (a ∷ f) (b ∷ u)) a (λ w l. part-none (a ∷ f) (b ∷ u) w (λ r. ap (λ (x : Bool). both x (not (after (b ∷ u) (w ∷ r)))) (after-more a w f r l))) (candidatesAt p prefix)
+        (sorted-candidates p prefix)
         ∙ ap₂ (λ (x y : List (List ℕ)). given (leaves p prefix a) x ++ y)
         (part-lower a f (b ∷ u) f (255 ∷ []) (λ x r m. ap (λ (y : Bool). both (after f (x ∷ r)) (not y)) (after-more b a u (x ∷ r) l ∙ sym (open-end x r m))))
         (ap (λ (ms : List ℕ). flat (map (part (a ∷ f) (b ∷ u)) ms)) (keep-ext (ltb a) (λ v. not (ltb v (a + 1))) (candidatesAt p prefix) (λ v m. same-test v (ltb a v) refl))
@@ -285,7 +289,8 @@ module _ (p : Problem) where
       ∙ ap₂ (λ (ms : List ℕ) (c : Bool). flat (map (branch p 0 prefix) ms) ++ given c ((prefix ++ (b ∷ [])) ∷ [])) (keep-keep (λ v. ltb v b) (λ v. not (ltb v low)) (candidatesAt p prefix))
       (any-kept (λ v. not (ltb v low)) b (candidatesAt p prefix) (T-of (not (ltb b low)) (ap not (le-ltb b low l)))))
     where
-      go : (ms : List ℕ) → Sorted (λ (x y : ℕ). x < y) ms → flat (map (branch p 0 prefix) (keep (λ v. ltb v (b + 1)) ms)) ≡ flat (map (branch p 0 prefix) (keep (λ v. ltb v b) ms)) ++ given (any (eqb b) ms) ((prefix ++ (b ∷ [])) ∷ [])
+      go : (ms : List ℕ) → Sorted (λ (x y : ℕ). x < y) ms → flat (map (branch p 0 prefix) (keep (λ v. ltb v (b + 1)) ms)) ≡ flat (map (branch p 0 prefix) (keep (λ v. ltb v b) ms)) ++ given
+          (any (eqb b) ms) ((prefix ++ (b ∷ [])) ∷ [])
       go [] s = refl
       go (w ∷ ms) s = step (go ms (s .1)) (eqb b w) refl (ltb w b) refl
         where
@@ -304,10 +309,12 @@ module _ (p : Problem) where
           above : b ≤ w → (v : ℕ) → List·Memᴰ v ms → b + 1 ≤ v
           above h v m = let k = s .0 v m in omega arith
 
-          step : more ms ≡ few ms ++ given (any (eqb b) ms) (node b ∷ []) → (c : Bool) → eqb b w ≡ c → (d : Bool) → ltb w b ≡ d → more (w ∷ ms) ≡ few (w ∷ ms) ++ given (any (eqb b) (w ∷ ms)) (node b ∷ [])
+          step : more ms ≡ few ms ++ given (any (eqb b) ms) (node b ∷ []) → (c : Bool) → eqb b w ≡ c → (d : Bool) → ltb w b ≡ d → more (w ∷ ms) ≡ few (w ∷ ms) ++ given (any (eqb b) (w ∷ ms))
+              (node b ∷ [])
           step ih true e d h =
               let q : b ≡ w = eqb-true b w e in
-              ap (λ (l : List ℕ). flat (map (branch p 0 prefix) l)) (keep-yes (λ v. ltb v (b + 1)) w ms (lt-ltb w (b + 1) (omega arith)) ∙ ap (λ (l : List ℕ). w ∷ l) (high (b + 1) (omega arith) ms (above (omega arith))))
+              ap (λ (l : List ℕ). flat (map (branch p 0 prefix) l)) (keep-yes (λ v. ltb v (b + 1)) w ms (lt-ltb w (b + 1) (omega arith)) ∙ ap (λ (l : List ℕ). w ∷ l)
+              (high (b + 1) (omega arith) ms (above (omega arith))))
               ∙ ap (λ (v : ℕ). node v ∷ []) (sym q)
               ∙ sym (ap₂ (λ (l : List ℕ) (c : Bool). flat (map (branch p 0 prefix) l) ++ given c (node b ∷ []))
               (keep-no (λ v. ltb v b) w ms (le-ltb w b (omega arith)) ∙ high b (omega arith) ms (λ v m. let k = above (omega arith) v m in omega arith))

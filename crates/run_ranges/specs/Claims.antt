@@ -1,14 +1,7 @@
 -- What is claimed of parts of a run that are run apart, of what their callers hold; the statements can be read without the proofs.
-use mathlib.Core.Path.{_≡_}
-use mathlib.Core.Logic.{_⊎_}
-use mathlib.Core.List.{List, [], _∷_, map}
-use Prim.Native.Nat.{ℕ, _*_, _≤_}
-use lib.Dec.{T}
-use lib.ListN.{length, replicate}
-use Rattle.model.specs.Lists.{flat, at, total}
-use Rattle.model.specs.Verdict.{accepted, refused}
-use Rattle.model.specs.Sheet.{problemOf}
-use Rattle.model.specs.Run.{finished, spent, full, Answer, refusal, answered, ended, written, Tally, listedPlans}
+use Rattle.model.specs.Kit.{_≡_, _⊎_, List, [], _∷_, map, ℕ, _*_, _≤_, T, length, replicate}
+use Rattle.model.specs.{Lists.flat, Lists.at, Lists.total, Verdict.accepted, Verdict.refused, Sheet.problemOf, Run.finished, Run.spent, Run.full, Run.Answer, Run.refusal}
+use Rattle.model.specs.Run.{answered, ended, written, Tally, listedPlans}
 use Rattle.run_cut.specs.Parts.{after, Cuts, lastOf}
 use Rattle.run_input.specs.Lent.{verdictLent, answerLent, listLent, tallyLent}
 use Rattle.run_ranges.specs.Ranges.{answerPart, listPart, plansSaid, nodesSaid, tallyPart, lastPart}

@@ -1,12 +1,9 @@
 -- A part of a run that is lent a sheet, pairs and a block: the nodes of its tree that come after one path and not after another, walked along as a run
 -- walks along all of them, with a limit and a list of its own. A path is a list of values in the settling order, of any length; the empty path comes
 -- before every node, the path 255 after every node.
-use mathlib.Core.List.{List, [], map}
-use Prim.Native.Nat.{ℕ}
-use lib.ListN.{length, take}
-use Rattle.model.specs.Lists.{at}
-use Rattle.model.specs.Verdict.{reply, kept}
-use Rattle.model.specs.Run.{plansIn, nodesIn, Result, search, Answer, refusal, answered, written, Tally, settledBy, countsBy}
+use Rattle.model.specs.Kit.{List, [], map, ℕ, length, take}
+use Rattle.model.specs.{Lists.at, Verdict.reply, Verdict.kept, Run.plansIn, Run.nodesIn, Run.Result, Run.search, Run.Answer, Run.refusal, Run.answered, Run.written, Run.Tally}
+use Rattle.model.specs.Run.{settledBy, countsBy}
 use Rattle.order.specs.Reordered.{write}
 use Rattle.run_cut.specs.Parts.{nodesBetween, lastOf}
 use Rattle.run_input.specs.Lent.{verdictLent, orderLent, problemLent}

@@ -1,44 +1,30 @@
 -- A run that has gone on from its last node is parts' `goOn`: how it stopped, its figures, its counts, its last node and its list; and what `go_on` asks
 -- follows from what `prepare_again` leaves (specs/Resume). Assumes nothing.
-use mathlib.Core.Path.{_≡_, refl, sym, ap, ap₂, _∙_, subst, subst₂}
-use mathlib.Core.Bool.{Bool, true, false}
-use mathlib.Core.Logic.{_⊎_, inl, inr}
-use mathlib.Core.List.{List, [], _∷_, map, map-id, List·Memᴰ, List·Memᴰ·append-cases}
-use Prim.Native.Nat.{ℕ, suc, _+_, _-_, _*_, _/_, _≤_, _<_}
-use native.Mathlib.Nat.{div-add-mod', mul-le-mul-right, sub-zero}
-use native.Mathlib.Omega.{arith}
-use lib.Dec.{eqb, eqb→eq}
-use lib.ListN.{length, take, set, length-set}
+use Rattle.model.specs.Kit.{_≡_, refl, sym, ap, ap₂, _∙_, subst, subst₂, Bool, true, false, _⊎_, inl, inr, List, [], _∷_, map, List·Memᴰ, ℕ, suc, _+_, _-_, _*_, _/_, _≤_, _<_}
+use Rattle.model.specs.Kit.{mul-le-mul-right, arith, eqb, eqb→eq, length, take, set, length-set, eqb-true, eqb-false}
+use mathlib.Core.List.{map-id, List·Memᴰ·append-cases}
+use native.Mathlib.Nat.{div-add-mod', sub-zero}
 use lib.Seq.{take-nil}
-use borrow.Author.Tests.{eqb-true, eqb-false}
-use Rattle.model.specs.Lists.{at, choose, keep, flat, below}
-use Rattle.model.specs.Problem.{Problem}
-use Rattle.model.specs.Search.{isLive, isPlan, nodes}
-use Rattle.model.specs.Sheet.{problemOf}
-use Rattle.model.specs.Run.{finished, plansIn, nodesIn, Result, search, written, Tally, settledBy, countsBy}
-use Rattle.model.proofs.Lists.{of-T, both-l, keep-e, map-ext, at-set, at-set-other}
-use Rattle.model.proofs.Tally.{counts-ext}
-use Rattle.model.proofs.Room.{Wide, length-flat}
-use Rattle.model.proofs.Runs.{Walk, walk as run-walk}
+use Rattle.model.specs.{Lists.at, Lists.choose, Lists.keep, Lists.flat, Lists.below, Problem.Problem, Search.isLive, Search.isPlan, Search.nodes, Sheet.problemOf, Run.finished}
+use Rattle.model.specs.Run.{plansIn, nodesIn, Result, search, written, Tally, settledBy, countsBy}
+use Rattle.model.proofs.{Lists.of-T, Lists.both-l, Lists.keep-e, Lists.map-ext, Lists.at-set, Lists.at-set-other, Tally.counts-ext, Room.Wide, Room.length-flat, Runs.Walk}
+use Rattle.model.proofs.Runs.{walk as run-walk}
 use Rattle.order.specs.Reordered.{write}
 use Rattle.order.proofs.LeadersBy.{ordering-below, write-below, below-at}
 use Rattle.run_cut.specs.Parts.{after, nodesAfter, lastOf, Progress, goOn, madeIn, lastAfter}
-use Rattle.run_cut.proofs.Resume.{node-values, last-in, taken}
-use Rattle.run_cut.proofs.Counts.{counts-none}
-use Rattle.run_cut.proofs.Anywhere.{no-fewer}
-use Rattle.arrays.specs.Places.{LIMIT, ROOM, PLANS, LAST, ALL, DEEPER, WORK}
+use Rattle.run_cut.proofs.{Resume.node-values, Resume.last-in, Resume.taken, Counts.counts-none, Anywhere.no-fewer}
+use Rattle.arrays.specs.inner.Places.{LIMIT, ROOM, PLANS, LAST, ALL, DEEPER, WORK}
 use Rattle.sheet.specs.Form.{compilable}
-use Rattle.run_state.specs.Walk.{State, noNodes, kept, walk, stopIn, tallyBy}
-use Rattle.run_state.specs.Pair.{prefixOf, orderIn, ownIn, stateOf, AtPrefix, Walked}
-use Rattle.run_state.proofs.Outcome.{kept-none, kept-over, outcome-on}
+use Rattle.run_state.specs.{Walk.State, Walk.noNodes, Walk.kept, Walk.walk, Walk.stopIn, Walk.tallyBy, inner.Pair.prefixOf, inner.Pair.orderIn, inner.Pair.ownIn}
+use Rattle.run_state.specs.inner.Pair.{stateOf, AtPrefix, Walked}
+use Rattle.run_state.proofs.{Outcome.kept-none, Outcome.kept-over, Outcome.outcome-on, Prefix.length-prefix, Prefix.prefix-at, Prefix.prefix-ext, Prefix.prefix-zero}
+use Rattle.run_state.proofs.Prefix.{prefix-is}
 use Rattle.run_search.proofs.Prepared.{room-fits, room-most}
-use Rattle.run_state.proofs.Prefix.{length-prefix, prefix-at, prefix-ext, prefix-zero, prefix-is}
-use Rattle.run_ranges.specs.Within.{within}
-use Rattle.run_ranges.proofs.Within.{within-whole}
-use Rattle.run_ranges.proofs.Between.{rest-between}
-use Rattle.run_part.specs.Steps.{AtBelow, PutPath, Valued, Parted}
+use Rattle.run_ranges.specs.inner.Within.{within}
+use Rattle.run_ranges.proofs.{Within.within-whole, Between.rest-between}
+use Rattle.run_part.specs.inner.Steps.{AtBelow, PutPath, Valued, Parted}
 use Rattle.run_part.proofs.Ends.{valued-last}
-use Rattle.run_resume.specs.Resume.{treeOf, Put, Stands, PreparedAgain, GoesOn, GoneOn}
+use Rattle.run_resume.specs.inner.Resume.{treeOf, Put, Stands, PreparedAgain, GoesOn, GoneOn}
 
 -- ---- `put_progress`
 pub put-so : (k : ℕ) (path work work′ : List ℕ) → length work ≡ WORK → length path ≤ 12 → PutPath path (set work PLANS k) work′ → Put k path work work′
@@ -54,7 +40,8 @@ put-so k path work work′ long short h =
     }
 
 -- ---- rows of n bytes, written by position
-by-position : (p : Problem) (order : (a : List ℕ) → length a ≡ p .variables → write (below (p .variables)) a ≡ a) (rows : List (List ℕ)) → Wide (p .variables) rows → map (write (below (p .variables))) rows ≡ rows
+by-position : (p : Problem) (order : (a : List ℕ) → length a ≡ p .variables → write (below (p .variables)) a ≡ a) (rows : List (List ℕ)) → Wide (p .variables) rows → map
+    (write (below (p .variables))) rows ≡ rows
 by-position p order rows w = map-ext (write (below (p .variables))) (λ r. r) rows (λ r m. order r (w r m)) ∙ map-id rows
 
 -- ---- the rest of a run: its walk, the widths of its rows, and that it has made no fewer nodes than before
@@ -157,12 +144,20 @@ module _ (p : Problem) (s : Progress) (limit room : ℕ) (stack work supports ta
             kept-none rows list z ∙ sym (ap (λ (x : List (List ℕ)). written x list) (empty rows r))
         go false c = kept-over rows list (eqb-false (length list) 0 c)
 
-    module _ (stack′ work′ list′ : List ℕ) (tally : Tally) (stop : ℕ) (c : Walked p (within p (p .variables - 0) (prefixOf work 0) (s .last) (255 ∷ [])) stack work numbers list noNodes 0 stack′ work′ list′ tally stop) where
+    module _ (stack′ work′ list′ : List ℕ) (tally : Tally) (stop : ℕ) (c : Walked p (within p (p .variables - 0) (prefixOf work 0) (s .last) (255 ∷ [])) stack work numbers list noNodes 0 stack′
+        work′ list′ tally stop) where
       abbrev done : ℕ
       done = nodesIn (result .ending) - s .made
 
       abbrev to : Result → State
-      to r = record { tally = tallyBy (below (p .variables)) all (nodesIn (r .ending) - s .made); plans = plansIn (r .ending); stop = stopIn (r .ending); list = kept (map (write (below (p .variables))) (r .rows)) list; last = lastOf (s .last) (take (nodesIn (r .ending) - s .made) all) }
+      to r = record {
+        tally = tallyBy (below (p .variables)) all (nodesIn (r .ending) - s .made);
+        plans = plansIn (r .ending);
+        stop = stopIn (r .ending);
+        list = kept
+            (map (write (below (p .variables))) (r .rows)) list;
+        last = lastOf (s .last) (take (nodesIn (r .ending) - s .made) all);
+      }
 
       -- the walk goes along the nodes after the path
       nodes-so : within p (p .variables - 0) (prefixOf work 0) (s .last) (255 ∷ []) ≡ all
@@ -175,8 +170,10 @@ module _ (p : Problem) (s : Progress) (limit room : ℕ) (stack work supports ta
           c .state
           ∙ ap₂ (λ (o : List ℕ) (k : ℕ). walk p o (at numbers LIMIT) k (within p (p .variables - 0) (prefixOf work 0) (s .last) (255 ∷ [])) (stateOf noNodes work ALL list)) (h .order e) (h .roomy e)
           ∙ ap (λ (ts : List (List ℕ)). walk p (below (p .variables)) (at numbers LIMIT) (room / p .variables) ts (stateOf noNodes work ALL list)) nodes-so
-          ∙ ap₂ (λ (k : ℕ) (t : List ℕ). walk p (below (p .variables)) (at numbers LIMIT) (room / p .variables) all (record { tally = noNodes; plans = k; stop = ALL; list = list; last = t })) (h .stands .plans) (h .stands .last)
-          ∙ outcome-on p (below (p .variables)) (ordering-below (p .variables) .sized) (at numbers LIMIT) (room / p .variables) room list (room-fits 0 (p .variables) room some) (room-most 0 (p .variables) room some) (λ o. sym (h .lent e)) all (s .last) (s .made) (s .rows)
+          ∙ ap₂ (λ (k : ℕ) (t : List ℕ). walk p (below (p .variables)) (at numbers LIMIT) (room / p .variables) all (record { tally = noNodes; plans = k; stop = ALL; list = list; last = t }))
+          (h .stands .plans) (h .stands .last)
+          ∙ outcome-on p (below (p .variables)) (ordering-below (p .variables) .sized) (at numbers LIMIT) (room / p .variables) room list (room-fits 0 (p .variables) room some)
+          (room-most 0 (p .variables) room some) (λ o. sym (h .lent e)) all (s .last) (s .made) (s .rows)
           (ap (λ (l : List (List ℕ)). length (flat l)) (same-rows (s .rows) (h .widths e)) ∙ length-flat (p .variables) (s .rows) (h .widths e))
           fits
           (ap (λ (l : List (List ℕ)). kept l list) (same-rows (s .rows) (h .widths e)) ∙ written-so (s .rows) fits ∙ h .stands .listed)
@@ -207,7 +204,8 @@ module _ (p : Problem) (s : Progress) (limit room : ℕ) (stack work supports ta
       unfolding nodesAfter
       small = go (last-in p (s .last) (take done all))
         where
-          go : (lastAfter p s result ≡ s .last) ⊎ List·Memᴰ (lastAfter p s result) (take done all) → ((i : ℕ) → i < length (lastAfter p s result) → at (lastAfter p s result) i < 256) × (length (lastAfter p s result) ≤ 12)
+          go : (lastAfter p s result ≡ s .last) ⊎ List·Memᴰ (lastAfter p s result) (take done all) → ((i : ℕ) → i < length (lastAfter p s result) → at (lastAfter p s result) i < 256) ×
+              (length (lastAfter p s result) ≤ 12)
           go (inl q) =
               let z = size in
               let f = h .stands .short in
@@ -228,11 +226,13 @@ module _ (p : Problem) (s : Progress) (limit room : ℕ) (stack work supports ta
         bytes = λ i l.
             let q : at work′ LAST ≡ length (lastAfter p s result) = sym (length-prefix work′ (at work′ LAST)) ∙ ap length is-last in
             subst (λ (v : ℕ). v < 256) (sym (sym (prefix-at work′ (at work′ LAST) i l) ∙ ap (λ (t : List ℕ). at t i) is-last)) (small .0 i (omega arith));
-        wrote = ap (λ (x : State). x .list) came ∙ ap (λ (l : List (List ℕ)). kept l list) (same-rows (result .rows) (rest-wide p limit room s (h .widths e))) ∙ written-so (result .rows) (rest-walk p limit room s .roomy fits);
+        wrote = ap (λ (x : State). x .list) came ∙ ap (λ (l : List (List ℕ)). kept l list) (same-rows (result .rows) (rest-wide p limit room s (h .widths e))) ∙ written-so (result .rows)
+            (rest-walk p limit room s .roomy fits);
       }
 
 -- ---- `go_on`: the last node's values, as they were read back from `work`, are the path that is gone on from
-module _ (p : Problem) (s : Progress) (limit room : ℕ) (stack work supports tables numbers list : List ℕ) (step : ℕ) (h : GoesOn p s limit room stack work supports tables numbers list step) (last : List ℕ) (v : Valued work last) where
+module _ (p : Problem) (s : Progress) (limit room : ℕ) (stack work supports tables numbers list : List ℕ) (step : ℕ) (h : GoesOn p s limit room stack work supports tables numbers list step)
+    (last : List ℕ) (v : Valued work last) where
   abbrev from : List ℕ
   from = take (at work LAST) last
 
@@ -242,7 +242,8 @@ module _ (p : Problem) (s : Progress) (limit room : ℕ) (stack work supports ta
   pub walks-from : step ≡ DEEPER → AtBelow p from stack work supports tables numbers list noNodes 0
   walks-from e = subst (λ (t : List ℕ). AtBelow p t stack work supports tables numbers list noNodes 0) (sym from-is) (walks p s limit room stack work supports tables numbers list step h e)
 
-  pub gone-so : (stack′ work′ list′ : List ℕ) (tally : Tally) (stop : ℕ) → Parted from (255 ∷ []) stack work supports tables numbers list step stack′ work′ list′ tally stop → GoneOn p s limit room list work′ list′ stop tally
+  pub gone-so : (stack′ work′ list′ : List ℕ) (tally : Tally) (stop : ℕ) → Parted from (255 ∷ []) stack work supports tables numbers list step stack′ work′ list′ tally stop
+      → GoneOn p s limit room list work′ list′ stop tally
   gone-so stack′ work′ list′ tally stop q = go (eqb step DEEPER) refl
     where
       go : (c : Bool) → eqb step DEEPER ≡ c → GoneOn p s limit room list work′ list′ stop tally
@@ -271,7 +272,8 @@ goes-on b more size work stack′ work′ supports′ tables′ numbers′ step 
     listed = stands .listed;
   };
   none = h .none;
-  prefix = λ e. let f = fits e in subst (λ (p : Problem). AtPrefix p stack′ work′ supports′ tables′ numbers′ list noNodes 0) (is e) (h .live e list (f .0) (subst (λ (k : ℕ). k * problemOf b .variables ≤ size) (sym (stands .plans)) (f .2)));
+  prefix = λ e. let f = fits e in subst (λ (p : Problem). AtPrefix p stack′ work′ supports′ tables′ numbers′ list noNodes 0) (is e)
+      (h .live e list (f .0) (subst (λ (k : ℕ). k * problemOf b .variables ≤ size) (sym (stands .plans)) (f .2)));
   order = λ e. subst (λ (p : Problem). orderIn numbers′ (p .variables) ≡ below (p .variables)) (is e) (h .order e);
   bounded = λ e. let q = h .bounded e in omega arith;
   lent = λ e. let f = fits e in f .0 ∙ sym (f .1);

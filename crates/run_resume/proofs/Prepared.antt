@@ -1,38 +1,23 @@
 -- What is made of a sheet's bytes again, for a run that goes on (specs/Resume): the arrays hold its problem, with no block, and the variables in their order.
 -- Assumes nothing.
-use mathlib.Core.Path.{_≡_, refl, sym, ap, _∙_, subst}
-use mathlib.Core.Bool.{Bool, true, false}
-use mathlib.Core.List.{List, []}
-use Prim.Native.Nat.{ℕ, _*_, _/_, _^_, _≤_, _<_}
+use Rattle.model.specs.Kit.{_≡_, refl, sym, ap, _∙_, subst, Bool, true, false, List, [], ℕ, _*_, _/_, _^_, _≤_, _<_, arith, T, eqb, length, set, length-set, eqb-true, eqb-false}
 use native.Mathlib.Nat.{div-mul-le-self, div-le-self, le-div-iff-mul-le}
-use native.Mathlib.Omega.{arith}
-use lib.Dec.{T, eqb}
-use lib.ListN.{length, set, length-set}
-use borrow.Author.Tests.{eqb-true, eqb-false}
-use Rattle.model.specs.Lists.{at, below, choose}
-use Rattle.model.specs.Problem.{Problem}
-use Rattle.model.specs.Search.{nodesBelow, nodes}
-use Rattle.model.specs.Sheet.{«word», headerOf, problemOf}
-use Rattle.model.specs.WellFormed.{WellFormed}
-use Rattle.model.proofs.Accepted.{constraints-are, symmetries-are}
-use Rattle.model.proofs.Lists.{T-of, at-set, at-set-other}
-use Rattle.run_input.specs.Compile.{WithinLimits}
-use Rattle.arrays.specs.Places.{VARIABLES, LIMIT, ROOM, PLANS, ALL, DEEPER, NUMBERS}
-use Rattle.arrays.specs.Layout.{Compiled}
+use Rattle.model.specs.{Lists.at, Lists.below, Lists.choose, Problem.Problem, Search.nodes, Sheet.problemOf, WellFormed.WellFormed}
+use Rattle.model.proofs.{Accepted.constraints-are, Accepted.symmetries-are, Accepted.no-nodes, Lists.T-of, Lists.at-set, Lists.at-set-other}
+use Rattle.run_input.specs.inner.Compile.{WithinLimits}
+use Rattle.arrays.specs.inner.Places.{VARIABLES, LIMIT, ROOM, PLANS, ALL, DEEPER, NUMBERS}
+use Rattle.arrays.specs.inner.Layout.{Compiled}
 use Rattle.sheet.specs.Form.{compilable, Recompilation}
 use Rattle.sheet.proofs.Compilable.{compilable-fits, compilable-well}
-use Rattle.run_state.specs.Pair.{ListRoom}
+use Rattle.run_state.specs.inner.Pair.{ListRoom}
 use Rattle.run_tree.proofs.Laws.{dead-below}
-use Rattle.run_search.specs.Begun.{Laid, Begun}
+use Rattle.run_search.specs.inner.Begun.{Laid, Begun}
 use Rattle.run_search.proofs.Begun.{numbers-kept, laid-alone}
-use Rattle.run_resume.specs.Resume.{PreparedAgain}
-
-pub no-nodes : nodes (problemOf []) ≡ []
-unfolding nodes nodesBelow problemOf headerOf «word» at
-no-nodes = refl
+use Rattle.run_resume.specs.inner.Resume.{PreparedAgain}
 
 -- the bytes are refused
-pub again-refused : (b : List ℕ) (more size : ℕ) (work stack′ supports′ tables′ numbers′ images : List ℕ) (r : Bool) → Recompilation b numbers′ supports′ images r → r ≡ false → PreparedAgain b more size work stack′ work supports′ tables′ numbers′ ALL
+pub again-refused : (b : List ℕ) (more size : ℕ) (work stack′ supports′ tables′ numbers′ images : List ℕ) (r : Bool) → Recompilation b numbers′ supports′ images r → r ≡ false
+    → PreparedAgain b more size work stack′ work supports′ tables′ numbers′ ALL
 again-refused b more size work stack′ supports′ tables′ numbers′ images r left e = record {
   none = λ n. (refl, ap (λ (c : Bool). nodes (problemOf (choose c b []))) (sym (left .answers) ∙ e) ∙ no-nodes);
   compiled = λ z. absurd (omega arith);
@@ -87,7 +72,8 @@ module _ (b numbers supports images : List ℕ) (r : Bool) (left : Recompilation
 
     compiled : Compiled p bounded supports images
     compiled = record {
-      numbered = numbers-kept p numbers bounded (well .few) (fits .constraints) (λ i l. ap (λ (l : List ℕ). at l i) put ∙ at-set-other (set numbers LIMIT more) ROOM room i (λ e. omega arith) ∙ at-set-other numbers LIMIT more i (λ e. omega arith)) (h₀ .numbered);
+      numbered = numbers-kept p numbers bounded (well .few) (fits .constraints) (λ i l. ap (λ (l : List ℕ). at l i) put ∙ at-set-other (set numbers LIMIT more) ROOM room i (λ e. omega arith)
+          ∙ at-set-other numbers LIMIT more i (λ e. omega arith)) (h₀ .numbered);
       supported = h₀ .supported;
       imaged = h₀ .imaged;
     }

@@ -1,4 +1,5 @@
-// A run that goes on from its last node (paper 02, #113), on arrays that are lent: where it stands is put in `work`, the compiled problem is made again, and the
+// A run that goes on from its last node (paper 02, #113), on arrays that are lent: where it stands is put in `work`, the compiled problem is made again, and
+// the
 // nodes after the last one are walked along, with a tally from nothing.
 use arrays::ALL;
 use arrays::IMAGES;
@@ -15,10 +16,10 @@ ghost use mathlib.Core.Path.{_≡_};
 ghost use Prim.Native.Nat.{ℕ, _≤_};
 ghost use lib.ListN.{length};
 ghost use Rattle.model.specs.Problem.{Problem};
-ghost use Rattle.arrays.specs.Places.{WORK};
+ghost use Rattle.arrays.specs.inner.Places.{WORK};
 ghost use Rattle.run_cut.specs.Parts.{Progress};
 ghost use Rattle.run_state.specs.Meaning.{tallyIn};
-ghost use Rattle.run_resume.specs.Resume.{Put, Fresh, PreparedAgain, GoesOn, GoneOn};
+ghost use Rattle.run_resume.specs.inner.Resume.{Put, Fresh, PreparedAgain, GoesOn, GoneOn};
 
 // Puts where a run stands in `work`: the plans listed, and the last node made.
 pub fn put_progress(work: &mut Work, plans: usize, last: &[u8])
@@ -42,7 +43,8 @@ pub fn prepare_again(
     size: usize,
 ) -> u8
     requires { ⌜ Fresh (now stack) (now work) (now supports) (now tables) (now numbers) ⌝ }
-    ensures { λ r. ⌜ PreparedAgain (now (sheet .entry)) more size (now (work .entry)) (now (stack .exit)) (now (work .exit)) (now (supports .exit)) (now (tables .exit)) (now (numbers .exit)) r ⌝ }
+    ensures { λ r. ⌜ PreparedAgain (now (sheet .entry)) more size (now (work .entry)) (now (stack .exit)) (now (work .exit)) (now (supports .exit))
+        (now (tables .exit)) (now (numbers .exit)) r ⌝ }
 {
     let mut images = [0u8; IMAGES];
     if sheet::recompile(sheet, numbers, supports, &mut images) {
@@ -66,8 +68,11 @@ pub fn go_on(
     list: &mut [u8],
     step: u8,
 ) -> CountedPart
-    requires { ⌜ ((p : Problem) × (s : Progress) × (limit : ℕ) × (room : ℕ) × GoesOn p s limit room (now stack) (now work) (now supports) (now tables) (now numbers) (now list) step) ⌝ }
-    ensures { λ r. ⌜ ((p : Problem) (s : Progress) (limit room : ℕ) → GoesOn p s limit room (now (stack .entry)) (now (work .entry)) (now (supports .entry)) (now (tables .entry)) (now (numbers .entry)) (now (list .entry)) step → GoneOn p s limit room (now (list .entry)) (now (work .exit)) (now (list .exit)) (r .stop) (tallyIn (r .tally))) ⌝ }
+    requires { ⌜ ((p : Problem) × (s : Progress) × (limit : ℕ) × (room : ℕ) × GoesOn p s limit room (now stack) (now work) (now supports) (now tables)
+        (now numbers) (now list) step) ⌝ }
+    ensures { λ r. ⌜ ((p : Problem) (s : Progress) (limit room : ℕ) → GoesOn p s limit room (now (stack .entry)) (now (work .entry)) (now (supports .entry))
+        (now (tables .entry)) (now (numbers .entry)) (now (list .entry)) step → GoneOn p s limit room (now (list .entry)) (now (work .exit))
+        (now (list .exit)) (r .stop) (tallyIn (r .tally))) ⌝ }
 {
     let last = run_part::last_values(work);
     let length = work[LAST] as usize;

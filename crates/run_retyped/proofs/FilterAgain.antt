@@ -1,22 +1,15 @@
 -- What callers of the filter hold of a second call and of calls by turns (specs/FilterAgain). Assumes nothing.
-use mathlib.Core.Path.{_≡_, refl, sym, ap, _∙_, subst}
-use mathlib.Core.List.{List}
-use Prim.Native.Nat.{ℕ}
-use lib.Dec.{eqb, leb}
-use lib.ListN.{length}
-use Rattle.model.specs.Lists.{both}
-use Rattle.model.specs.Verdict.{Verdict, accepted, refused, ask}
-use Rattle.model.specs.Nogood.{Entry, filtered, FilterAnswer, refusal, answered, failed, entailed, consistent, entries, firstWrong, filterVerdict, filterAnswer, setsAfter}
+use Rattle.model.specs.Kit.{_≡_, refl, sym, ap, _∙_, subst, List, ℕ, eqb, leb, length}
+use Rattle.model.specs.{Lists.both, Verdict.Verdict, Verdict.accepted, Verdict.refused, Verdict.ask, Nogood.Entry, Nogood.filtered, Nogood.FilterAnswer, Nogood.refusal}
+use Rattle.model.specs.Nogood.{answered, failed, entailed, consistent, entries, firstWrong, filterVerdict, filterAnswer, setsAfter}
 use Rattle.model.proofs.Filter.{length-filtered}
-use Rattle.filter.specs.Lists.{means}
-use Rattle.filter.specs.FilterCalls.{CallFilter, ListsRight}
-use Rattle.filter.specs.declared.Answer.{Answer}
-use Rattle.filter.specs.declared.Answer.the-variants.{Failed, Entailed, Consistent, Refused}
+use Rattle.filter.specs.{Lists.means, FilterCalls.CallFilter, FilterCalls.ListsRight, declared.Answer.Answer, declared.Answer.the-variants.Failed}
+use Rattle.filter.specs.declared.Answer.the-variants.{Entailed, Consistent, Refused}
 use Rattle.filter.proofs.FilterCalls.{right-accepted}
-use Rattle.run_retyped.specs.Retyped.{Within, byTurns, Applied}
-use Rattle.run_retyped.specs.Retyped as A
-use Rattle.run_retyped.specs.FilterAgain.{Twice-calls, Within-calls, Turned, none, first, second, Still, TurnsHeld, Turns-calls}
+use Rattle.run_retyped.specs.{Retyped.Within, Retyped.byTurns, Retyped.Applied, FilterAgain.Twice-calls, FilterAgain.Within-calls, FilterAgain.Turned, FilterAgain.none}
+use Rattle.run_retyped.specs.FilterAgain.{first, second, Still, TurnsHeld, Turns-calls}
 use Rattle.run_retyped.proofs.Turns.{filter-twice, filter-within, turns-largest, turns-any, turns-applied}
+use Rattle.run_retyped.specs.Retyped as A
 
 -- the questions look at the number of sets alone
 verdict-sized : (ds rs xs es us : List ℕ) → length rs ≡ length ds → filterVerdict rs xs es us ≡ filterVerdict ds xs es us

@@ -1,43 +1,27 @@
 -- Retyped exchanges (paper 02, #109) under the same pairs and block. Assumes nothing.
-use mathlib.Core.Path.{_≡_, refl, sym, ap, ap₂, _∙_, subst, subst₂}
-use mathlib.Core.Bool.{Bool, true, false}
-use mathlib.Core.Logic.{_↔_, ⊎-elim}
-use mathlib.Core.List.{List, [], _∷_, _++_, map, List·Memᴰ, List·Memᴰ·append-cases, Memᴰ·append-left, Memᴰ·append-right, Memᴰ·cast, Memᴰ·map, Memᴰ·of-map}
-use Prim.Native.Nat.{ℕ}
-use lib.Dec.{T, leb}
-use lib.ListN.{length, take}
-use Rattle.model.specs.Lists.{keep, at}
-use Rattle.model.specs.ValueSets.{least}
-use Rattle.model.specs.Search.{isPlan}
-use Rattle.model.specs.Run.{countsBy, settledBy}
-use Rattle.model.specs.Problem.{Problem, pair, isPair, withSymmetries}
-use Rattle.model.specs.Verdict.{Verdict, accepted, isAccepted, reply, kept}
-use Rattle.model.specs.Sheet.{problemOf, verdictOf}
-use Rattle.model.specs.WellFormed.{WellFormed, Respected}
-use Rattle.model.specs.Run.{Answer, refusal, answered, Result, nodesIn, written, Tally, tallyFor}
-use Rattle.model.proofs.Accepted.{Passed}
-use Rattle.order.specs.Order.{settlingOrder, orderVerdict}
-use Rattle.order.specs.Reordered.{write, renamed, symmetryIn, reordered}
-use Rattle.order.specs.RunBy.{resultBy, placeCounts, placeTally, answerBy, listBy, talliedBy}
+use Rattle.model.specs.Kit.{_≡_, refl, sym, ap, ap₂, _∙_, subst, subst₂, Bool, true, false, _↔_, ⊎-elim, List, [], _∷_, _++_, map, List·Memᴰ, Memᴰ·append-left, Memᴰ·cast, Memᴰ·map}
+use Rattle.model.specs.Kit.{Memᴰ·of-map, ℕ, T, leb, length, take}
+use mathlib.Core.List.{List·Memᴰ·append-cases, Memᴰ·append-right}
+use Rattle.model.specs.{Lists.keep, Lists.at, ValueSets.least, Search.isPlan, Run.countsBy, Run.settledBy, Run.Answer, Run.refusal, Run.answered, Run.Result, Run.nodesIn}
+use Rattle.model.specs.{Run.written, Run.Tally, Run.tallyFor, Problem.Problem, Problem.pair, Problem.isPair, Problem.withSymmetries, Verdict.Verdict, Verdict.accepted}
+use Rattle.model.specs.{Verdict.isAccepted, Verdict.reply, Verdict.kept, Sheet.problemOf, Sheet.verdictOf, WellFormed.WellFormed, WellFormed.Respected}
+use Rattle.model.proofs.Accepted.{Passed, accepted-is, is-accepted}
+use Rattle.order.specs.{Order.settlingOrder, Order.orderVerdict, Reordered.write, Reordered.renamed, Reordered.symmetryIn, Reordered.reordered, RunBy.resultBy, RunBy.placeCounts}
+use Rattle.order.specs.RunBy.{placeTally, answerBy, listBy, talliedBy}
 use Rattle.sheet.specs.Meaning.{andThen}
 use Rattle.block.specs.Block.{factorial, variableTable, orderingTable, tablesLent, blockLent}
+use Rattle.block.proofs.{Block.is-block, Block.block-e, Block.block-i, Orderings.factorial-up}
+use Rattle.run_input.specs.Lent.{verdictLent, problemWith, orderLent, problemLent, answerLent, listLent}
+use Rattle.run_input.proofs.Lent.{both-passed, lent-passed, well-lent, respected-lent, problem-other}
+use Rattle.families.specs.Families.{Joined, familiesOf}
+use Rattle.families.proofs.{Joined.joined-one, FewerFamilies.joined-more, FewerFamilies.joined-fewer, FewerFamilies.families-same}
+use Rattle.families_figure.specs.Figure.{problemBare, figureFor, familiesLent}
+use Rattle.run_enough.specs.{AtLeast.Enough, AtLeast.enough, AtLeast.tooFew, AtLeast.unknown, AtLeast.nodesTo, AtLeast.enoughOf, Lent.enoughLent}
+use Rattle.run_retyped.specs.{Retyped.SameSymmetries, Retyped.SameSearch, Retyped.SameButOrder, LentClaims.SameRunsLent, LentClaims.Retyped-lent}
+use Rattle.run_retyped.specs.LentClaims.{Retyped-accepted-lent, Retyped-exactly, Retyped-enough, Retyped-families}
+use Rattle.run_retyped.proofs.{SameSearch.same-search, Retyped.same-symmetries, Retyped.retyped-accepted}
 use Rattle.model.proofs.Asked as A
 use Rattle.block.proofs.Tables as B
-use Rattle.block.proofs.Block.{is-block, block-e, block-i}
-use Rattle.block.proofs.Orderings.{factorial-up}
-use Rattle.block.proofs.BlockLent.{is-accepted}
-use Rattle.run_input.specs.Lent.{verdictLent, problemWith, orderLent, problemLent, answerLent, listLent}
-use Rattle.run_input.proofs.Lent.{both-passed, passed-all, lent-passed, well-lent, respected-lent, problem-other}
-use Rattle.families.specs.Families.{Joined, familiesOf}
-use Rattle.families.proofs.Joined.{joined-one}
-use Rattle.families.proofs.FewerFamilies.{joined-more, joined-fewer, families-same}
-use Rattle.families_figure.specs.Figure.{problemBare, figureFor, familiesLent}
-use Rattle.run_enough.specs.AtLeast.{Enough, enough, tooFew, unknown, nodesTo, enoughOf}
-use Rattle.run_enough.specs.Lent.{enoughLent}
-use Rattle.run_retyped.specs.Retyped.{SameSymmetries, SameSearch, SameButOrder}
-use Rattle.run_retyped.specs.LentClaims.{SameRunsLent, Retyped-lent, Retyped-accepted-lent, Retyped-exactly, Retyped-enough, Retyped-families}
-use Rattle.run_retyped.proofs.SameSearch.{same-search}
-use Rattle.run_retyped.proofs.Retyped.{same-symmetries, retyped-accepted}
 
 -- ---- the problems
 put-behind : (ts xs ys : List (List ℕ)) → ((g : List ℕ) → List·Memᴰ g xs → List·Memᴰ g ys) → (g : List ℕ) → List·Memᴰ g (xs ++ ts) → List·Memᴰ g (ys ++ ts)
@@ -107,11 +91,12 @@ module _ (b c pairs block : List ℕ) (ok : Passed b) (s : SameButOrder b c) whe
       sets = λ prefix. ap₂ write same-order (search .sets prefix);
       answers = answers;
       lists = lists;
-      tallies = λ limit out tally. ap (λ (a : Answer). tallyFor a (placeTally (orderLent c pairs) (problemWith c block)) tally) (answers limit out) ∙ tallies (answerLent b pairs block limit out) tally;
+      tallies = λ limit out tally. ap (λ (a : Answer). tallyFor a (placeTally (orderLent c pairs) (problemWith c block)) tally) (answers limit out) ∙ tallies
+          (answerLent b pairs block limit out) tally;
     }
 
 pub retyped-lent : Retyped-lent
-retyped-lent b c pairs block hb hc s = same-runs b c pairs block (lent-passed b pairs block (passed-all (verdictLent b pairs block) hb) .sheet) s hb hc
+retyped-lent b c pairs block hb hc s = same-runs b c pairs block (lent-passed b pairs block (is-accepted (verdictLent b pairs block) hb) .sheet) s hb hc
 
 -- ---- one accepted, the other too
 block-other : (p : Problem) (gs : List (List ℕ)) → WellFormed p → WellFormed (withSymmetries p gs) → (block : List ℕ) → blockLent p block ≡ accepted → blockLent (withSymmetries p gs) block ≡ accepted
@@ -128,15 +113,15 @@ block-other p gs w v (first ∷ m ∷ x ∷ more) h = h
 pub retyped-accepted-lent : Retyped-accepted-lent
 unfolding verdictLent
 retyped-accepted-lent b c pairs block hb s =
-    let x = lent-passed b pairs block (passed-all (verdictLent b pairs block) hb) in
+    let x = lent-passed b pairs block (is-accepted (verdictLent b pairs block) hb) in
     let same = same-symmetries b c (x .sheet) s in
     let p = problemOf b in
     let gs = problemOf c .symmetries in
     let w = x .sheet .well in
     let v = B.well-formed-with p gs w (λ g m. w .symmetric g (same .symmetries g .1 m)) in
-    let kb : blockLent p block ≡ accepted = is-accepted (blockLent p block) (x .blocked) in
+    let kb : blockLent p block ≡ accepted = accepted-is (blockLent p block) (x .blocked) in
     let kc : blockLent (problemOf c) block ≡ accepted = ap (λ (q : Problem). blockLent q block) (whole p (problemOf c) same) ∙ block-other p gs w v block kb in
-    let sb = is-accepted (verdictOf b) (both-passed (verdictOf b) (orderVerdict (p .variables) pairs (blockLent p block)) (passed-all (verdictLent b pairs block) hb) .0) in
+    let sb = accepted-is (verdictOf b) (both-passed (verdictOf b) (orderVerdict (p .variables) pairs (blockLent p block)) (is-accepted (verdictLent b pairs block) hb) .0) in
     ap₂ andThen (retyped-accepted b c sb s ∙ sym sb) (ap₂ (λ (n : ℕ) (u : Verdict). orderVerdict n pairs u) (same .variables) (kc ∙ sym kb)) ∙ hb
 
 pub retyped-exactly : Retyped-exactly
@@ -157,7 +142,7 @@ enough-same p q s limit m = ap₂ (λ (f : List ℕ → Bool) (ns : List (List �
 pub retyped-enough : Retyped-enough
 unfolding enoughLent
 retyped-enough b c pairs block hb s limit m =
-    let ok = lent-passed b pairs block (passed-all (verdictLent b pairs block) hb) .sheet in
+    let ok = lent-passed b pairs block (is-accepted (verdictLent b pairs block) hb) .sheet in
     let p = problemLent b pairs block in
     let q = problemLent c pairs block in
     ap₂ (λ (v : Verdict) (x : Enough). reply v x) (retyped-accepted-lent b c pairs block hb s ∙ sym hb) (enough-same p q (same-search p q (same-lent b c pairs block ok s)) limit m)
@@ -178,7 +163,7 @@ retyped-families b c pairs block hb s = (
 )
   where
     good : T (isAccepted (verdictLent b pairs block))
-    good = passed-all (verdictLent b pairs block) hb
+    good = is-accepted (verdictLent b pairs block) hb
 
     ok : Passed b
     ok = lent-passed b pairs block good .sheet
@@ -208,7 +193,7 @@ retyped-families b c pairs block hb s = (
     count =
         ap familiesOf other
         ∙ families-same p gs (well-lent b pairs block good) (respected-lent b pairs block good)
-        (subst Respected other (respected-lent c pairs block (passed-all (verdictLent c pairs block) (retyped-accepted-lent b c pairs block hb s)))) there back
+        (subst Respected other (respected-lent c pairs block (is-accepted (verdictLent c pairs block) (retyped-accepted-lent b c pairs block hb s)))) there back
 
     bare : problemBare c ≡ problemBare b
     bare = λ i. record { variables = same .variables i; values = same .values i; initial = same .initial i; constraints = same .constraints i; symmetries = [] }

@@ -1,21 +1,14 @@
 -- Paper 02, #109, sheets: two accepted sheets that differ only in the order of their exchanges have the same runs. Assumes nothing.
-use mathlib.Core.Path.{_≡_, refl, sym, ap, ap₂, _∙_, subst}
-use mathlib.Core.Bool.{not}
-use mathlib.Core.List.{List, [], _∷_, map, List·Memᴰ, List·Memᴰ·head, List·Memᴰ·tail, Memᴰ·map, Memᴰ·of-map, List·Permᴰ, List·Permᴰ·nil, List·Permᴰ·cons, List·Permᴰ·swap, List·Permᴰ·trans, Permᴰ·symm, map-map}
-use Prim.Native.Nat.{ℕ, zero, suc, _+_, _*_, _^_, _≤_, _<_}
-use native.Mathlib.Omega.{arith}
-use lib.Dec.{T, leb, ltb, eqb, leb→le}
-use lib.ListN.{length, take, drop}
-use lib.Seq.{getD-drop}
-use Rattle.model.specs.Lists.{all, both, at, below, ascending, rowsAscend}
-use Rattle.model.specs.Problem.{Problem, respects, withSymmetries}
-use Rattle.model.specs.Verdict.{Verdict, accepted, ask, isAccepted}
-use Rattle.model.specs.Sheet.{Header, word, words, headerOf, scopeAt, rowsAt, afterAt, constraintsFrom, tableAt, problemOf, setsVerdict, constraintVerdict, constraintsVerdict, headerVerdict, formVerdict, permutesPairs, symmetriesVerdict, verdictOf}
+use Rattle.model.specs.Kit.{_≡_, refl, sym, ap, ap₂, _∙_, subst, not, List, [], _∷_, map, List·Memᴰ, List·Memᴰ·head, List·Memᴰ·tail, Memᴰ·map, Memᴰ·of-map, ℕ, zero, suc, _+_, _*_}
+use Rattle.model.specs.Kit.{_^_, _≤_, _<_, arith, T, leb, ltb, eqb, leb→le, length, take, drop, getD-drop}
+use mathlib.Core.List.{List·Permᴰ, List·Permᴰ·nil, List·Permᴰ·cons, List·Permᴰ·swap, List·Permᴰ·trans, Permᴰ·symm, map-map}
+use Rattle.model.specs.{Lists.all, Lists.both, Lists.at, Lists.below, Lists.ascending, Lists.rowsAscend, Problem.Problem, Problem.respects, Problem.withSymmetries, Verdict.Verdict}
+use Rattle.model.specs.{Verdict.accepted, Verdict.ask, Verdict.isAccepted, Sheet.Header, Sheet.word, Sheet.words, Sheet.headerOf, Sheet.scopeAt, Sheet.rowsAt, Sheet.afterAt}
+use Rattle.model.specs.Sheet.{constraintsFrom, tableAt, problemOf, setsVerdict, constraintVerdict, constraintsVerdict, headerVerdict, formVerdict, permutesPairs, symmetriesVerdict}
+use Rattle.model.specs.{Sheet.verdictOf, WellFormed.WellFormed, WellFormed.Respected}
 use Rattle.run_retyped.specs.Retyped.{SameSymmetries, blockSize, blocks, SameButOrder, Retyped-accepted, Retyped-back}
-use Rattle.model.proofs.Lists.{at-take, below-e, map-ext}
-use Rattle.model.proofs.Accepted.{Passed, passed, asked}
-use Rattle.model.specs.WellFormed.{WellFormed, Respected}
-use Rattle.model.proofs.OneMore.{after-low, arity, count, after-agree, scope-agree, rows-agree, Agree, word-same, words-same, word-agree, words-agree, constraints-agree}
+use Rattle.model.proofs.{Lists.at-take, Lists.below-e, Lists.map-ext, Accepted.Passed, Accepted.passed, Accepted.asked, OneMore.after-low, OneMore.arity, OneMore.count}
+use Rattle.model.proofs.OneMore.{after-agree, scope-agree, rows-agree, Agree, word-same, words-same, word-agree, words-agree, constraints-agree}
 use Rattle.model.proofs.Asked.{symmetries-i, good-other, respects-other}
 
 -- ---- a member of a list is one of any order of it
@@ -95,12 +88,14 @@ module _ (b c : List ℕ) (ok : Passed b) (s : SameButOrder b c) where
       w o l = word-agree b c 0 third agree o (omega arith) (omega (arith, low))
 
   same-initial : words c 16 (headerOf c .variables) ≡ words b 16 (headerOf b .variables)
-  same-initial = ap (λ (h : Header). words c 16 (h .variables)) same-header ∙ words-agree b c 0 third agree 16 (headerOf b .variables) (omega arith) (omega (arith, ok .header .second, ok .header .ordered))
+  same-initial = ap (λ (h : Header). words c 16 (h .variables)) same-header ∙ words-agree b c 0 third agree 16 (headerOf b .variables) (omega arith)
+      (omega (arith, ok .header .second, ok .header .ordered))
 
   same-rules : constraintsFrom c (headerOf c .constraints) (headerOf c .second) ≡ constraintsFrom b (headerOf b .constraints) (headerOf b .second)
   same-rules =
       ap (λ (h : Header). constraintsFrom c (h .constraints) (h .second)) same-header
-      ∙ constraints-agree b c third (λ i h l. agree i (omega arith) l) (headerOf b) refl (headerOf b .constraints) 0 (headerOf b .second) (ok .walked .0) (omega (arith, ok .header .second)) (ok .walked .1)
+      ∙ constraints-agree b c third (λ i h l. agree i (omega arith) l) (headerOf b) refl (headerOf b .constraints) 0 (headerOf b .second) (ok .walked .0) (omega (arith, ok .header .second))
+      (ok .walked .1)
 
   abbrev tables : List ℕ → List (List ℕ)
   tables d = map (λ t. words t 0 (headerOf b .variables * headerOf b .values)) (blocks (headerOf b) d)
@@ -135,10 +130,12 @@ module _ (b c : List ℕ) (ok : Passed b) (g : Agree b c 16 (headerOf b .third))
   unfolding setsVerdict
   sets-same [] l v = refl
   sets-same (x ∷ xs) l v =
-      let e : word c (16 + 2 * x) ≡ word b (16 + 2 * x) = word-agree b c 16 (h .third) g (16 + 2 * x) (omega arith) (omega (arith, ok .header .second, ok .header .ordered, l x (List·Memᴰ·head refl))) in
+      let e : word c (16 + 2 * x) ≡ word b (16 + 2 * x) = word-agree b c 16 (h .third) g (16 + 2 * x) (omega arith)
+      (omega (arith, ok .header .second, ok .header .ordered, l x (List·Memᴰ·head refl))) in
       ap₂ (λ (y : ℕ) (w : Verdict). ask (both (ltb y (2 ^ h .values)) (not (eqb y 0))) 8 x w) e (sets-same xs (λ y m. l y (List·Memᴰ·tail m)) v)
 
-  pub constraints-same : (k i o : ℕ) (v w : Verdict) → 16 ≤ o → T (isAccepted (constraintsVerdict b (headerOf b) k i o v)) → constraintsVerdict c (headerOf b) k i o w ≡ constraintsVerdict b (headerOf b) k i o w
+  pub constraints-same : (k i o : ℕ) (v w : Verdict) → 16 ≤ o → T (isAccepted (constraintsVerdict b (headerOf b) k i o v)) → constraintsVerdict c (headerOf b) k i o w ≡ constraintsVerdict b
+      (headerOf b) k i o w
   unfolding constraintsVerdict constraintVerdict
   constraints-same zero i o v w low t = refl
   constraints-same (suc k) i o v w low t =
@@ -155,7 +152,8 @@ module _ (b c : List ℕ) (ok : Passed b) (g : Agree b c 16 (headerOf b .third))
       let es = scope-agree b c (h .third) g o low head tail in
       let er = rows-agree b c (h .third) g o low head tail in
       let ef = after-agree b c (h .third) g o low head tail in
-      let rest : constraintsVerdict c h k (suc i) (afterAt c o) w ≡ constraintsVerdict b h k (suc i) (afterAt b o) w = ap (λ (y : ℕ). constraintsVerdict c h k (suc i) y w) ef ∙ constraints-same k (suc i) (afterAt b o) v w (after-low b o low) (q6 .1) in
+      let rest : constraintsVerdict c h k (suc i) (afterAt c o) w ≡ constraintsVerdict b h k (suc i) (afterAt b o) w = ap (λ (y : ℕ). constraintsVerdict c h k (suc i) y w) ef ∙ constraints-same k
+      (suc i) (afterAt b o) v w (after-low b o low) (q6 .1) in
       λ j. ask (leb (o + 4) (h .third)) 9 i
       (ask (both (both (leb 1 (ea j)) (leb (ea j) 3)) (leb (ec j) 256)) 10 i
       (ask (leb (ef j) (h .third)) 9 i
@@ -218,7 +216,8 @@ pub retyped-accepted : Retyped-accepted
 retyped-accepted b c hb s =
     verdict-is c ∙ ap (λ (h : Header). questions c h (symmetriesVerdict (problemOf c) 0 (problemOf c .symmetries))) (same-header b c ok s)
     ∙ questions-same b c ok s (symmetriesVerdict (problemOf c) 0 (problemOf c .symmetries))
-    ∙ ap (questions b (headerOf b)) (tables-pass (problemOf b) (problemOf c) (same-symmetries b c ok s) (ok .well) (ok .respected) ∙ sym (symmetries-i (problemOf b) 0 (problemOf b .symmetries) (λ g m. (ok .well .symmetric g m .permutes, ok .respected .respectful g m))))
+    ∙ ap (questions b (headerOf b)) (tables-pass (problemOf b) (problemOf c) (same-symmetries b c ok s) (ok .well) (ok .respected) ∙ sym
+    (symmetries-i (problemOf b) 0 (problemOf b .symmetries) (λ g m. (ok .well .symmetric g m .permutes, ok .respected .respectful g m))))
     ∙ sym (verdict-is b) ∙ hb
   where
     ok : Passed b

@@ -1,12 +1,9 @@
 -- The examples of specs/RetypedExamples, and worked cases of two lists by turns and of a sheet's exchanges as bytes, by computation. Assumes nothing.
-use mathlib.Core.Path.{_≡_, refl}
-use mathlib.Core.List.{List, [], _∷_, List·Permᴰ·swap}
-use Rattle.model.specs.Sheet.{headerOf}
-use Rattle.model.specs.Nogood.{Entry, equality, disequality}
-use Rattle.model.specs.Examples.{Each, sheetA, placesTraded}
+use Rattle.model.specs.Kit.{_≡_, refl, List, [], _∷_}
+use mathlib.Core.List.{List·Permᴰ·swap}
+use Rattle.model.specs.{Sheet.headerOf, Nogood.Entry, Nogood.equality, Nogood.disequality, Examples.Each, Examples.sheetA, Examples.placesTraded}
 use Rattle.model.proofs.Examples.{opened}
-use Rattle.run_retyped.specs.Retyped.{turns, byTurns, blocks}
-use Rattle.run_retyped.specs.RetypedExamples.{testsRetyped}
+use Rattle.run_retyped.specs.{Retyped.turns, Retyped.byTurns, Retyped.blocks, inner.RetypedExamples.testsRetyped}
 
 pub examples-retyped : Each testsRetyped
 unfolding opened blocks

@@ -1,28 +1,18 @@
 -- Paper 02, #109, problems: two that have the same symmetries, in whatever order, have the same sets, nodes, plans and runs. Assumes nothing.
-use mathlib.Core.Path.{_≡_, refl, sym, ap, _∙_, subst}
-use mathlib.Core.Bool.{Bool, true, false, not}
-use mathlib.Core.List.{List, [], _∷_, _++_, map, List·Memᴰ}
-use mathlib.Core.Logic.{_↔_}
-use Prim.Native.Nat.{ℕ, zero, suc, _*_}
-use lib.Dec.{T, eqb, leb}
-use lib.ListN.{length}
-use Rattle.model.specs.Lists.{at, same, both, flat}
-use Rattle.model.specs.ValueSets.{has, members, anyEmpty}
-use Rattle.model.specs.Problem.{Problem, pair, withSymmetries}
-use Rattle.model.specs.Nogood.{Entry, filtered}
-use Rattle.model.specs.Search.{entriesAt, nogoodsOf, pruned, narrowed, rounds, setsAt, isLive, nodesBelow, nodes, isPlan}
-use Rattle.model.specs.Run.{Result, spent, full, search, resultOf}
+use Rattle.model.specs.Kit.{_≡_, refl, sym, ap, _∙_, subst, Bool, true, false, not, List, [], _∷_, _++_, map, List·Memᴰ, _↔_, ℕ, zero, suc, _*_, T, eqb, leb, length}
+use Rattle.model.specs.{Lists.at, Lists.same, Lists.both, Lists.flat, ValueSets.has, ValueSets.members, ValueSets.anyEmpty, Problem.Problem, Problem.pair, Problem.withSymmetries}
+use Rattle.model.specs.{Nogood.Entry, Nogood.filtered, Search.entriesAt, Search.nogoodsOf, Search.pruned, Search.narrowed, Search.rounds, Search.setsAt, Search.isLive}
+use Rattle.model.specs.{Search.nodesBelow, Search.nodes, Search.isPlan, Run.Result, Run.spent, Run.full, Run.search, Run.resultOf}
 use Rattle.run_retyped.specs.Retyped.{SameSearch, Same-search}
-use Rattle.model.proofs.Lists.{map-ext}
-use Rattle.model.proofs.Sets.{inside-antisym}
-use Rattle.model.proofs.Prune.{Kept, pruned-i, pruned-e, pruned-sets}
+use Rattle.model.proofs.{Lists.map-ext, Sets.inside-antisym, Prune.Kept, Prune.pruned-i, Prune.pruned-e, Prune.pruned-sets}
 
 -- ---- one round
 nogoods-same : (p : Problem) (gs : List (List ℕ)) (g prefix : List ℕ) → nogoodsOf (withSymmetries p gs) g prefix ≡ nogoodsOf p g prefix
 unfolding nogoodsOf entriesAt pair
 nogoods-same p gs g prefix = refl
 
-kept-by : (p : Problem) (gs hs : List (List ℕ)) → ((g : List ℕ) → List·Memᴰ g hs → List·Memᴰ g gs) → (prefix ds : List ℕ) (x v : ℕ) → Kept (withSymmetries p gs) prefix ds x v → Kept (withSymmetries p hs) prefix ds x v
+kept-by : (p : Problem) (gs hs : List (List ℕ)) → ((g : List ℕ) → List·Memᴰ g hs → List·Memᴰ g gs) → (prefix ds : List ℕ) (x v : ℕ) → Kept (withSymmetries p gs) prefix ds x v → Kept
+    (withSymmetries p hs) prefix ds x v
 kept-by p gs hs h prefix ds x v k = record {
   member = k .member;
   rows = k .rows;
@@ -64,7 +54,8 @@ module _ (p : Problem) (gs : List (List ℕ)) (h : (g : List ℕ) → List·Mem�
   below-same zero prefix = refl
   below-same (suc k) prefix =
       ap (λ (ds : List ℕ). flat (map (λ v. (prefix ++ (v ∷ [])) ∷ nodesBelow q k (prefix ++ (v ∷ []))) (members (at ds (length prefix))))) (sets-same prefix)
-      ∙ ap flat (map-ext (λ v. (prefix ++ (v ∷ [])) ∷ nodesBelow q k (prefix ++ (v ∷ []))) (λ v. (prefix ++ (v ∷ [])) ∷ nodesBelow p k (prefix ++ (v ∷ []))) (members (at (setsAt p prefix) (length prefix)))
+      ∙ ap flat (map-ext (λ v. (prefix ++ (v ∷ [])) ∷ nodesBelow q k (prefix ++ (v ∷ []))) (λ v. (prefix ++ (v ∷ [])) ∷ nodesBelow p k (prefix ++ (v ∷ [])))
+      (members (at (setsAt p prefix) (length prefix)))
       (λ v m. ap (λ (l : List (List ℕ)). (prefix ++ (v ∷ [])) ∷ l) (below-same k (prefix ++ (v ∷ [])))))
 
   nodes-same : nodes q ≡ nodes p
@@ -92,7 +83,8 @@ module _ (p : Problem) (gs : List (List ℕ)) (h : (g : List ℕ) → List·Mem�
       step N Y b c = elim b [ true ↦ S | false ↦ elim c [ false ↦ N | true ↦ elim (leb (suc (length rows) * p .variables) room) [ false ↦ F | true ↦ Y ] ] ]
 
       go : {N N′ Y Y′ : Result} → N ≡ N′ → Y ≡ Y′ → (b c d : Bool) →
-          _≡_ {A = Result} (elim b [ true ↦ S | false ↦ elim c [ false ↦ N | true ↦ elim d [ false ↦ F | true ↦ Y ] ] ]) (elim b [ true ↦ S | false ↦ elim c [ false ↦ N′ | true ↦ elim d [ false ↦ F | true ↦ Y′ ] ] ])
+          _≡_ {A = Result} (elim b [ true ↦ S | false ↦ elim c [ false ↦ N | true ↦ elim d [ false ↦ F | true ↦ Y ] ] ])
+          (elim b [ true ↦ S | false ↦ elim c [ false ↦ N′ | true ↦ elim d [ false ↦ F | true ↦ Y′ ] ] ])
       go e f true c d = refl
       go e f false false d = e
       go e f false true false = refl

@@ -1,20 +1,10 @@
 -- Paper 02, #109, the filter: twice is once, smaller sets leave smaller remainders, and two lists by turns leave the largest sets that both leave alone. Assumes nothing.
-use mathlib.Core.Path.{_≡_, refl, sym, ap, _∙_, subst}
-use mathlib.Core.Bool.{Bool, true, false}
-use mathlib.Core.List.{List}
-use Prim.Native.Nat.{ℕ, zero, suc, _*_, _^_, _≤_, _<_}
-use native.Mathlib.Omega.{arith}
-use lib.Dec.{T, ltb}
-use lib.ListN.{length}
-use borrow.Author.Tests.{ltb-true, ltb-false}
-use Rattle.model.specs.Lists.{at, same}
-use Rattle.model.specs.ValueSets.{has}
-use Rattle.model.specs.Nogood.{Entry, filtered}
-use Rattle.run_retyped.specs.Retyped.{Within, Filter-twice, Filter-within, turns, byTurns, Applied, none, first, second, LargestLeft, Turns-largest, Turns-either, Turns-any, Turns-applied}
-use Rattle.model.proofs.Lists.{T-of, of-not, same-eq, same-refl}
-use Rattle.model.specs.Pruning.{Sets, Inside}
-use Rattle.model.proofs.Sets.{inside-refl, inside-trans, inside-antisym, size, size-le, size-strict}
-use Rattle.model.proofs.Filter.{length-filtered, filtered-sets, filtered-inside, filtered-mono, filtered-idem}
+use Rattle.model.specs.Kit.{_≡_, refl, sym, ap, _∙_, subst, Bool, true, false, List, ℕ, zero, suc, _*_, _^_, _≤_, _<_, arith, T, ltb, length, ltb-true, ltb-false}
+use Rattle.model.specs.{Lists.at, Lists.same, ValueSets.has, ValueSets.Inside, Nogood.Entry, Nogood.filtered, inner.Pruning.Sets}
+use Rattle.run_retyped.specs.Retyped.{Within, Filter-twice, Filter-within, turns, byTurns, Applied, none, first, second, LargestLeft, Turns-largest, Turns-either, Turns-any}
+use Rattle.run_retyped.specs.Retyped.{Turns-applied}
+use Rattle.model.proofs.{Lists.T-of, Lists.of-not, Lists.same-eq, Lists.same-refl, Sets.inside-refl, Sets.inside-trans, Sets.inside-antisym, Sets.size, Sets.size-le}
+use Rattle.model.proofs.{Sets.size-strict, Filter.length-filtered, Filter.filtered-sets, Filter.filtered-inside, Filter.filtered-mono, Filter.filtered-idem}
 
 pub filter-twice : Filter-twice
 filter-twice = filtered-idem
@@ -85,7 +75,8 @@ module _ (es fs : List Entry) where
   unfolding byTurns
   byTurns-fixed ds =
       turns-step (length ds * 16) ds
-      (λ e. turns-fixed (length ds * 16) (once ds) (subst (λ (n : ℕ). Sets n (once ds)) (sym (length-once ds)) (once-sets ds)) (subst (λ (n : ℕ). size (once ds) ≤ n * 16) (length-once ds) (size-le (once ds))))
+      (λ e. turns-fixed (length ds * 16) (once ds) (subst (λ (n : ℕ). Sets n (once ds)) (sym (length-once ds)) (once-sets ds))
+      (subst (λ (n : ℕ). size (once ds) ≤ n * 16) (length-once ds) (size-le (once ds))))
 
   byTurns-inside : (ds : List ℕ) → Within (byTurns es fs ds) ds
   unfolding byTurns

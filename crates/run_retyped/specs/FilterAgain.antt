@@ -1,10 +1,7 @@
 -- Paper 02, #109, of what callers of `filter::filter` hold: a second call, a call with sets inside others, and calls by turns with two lists.
 -- proofs/FilterAgain has the theorems.
-use mathlib.Core.Path.{_≡_}
-use mathlib.Core.List.{List}
-use Prim.Native.Nat.{ℕ}
-use Rattle.filter.specs.FilterCalls.{CallFilter, ListsRight}
-use Rattle.filter.specs.declared.Answer.{Answer}
+use Rattle.model.specs.Kit.{_≡_, List, ℕ}
+use Rattle.filter.specs.{FilterCalls.CallFilter, FilterCalls.ListsRight, declared.Answer.Answer}
 use Rattle.run_retyped.specs.Retyped.{Within}
 
 -- two calls one after the other leave what one leaves, whatever the lists

@@ -1,11 +1,7 @@
 -- Retyped exchanges (paper 02, #109): two sheets that differ only in the order of their exchanges, both lent the same pairs and block.
 -- The proofs are in proofs/LentRetyped.antt.
-use mathlib.Core.Path.{_≡_}
-use mathlib.Core.Logic.{_↔_}
-use mathlib.Core.List.{List}
-use Prim.Native.Nat.{ℕ}
-use Rattle.model.specs.Verdict.{accepted}
-use Rattle.model.specs.Run.{Tally}
+use Rattle.model.specs.Kit.{_≡_, _↔_, List, ℕ}
+use Rattle.model.specs.{Verdict.accepted, Run.Tally}
 use Rattle.order.specs.RunBy.{setsBy}
 use Rattle.run_input.specs.Lent.{verdictLent, problemWith, orderLent, problemLent, answerLent, listLent, tallyLent}
 use Rattle.families.specs.Families.{Joined, familiesOf}

@@ -1,20 +1,9 @@
 -- Paper 02, #109: the filter applied again, to smaller sets, and by turns with another list; and problems and sheets that differ only
 -- in the order of their symmetries (the paper's exchanges). The proofs are in proofs/Turns.antt, proofs/SameSearch.antt and proofs/Retyped.antt.
-use mathlib.Core.Path.{_≡_}
-use mathlib.Core.Bool.{true, false}
-use mathlib.Core.Logic.{_↔_}
-use mathlib.Core.List.{List, map, List·Memᴰ, List·Permᴰ}
-use Prim.Native.Nat.{ℕ, zero, suc, _+_, _*_, _^_, _<_}
-use lib.ListN.{length, take, drop}
-use lib.Dec.{T}
-use Rattle.model.specs.Lists.{at, same, below}
-use Rattle.model.specs.ValueSets.{has}
-use Rattle.model.specs.Problem.{Problem}
-use Rattle.model.specs.Verdict.{accepted}
-use Rattle.model.specs.Sheet.{Header, headerOf, verdictOf}
-use Rattle.model.specs.Nogood.{Entry, filtered}
-use Rattle.model.specs.Search.{setsAt, isLive, isPlan, nodes}
-use Rattle.model.specs.Run.{resultOf}
+use Rattle.model.specs.Kit.{_≡_, true, false, _↔_, List, map, List·Memᴰ, ℕ, zero, suc, _+_, _*_, _^_, _<_, length, take, drop, T}
+use mathlib.Core.List.{List·Permᴰ}
+use Rattle.model.specs.{Lists.at, Lists.same, Lists.below, ValueSets.has, Problem.Problem, Verdict.accepted, Sheet.Header, Sheet.headerOf, Sheet.verdictOf, Nogood.Entry}
+use Rattle.model.specs.{Nogood.filtered, Search.setsAt, Search.isLive, Search.isPlan, Search.nodes, Run.resultOf}
 
 -- ---- the filter
 -- the sets ds lie inside the sets es

@@ -1,35 +1,21 @@
 -- The walk from the empty prefix comes to the run's end. Assumes nothing.
-use mathlib.Core.Path.{_≡_, refl, sym, ap, ap₂, _∙_, subst, subst₂}
-use mathlib.Core.Bool.{Bool, true, false}
-use mathlib.Core.List.{List, []}
-use Prim.Native.Nat.{ℕ, suc, _*_, _^_, _≤_, _<_}
+use Rattle.model.specs.Kit.{_≡_, refl, sym, ap, ap₂, _∙_, subst, subst₂, Bool, true, false, List, [], ℕ, suc, _*_, _^_, _≤_, _<_, arith, eqb, eqb-true, eqb-false, length}
 use native.Mathlib.Nat.{sub-zero}
-use native.Mathlib.Omega.{arith}
-use lib.Dec.{eqb}
-use borrow.Author.Tests.{eqb-true, eqb-false}
-use lib.ListN.{length}
-use Rattle.model.specs.Lists.{at}
-use Rattle.model.specs.Problem.{Problem}
-use Rattle.model.specs.Search.{isLive, nodes, nodesBelow}
-use Rattle.model.specs.Verdict.{accepted, refused}
-use Rattle.model.specs.Run.{finished, spent, full, ended, resultOf, Tally}
-use Rattle.model.specs.Run as Run
-use Rattle.model.specs.Sheet.{problemOf}
+use Rattle.model.specs.{Lists.at, Problem.Problem, Search.isLive, Search.nodes, Search.nodesBelow, Verdict.accepted, Verdict.refused, Run.finished, Run.spent, Run.full, Run.ended}
+use Rattle.model.specs.{Run.resultOf, Run.Tally, Sheet.problemOf}
 use Rattle.run_input.specs.Lent.{verdictLent, orderLent, problemLent}
-use Rattle.run_input.proofs.Lent.{passed-all, well-sheet, ordering-lent}
-use Rattle.arrays.specs.Places.{LIMIT, ROOM, PLANS, LAST, ALL, DEEPER, REFUSED, WANTED}
-use Rattle.run_state.specs.Walk.{noNodes, State, walk, stopIn}
-use Rattle.run_state.specs.Pair.{prefixOf, orderIn, Cleared, stateOf, ListRoom, AtPrefix, AtValues, Walked, tried}
-use Rattle.run_task.specs.Task.{roomFor}
-use Rattle.run_search.specs.Begun.{Begun, Ended}
-use Rattle.run_search.specs.Prepared.{bytesFor, Prepared}
-use Rattle.run_search.specs.Explored.{resultFor, RunTo, Explored}
-use Rattle.run_tree.proofs.Laws.{dead-below}
-use Rattle.run_state.proofs.Outcome.{outcome}
-use Rattle.run_tree.proofs.Turns.{values-ask, tried-all}
-use Rattle.run_state.proofs.Prefix.{prefix-zero}
-use Rattle.run_state.proofs.Walk.{none-summed}
+use Rattle.run_input.proofs.Lent.{well-sheet, ordering-lent}
+use Rattle.arrays.specs.inner.Places.{LIMIT, ROOM, PLANS, LAST, ALL, DEEPER, REFUSED, WANTED, DIAGONAL}
+use Rattle.run_state.specs.{Walk.noNodes, Walk.State, Walk.walk, Walk.stopIn, inner.Pair.prefixOf, inner.Pair.orderIn, inner.Pair.Cleared, inner.Pair.stateOf, inner.Pair.ListRoom}
+use Rattle.run_state.specs.inner.Pair.{AtPrefix, AtValues, Walked, tried}
+use Rattle.run_task.specs.inner.Task.{roomFor}
+use Rattle.run_search.specs.{inner.Begun.Begun, inner.Begun.Ended, inner.Prepared.bytesFor, inner.Prepared.Prepared, inner.Explored.resultFor, inner.Explored.RunTo}
+use Rattle.run_search.specs.inner.Explored.{Explored}
+use Rattle.run_tree.proofs.{Laws.dead-below, Turns.values-ask, Turns.tried-all}
+use Rattle.run_state.proofs.{Outcome.outcome, Prefix.prefix-zero, Walk.none-summed}
 use Rattle.run_search.proofs.Prepared.{room-fits, room-most, room-lent}
+use Rattle.model.proofs.Accepted.{is-accepted}
+use Rattle.model.specs.Run as Run
 
 abbrev zeroth : List ℕ → List ℕ → State
 zeroth last list = record { tally = noNodes; plans = 0; stop = ALL; list = list; last = last }
@@ -47,7 +33,7 @@ module _ (stack work supports tables numbers list : List ℕ) (step : ℕ) where
   pub ended-none : (step ≡ DEEPER → ⊥) → (tally : Tally) → Cleared tally → Ended stack work supports tables numbers list step stack work list tally step
   ended-none n tally t = record { none = λ z. (refl, t .is, refl, refl, refl); some = λ e. absurd (n e) }
 
-  module _ (e : step ≡ DEEPER) (tally : Tally) (none : Cleared tally) (values : ℕ) (all : values ≡ at stack (17 * 0)) where
+  module _ (e : step ≡ DEEPER) (tally : Tally) (none : Cleared tally) (values : ℕ) (all : values ≡ at stack (DIAGONAL * 0)) where
     pub tree-asks : (p : Problem) → AtPrefix p stack work supports tables numbers list noNodes 0 → AtValues p stack work supports tables numbers list tally 0 values
     tree-asks p g =
         subst (λ (t : Tally). AtValues p stack work supports tables numbers list t 0 values) (sym (none .is))
@@ -58,17 +44,19 @@ module _ (stack work supports tables numbers list : List ℕ) (step : ℕ) where
         Ended stack work supports tables numbers list step stack′ work′ list′ tally′ stop
     ended-some stack′ work′ list′ tally′ stop w = record {
       none = λ n. absurd (n e);
-      some = λ z p g. subst (λ (t : Tally). Walked p (tried p work 0 (at stack (17 * 0))) stack work numbers list t 0 stack′ work′ list′ tally′ stop) (none .is)
+      some = λ z p g. subst (λ (t : Tally). Walked p (tried p work 0 (at stack (DIAGONAL * 0))) stack work numbers list t 0 stack′ work′ list′ tally′ stop) (none .is)
           (subst (λ (m : ℕ). Walked p (tried p work 0 m) stack work numbers list tally 0 stack′ work′ list′ tally′ stop) all (w p (tree-asks p g)));
     }
 
 -- ---- a walk along all nodes of a problem, from nothing counted and nothing listed, is its run
-module _ (p : Problem) (order : List ℕ) (sized : length order ≡ p .variables) (limit room bytes : ℕ) (list : List ℕ) (fits : room * p .variables ≤ bytes) (most : bytes < suc room * p .variables) (same : (length list ≡ 0 → ⊥) → bytes ≡ length list) (work : List ℕ) (begun : at work PLANS ≡ 0) where
+module _ (p : Problem) (order : List ℕ) (sized : length order ≡ p .variables) (limit room bytes : ℕ) (list : List ℕ) (fits : room * p .variables ≤ bytes) (most : bytes < suc room * p .variables)
+    (same : (length list ≡ 0 → ⊥) → bytes ≡ length list) (work : List ℕ) (begun : at work PLANS ≡ 0) where
   -- the last node made before, which no run has
   abbrev before : List ℕ
   before = prefixOf work (at work LAST)
 
-  run-to : (work′ list′ : List ℕ) (tally′ : Tally) (stop : ℕ) → stateOf tally′ work′ stop list′ ≡ walk p order limit room (nodes p) (zeroth before list) → RunTo p order (resultOf p limit bytes) list work′ list′ tally′ stop
+  run-to : (work′ list′ : List ℕ) (tally′ : Tally) (stop : ℕ) → stateOf tally′ work′ stop list′ ≡ walk p order limit room (nodes p) (zeroth before list) → RunTo p order
+      (resultOf p limit bytes) list work′ list′ tally′ stop
   run-to work′ list′ tally′ stop h =
       let s = h ∙ outcome p order sized limit room bytes list before fits most same in
       record {
@@ -85,19 +73,24 @@ module _ (p : Problem) (order : List ℕ) (sized : length order ≡ p .variables
       ∙ ap (λ (k : ℕ). record { tally = noNodes; plans = 0; stop = k; list = list; last = before }) s
       ∙ sym (ap (λ (ts : List (List ℕ)). walk p order limit room ts (zeroth before list)) (dead-below p (p .variables) [] d)))
 
-  module _ (stack supports tables numbers : List ℕ) (count : Tally) (none : count ≡ noNodes) (given : AtPrefix p stack work supports tables numbers list count 0) (bounded : at numbers LIMIT ≡ limit) (roomy : at numbers ROOM ≡ room) (ordered : orderIn numbers (p .variables) ≡ order) (values : ℕ) (all : values ≡ at stack (17 * 0)) where
-    pub ran-walked : (stack′ work′ list′ : List ℕ) (tally′ : Tally) (stop : ℕ) → Walked p (tried p work 0 values) stack work numbers list count 0 stack′ work′ list′ tally′ stop → RunTo p order (resultOf p limit bytes) list work′ list′ tally′ stop
+  module _ (stack supports tables numbers : List ℕ) (count : Tally) (none : count ≡ noNodes) (given : AtPrefix p stack work supports tables numbers list count 0)
+      (bounded : at numbers LIMIT ≡ limit) (roomy : at numbers ROOM ≡ room) (ordered : orderIn numbers (p .variables) ≡ order) (values : ℕ) (all : values ≡ at stack (DIAGONAL * 0)) where
+    pub ran-walked : (stack′ work′ list′ : List ℕ) (tally′ : Tally) (stop : ℕ) → Walked p (tried p work 0 values) stack work numbers list count 0 stack′ work′ list′ tally′ stop → RunTo p order
+        (resultOf p limit bytes) list work′ list′ tally′ stop
     unfolding nodes
     ran-walked stack′ work′ list′ tally′ stop w = run-to work′ list′ tally′ stop
         (w .state
         ∙ ap₂ (λ (k : ℕ) (ts : List (List ℕ)). walk p (orderIn numbers (p .variables)) k (at numbers ROOM) ts (stateOf count work ALL list)) bounded
         (ap (tried p work 0) all ∙ tried-all p stack work supports tables numbers list count 0 given ∙ ap₂ (nodesBelow p) (sub-zero (p .variables)) (prefix-zero work))
-        ∙ ap₂ (λ (a : Tally) (k : ℕ). walk p (orderIn numbers (p .variables)) limit (at numbers ROOM) (nodesBelow p (p .variables) []) (record { tally = a; plans = k; stop = ALL; list = list; last = before })) none begun
+        ∙ ap₂ (λ (a : Tally) (k : ℕ). walk p (orderIn numbers (p .variables)) limit (at numbers ROOM) (nodesBelow p (p .variables) [])
+        (record { tally = a; plans = k; stop = ALL; list = list; last = before })) none begun
         ∙ ap₂ (λ (o : List ℕ) (k : ℕ). walk p o limit k (nodesBelow p (p .variables) []) (zeroth before list)) ordered roomy)
 
   -- by `begin` and `walk_tree`: p was begun with this limit and room
-  pub ran-tree : (numbers₀ stack supports tables numbers : List ℕ) (step : ℕ) (work₀ : List ℕ) → Begun p order numbers₀ work₀ stack work supports tables numbers step → at numbers₀ LIMIT ≡ limit → at numbers₀ ROOM ≡ room → limit < 2 ^ 32 → ListRoom (p .variables) room list 0 →
-      at work₀ PLANS ≡ 0 → (stack′ work′ list′ : List ℕ) (tally′ : Tally) (stop : ℕ) → Ended stack work supports tables numbers list step stack′ work′ list′ tally′ stop → RunTo p order (resultOf p limit bytes) list work′ list′ tally′ stop
+  pub ran-tree : (numbers₀ stack supports tables numbers : List ℕ) (step : ℕ) (work₀ : List ℕ) → Begun p order numbers₀ work₀ stack work supports tables numbers step → at numbers₀ LIMIT ≡ limit
+      → at numbers₀ ROOM ≡ room → limit < 2 ^ 32 → ListRoom (p .variables) room list 0 →
+      at work₀ PLANS ≡ 0 → (stack′ work′ list′ : List ℕ) (tally′ : Tally) (stop : ℕ) → Ended stack work supports tables numbers list step stack′ work′ list′ tally′ stop → RunTo p order
+      (resultOf p limit bytes) list work′ list′ tally′ stop
   ran-tree numbers₀ stack supports tables numbers step work₀ h l m small roomy none stack′ work′ list′ tally′ stop q = go (eqb step DEEPER) refl
     where
       Ran : List ℕ → List ℕ → Type 0
@@ -107,7 +100,8 @@ module _ (p : Problem) (order : List ℕ) (sized : length order ≡ p .variables
       go true c =
           let e = eqb-true step DEEPER c in
           let g = h .live e (subst (λ (k : ℕ). k < 2 ^ 32) (sym l) small) list (subst₂ (λ (r k : ℕ). ListRoom (p .variables) r list k) (sym m) (sym none) roomy) in
-          ran-walked stack supports tables numbers noNodes refl g (h .first LIMIT (omega arith) ∙ l) (h .first ROOM (omega arith) ∙ m) (h .order-is) (at stack (17 * 0)) refl stack′ work′ list′ tally′ stop (q .some e p g)
+          ran-walked stack supports tables numbers noNodes refl g (h .first LIMIT (omega arith) ∙ l) (h .first ROOM (omega arith) ∙ m) (h .order-is)
+          (at stack (DIAGONAL * 0)) refl stack′ work′ list′ tally′ stop (q .some e p g)
       go false c =
           let n = eqb-false step DEEPER c in
           let o = q .none n in
@@ -119,7 +113,8 @@ module _ (p : Problem) (order : List ℕ) (sized : length order ≡ p .variables
           is-all false c n = absurd (n (h .known (eqb-false step ALL c)))
 
 -- ---- the search of a lending
-module _ (task b pairs block : List ℕ) (limit : ℕ) (list stack work supports tables numbers : List ℕ) (step : ℕ) (unlisted : (at task WANTED ≡ 0 → ⊥) → length list ≡ 0) (h : Prepared task b pairs block limit (length list) stack work supports tables numbers step) where
+module _ (task b pairs block : List ℕ) (limit : ℕ) (list stack work supports tables numbers : List ℕ) (step : ℕ) (unlisted : (at task WANTED ≡ 0 → ⊥) → length list ≡ 0)
+    (h : Prepared task b pairs block limit (length list) stack work supports tables numbers step) where
   pub explored-refused : (tally : Tally) (stop : ℕ) → step ≡ REFUSED → stop ≡ REFUSED → Explored task b pairs block limit list tally work list tally stop
   explored-refused tally stop e s = record {
     refused = λ z. (h .refused e, refl, refl);
@@ -139,10 +134,10 @@ module _ (task b pairs block : List ℕ) (limit : ℕ) (list stack work supports
   n = problemOf b .variables
 
   sized : (step ≡ REFUSED → ⊥) → length by ≡ tree .variables
-  sized z = ordering-lent b pairs block (passed-all (verdictLent b pairs block) (h .accepted z)) .sized
+  sized z = ordering-lent b pairs block (is-accepted (verdictLent b pairs block) (h .accepted z)) .sized
 
   some : (step ≡ REFUSED → ⊥) → 0 < problemOf b .variables
-  some z = well-sheet b pairs block (passed-all (verdictLent b pairs block) (h .accepted z)) .some
+  some z = well-sheet b pairs block (is-accepted (verdictLent b pairs block) (h .accepted z)) .some
 
   abbrev w : ℕ
   w = at task WANTED
@@ -153,12 +148,13 @@ module _ (task b pairs block : List ℕ) (limit : ℕ) (list stack work supports
       record {
         refused = λ z. absurd (omega arith);
         accepted = λ y. h .accepted z;
-        ended = λ y. ran-dead tree by (sized z) limit (roomFor w n (length list)) (bytesFor w n (length list)) list (room-fits w n (length list) (some z)) (room-most w n (length list) (some z)) (room-lent w n (length list) unlisted) work (h .begun z) (h .dead e) tally′ stop (t .is) s;
+        ended = λ y. ran-dead tree by (sized z) limit (roomFor w n (length list)) (bytesFor w n (length list)) list (room-fits w n (length list) (some z)) (room-most w n (length list) (some z))
+            (room-lent w n (length list) unlisted) work (h .begun z) (h .dead e) tally′ stop (t .is) s;
         summed = λ z. t .summed;
         known = λ z. omega arith;
       }
 
-  module _ (e : step ≡ DEEPER) (count : Tally) (none : Cleared count) (values : ℕ) (all : values ≡ at stack (17 * 0)) where
+  module _ (e : step ≡ DEEPER) (count : Tally) (none : Cleared count) (values : ℕ) (all : values ≡ at stack (DIAGONAL * 0)) where
     abbrev given : AtPrefix tree stack work supports tables numbers list count 0
     given = subst (λ (t : Tally). AtPrefix tree stack work supports tables numbers list t 0) (sym (none .is)) (h .live e list refl)
 
@@ -169,7 +165,8 @@ module _ (task b pairs block : List ℕ) (limit : ℕ) (list stack work supports
       abbrev ended-so : RunTo tree by (resultFor task b pairs block limit (length list)) list work′ list′ tally′ stop
       ended-so =
           let z : step ≡ REFUSED → ⊥ = λ f. omega arith in
-          ran-walked tree by (sized z) limit (roomFor w n (length list)) (bytesFor w n (length list)) list (room-fits w n (length list) (some z)) (room-most w n (length list) (some z)) (room-lent w n (length list) unlisted) work (h .begun z)
+          ran-walked tree by (sized z) limit (roomFor w n (length list)) (bytesFor w n (length list)) list (room-fits w n (length list) (some z)) (room-most w n (length list) (some z))
+          (room-lent w n (length list) unlisted) work (h .begun z)
           stack supports tables numbers count (none .is) given (h .bounded e) (h .roomy e) (h .order e) values all stack′ work′ list′ tally′ stop q
 
       stop-known : stop < DEEPER
@@ -185,14 +182,15 @@ module _ (task b pairs block : List ℕ) (limit : ℕ) (list stack work supports
       }
 
   -- by `walk_tree`
-  pub explored-tree : (tally : Tally) (stack′ work′ list′ : List ℕ) (tally′ : Tally) (stop : ℕ) → Ended stack work supports tables numbers list step stack′ work′ list′ tally′ stop → tally ≡ noNodes → Explored task b pairs block limit list tally work′ list′ tally′ stop
+  pub explored-tree : (tally : Tally) (stack′ work′ list′ : List ℕ) (tally′ : Tally) (stop : ℕ) → Ended stack work supports tables numbers list step stack′ work′ list′ tally′ stop
+      → tally ≡ noNodes → Explored task b pairs block limit list tally work′ list′ tally′ stop
   explored-tree tally stack′ work′ list′ tally′ stop q t = go (eqb step DEEPER) refl
     where
       Left : List ℕ → List ℕ → Tally → Type 0
       Left x y u = Explored task b pairs block limit list tally x y u stop
 
       go : (c : Bool) → eqb step DEEPER ≡ c → Explored task b pairs block limit list tally work′ list′ tally′ stop
-      go true c = let e = eqb-true step DEEPER c in explored e noNodes none-cleared (at stack (17 * 0)) refl tally stack′ work′ list′ tally′ stop (q .some e tree (h .live e list refl))
+      go true c = let e = eqb-true step DEEPER c in explored e noNodes none-cleared (at stack (DIAGONAL * 0)) refl tally stack′ work′ list′ tally′ stop (q .some e tree (h .live e list refl))
       go false c =
           let o = q .none (eqb-false step DEEPER c) in
           subst₂ (λ (x y : List ℕ). Left x y tally′) (sym (o .3)) (sym (o .4)) (subst (Left work list) (sym (o .1)) (other (eqb step REFUSED) refl))

@@ -1,35 +1,22 @@
 -- What is made of an accepted lending before the search. Assumes nothing.
-use mathlib.Core.Path.{_≡_, refl, sym, ap, ap₂, _∙_, subst, subst₂}
-use mathlib.Core.Bool.{Bool, true, false}
-use mathlib.Core.List.{List}
-use Prim.Native.Nat.{ℕ, suc, _-_, _*_, _/_, _%_, _^_, _≤_, _<_}
+use Rattle.model.specs.Kit.{_≡_, refl, sym, ap, ap₂, _∙_, subst, subst₂, Bool, true, false, List, ℕ, suc, _-_, _*_, _/_, _%_, _^_, _≤_, _<_, arith, T, eqb, eqb-false, length, set}
+use Rattle.model.specs.Kit.{length-set}
 use native.Mathlib.Nat.{div-add-mod', mod-lt}
-use native.Mathlib.Omega.{arith}
-use lib.Dec.{T, eqb}
-use borrow.Author.Tests.{eqb-false}
-use lib.ListN.{length, set, length-set}
-use Rattle.model.specs.Lists.{at, choose}
-use Rattle.model.specs.Problem.{Problem, withSymmetries}
-use Rattle.model.specs.Verdict.{accepted, refused, isAccepted}
-use Rattle.model.specs.Filling.{Gathered}
+use Rattle.model.specs.{Lists.at, Lists.choose, Problem.Problem, Problem.withSymmetries, Verdict.accepted, Verdict.refused, Verdict.isAccepted, inner.Filling.Gathered}
 use Rattle.model.specs.Sheet.{problemOf}
-use Rattle.model.proofs.Lists.{at-set, at-set-other}
+use Rattle.model.proofs.{Lists.at-set, Lists.at-set-other, Accepted.is-accepted}
 use Rattle.order.specs.Reordered.{reordered}
 use Rattle.block.specs.Block.{inLent}
-use Rattle.run_input.specs.Lent.{verdictLent, orderLent, problemLent}
-use Rattle.run_input.specs.Compile.{WithinLimits, CompiledLent}
-use Rattle.run_input.proofs.Lent.{passed-all}
+use Rattle.run_input.specs.{Lent.verdictLent, Lent.orderLent, Lent.problemLent, inner.Compile.WithinLimits, inner.Compile.CompiledLent}
 use Rattle.run_input.proofs.Blocked.{own-first, block-walked, block-inside}
-use Rattle.arrays.specs.Places.{VARIABLES, LIMIT, ROOM, PLANS, NUMBER, ITEM, REFUSED, NUMBERS, WORK, WANTED}
-use Rattle.arrays.specs.Layout.{Compiled}
-use Rattle.sheet.specs.Meaning as S
-use Rattle.sheet.specs.declared.Answer.{Answer as Verdicts}
-use Rattle.sheet.specs.declared.Answer.the-variants.{Accepted}
-use Rattle.run_state.specs.Pair.{ListRoom}
-use Rattle.run_task.specs.Task.{roomFor}
-use Rattle.run_search.specs.Begun.{Laid, Begun}
-use Rattle.run_search.specs.Prepared.{bytesFor, Prepared}
+use Rattle.arrays.specs.inner.Places.{VARIABLES, LIMIT, ROOM, PLANS, NUMBER, ITEM, REFUSED, NUMBERS, WORK, WANTED}
+use Rattle.arrays.specs.inner.Layout.{Compiled}
+use Rattle.sheet.specs.{declared.Answer.Answer as Verdicts, declared.Answer.the-variants.Accepted}
+use Rattle.run_state.specs.inner.Pair.{ListRoom}
+use Rattle.run_task.specs.inner.Task.{roomFor}
+use Rattle.run_search.specs.{inner.Begun.Laid, inner.Begun.Begun, inner.Prepared.bytesFor, inner.Prepared.Prepared}
 use Rattle.run_search.proofs.Begun.{numbers-kept}
+use Rattle.sheet.specs.Meaning as S
 
 -- `compile` has answered, and no question with "no"
 module _ (b pairs block : List ℕ) (numbers supports images bytes : List ℕ) (r : Verdicts) (left : CompiledLent b pairs block numbers supports images bytes r) (is : r ≡ Accepted) where
@@ -52,7 +39,7 @@ module _ (b pairs block : List ℕ) (numbers supports images bytes : List ℕ) (
   few-variables = let e = h₀ .numbered .variables in let f = fits₀ .wellFormed .few in omega arith
 
   good : T (isAccepted (verdictLent b pairs block))
-  good = passed-all (verdictLent b pairs block) accepts
+  good = is-accepted (verdictLent b pairs block) accepts
 
   module _ (limit room : ℕ) (bounded : List ℕ) (put : bounded ≡ set (set numbers LIMIT limit) ROOM room) where
     kept₀ : (i : ℕ) → i < 68 → at bounded i ≡ at numbers i
@@ -62,7 +49,8 @@ module _ (b pairs block : List ℕ) (numbers supports images bytes : List ℕ) (
     long-bounded = ap length put ∙ length-set (set numbers LIMIT limit) ROOM room ∙ length-set numbers LIMIT limit ∙ left .sizes is .numbers-length
 
     pub at-limit : at bounded LIMIT ≡ limit
-    at-limit = ap (λ (l : List ℕ). at l LIMIT) put ∙ at-set-other (set numbers LIMIT limit) ROOM room LIMIT (λ e. omega arith) ∙ at-set numbers LIMIT limit (let e = left .sizes is .numbers-length in omega arith)
+    at-limit = ap (λ (l : List ℕ). at l LIMIT) put ∙ at-set-other (set numbers LIMIT limit) ROOM room LIMIT (λ e. omega arith) ∙ at-set numbers LIMIT limit
+        (let e = left .sizes is .numbers-length in omega arith)
 
     pub at-room : at bounded ROOM ≡ room
     at-room = ap (λ (l : List ℕ). at l ROOM) put ∙ at-set (set numbers LIMIT limit) ROOM room (let l = length-set numbers LIMIT limit in let e = left .sizes is .numbers-length in omega arith)
@@ -71,9 +59,11 @@ module _ (b pairs block : List ℕ) (numbers supports images bytes : List ℕ) (
     compiled₀ = record { numbered = numbers-kept sheets numbers bounded (fits₀ .wellFormed .few) (fits₀ .constraints) kept₀ (h₀ .numbered); supported = h₀ .supported; imaged = h₀ .imaged }
 
     -- what stands in the arrays then
-    pub laid : (positions : ℕ) → Gathered (λ i. inLent block (at bytes i)) (at numbers VARIABLES) positions → Laid (problemLent b pairs block) sheets (orderLent b pairs) bounded supports images bytes positions
+    pub laid : (positions : ℕ) → Gathered (λ i. inLent block (at bytes i)) (at numbers VARIABLES) positions → Laid (problemLent b pairs block) sheets
+        (orderLent b pairs) bounded supports images bytes positions
     laid positions found =
-        let g : Gathered (λ i. inLent block (at bytes i)) (problemOf b .variables) positions = subst (λ (n : ℕ). Gathered (λ i. inLent block (at bytes i)) n positions) (h₀ .numbered .variables) found in
+        let g : Gathered (λ i. inLent block (at bytes i)) (problemOf b .variables) positions = subst (λ (n : ℕ). Gathered (λ i. inLent block (at bytes i)) n positions)
+        (h₀ .numbered .variables) found in
         record {
           compiled = compiled₀;
           limits = fits₀;
@@ -109,8 +99,10 @@ room-lent wanted n size u o = go (eqb wanted 0) refl
     go false e = absurd (o (u (eqb-false wanted 0 e)))
 
 -- all that the search reads is made of an accepted lending
-module _ (b pairs block : List ℕ) (numbers supports images bytes : List ℕ) (r : Verdicts) (left : CompiledLent b pairs block numbers supports images bytes r) (is : r ≡ Accepted) (limit : ℕ) (small : limit < 2 ^ 32) (task : List ℕ) (size room : ℕ)
-    (rooms : room ≡ roomFor (at task WANTED) (at numbers VARIABLES) size) (narrow : room < 2 ^ 64) (unlisted : (at task WANTED ≡ 0 → ⊥) → size ≡ 0) (bounded : List ℕ) (put : bounded ≡ set (set numbers LIMIT limit) ROOM room) (none : at task PLANS ≡ 0) where
+module _ (b pairs block : List ℕ) (numbers supports images bytes : List ℕ) (r : Verdicts) (left : CompiledLent b pairs block numbers supports images bytes r) (is : r ≡ Accepted) (limit : ℕ)
+    (small : limit < 2 ^ 32) (task : List ℕ) (size room : ℕ)
+    (rooms : room ≡ roomFor (at task WANTED) (at numbers VARIABLES) size) (narrow : room < 2 ^ 64) (unlisted : (at task WANTED ≡ 0 → ⊥) → size ≡ 0) (bounded : List ℕ)
+    (put : bounded ≡ set (set numbers LIMIT limit) ROOM room) (none : at task PLANS ≡ 0) where
   abbrev n : ℕ
   n = problemOf b .variables
 
@@ -134,7 +126,8 @@ module _ (b pairs block : List ℕ) (numbers supports images bytes : List ℕ) (
   room-is : at bounded ROOM ≡ room
   room-is = at-room b pairs block numbers supports images bytes r left is limit room bounded put
 
-  pub prepared : (stack′ work′ tables′ numbers′ : List ℕ) (step : ℕ) → Begun (problemLent b pairs block) (orderLent b pairs) bounded task stack′ work′ supports tables′ numbers′ step → Prepared task b pairs block limit size stack′ work′ supports tables′ numbers′ step
+  pub prepared : (stack′ work′ tables′ numbers′ : List ℕ) (step : ℕ) → Begun (problemLent b pairs block) (orderLent b pairs) bounded task stack′ work′ supports tables′ numbers′ step
+      → Prepared task b pairs block limit size stack′ work′ supports tables′ numbers′ step
   prepared stack′ work′ tables′ numbers′ step h = record {
     refused = λ z. absurd (step-known z);
     accepted = λ z. accepts b pairs block numbers supports images bytes r left is;
@@ -150,7 +143,8 @@ module _ (b pairs block : List ℕ) (numbers supports images bytes : List ℕ) (
       step-known : step ≡ REFUSED → ⊥
       step-known z = let y = h .known (λ e. omega arith) in omega arith
 
-pub prepared-refused : (task b pairs block : List ℕ) (limit size number item : ℕ) (stack work supports tables numbers : List ℕ) → verdictLent b pairs block ≡ refused number item → number < 2 ^ 8 → length work ≡ WORK →
+pub prepared-refused : (task b pairs block : List ℕ) (limit size number item : ℕ) (stack work supports tables numbers : List ℕ) → verdictLent b pairs block ≡ refused number item → number < 2 ^ 8
+    → length work ≡ WORK →
     Prepared task b pairs block limit size stack (set (set work NUMBER number) ITEM item) supports tables numbers REFUSED
 prepared-refused task b pairs block limit size number item stack work supports tables numbers v small long =
     let l = length-set work NUMBER number in

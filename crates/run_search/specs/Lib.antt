@@ -1,4 +1,2 @@
 -- What is made of a compiled problem and of a lending before the search, and what the search leaves.
-pub mod Begun
-pub mod Prepared
-pub mod Explored
+pub mod inner

@@ -19,13 +19,13 @@ ghost use mathlib.Core.List.{List};
 ghost use Prim.Native.Nat.{ℕ};
 ghost use lib.ListN.{length};
 ghost use Rattle.model.specs.Problem.{Problem};
-ghost use Rattle.arrays.specs.Places.{DEEPER};
+ghost use Rattle.arrays.specs.inner.Places.{DEEPER};
 ghost use Rattle.run_state.specs.Walk.{noNodes};
-ghost use Rattle.run_state.specs.Pair.{AtPrefix};
+ghost use Rattle.run_state.specs.inner.Pair.{AtPrefix};
 ghost use Rattle.run_state.specs.Meaning.{tallyIn};
-ghost use Rattle.run_search.specs.Begun.{Laid, Writable, Begun, Ended};
-ghost use Rattle.run_search.specs.Prepared.{Blank, Prepared};
-ghost use Rattle.run_search.specs.Explored.{Explored};
+ghost use Rattle.run_search.specs.inner.Begun.{Laid, Writable, Begun, Ended};
+ghost use Rattle.run_search.specs.inner.Prepared.{Blank, Prepared};
+ghost use Rattle.run_search.specs.inner.Explored.{Explored};
 
 // Makes all that the search reads of the compiled problem, whose limit and room stand among the numbers: ALL where the empty prefix is dead, else DEEPER.
 // `order` has the sheet's variable at each position, `positions` those of the block's variables.
@@ -39,12 +39,15 @@ pub fn begin(
     order: &[u8; 16],
     positions: u64,
 ) -> u8
-    requires { ⌜ ((p : Problem) × (own : Problem) × (by : List ℕ) × Laid p own by (now numbers) (now supports) (now images) (now order) positions) × Writable (now stack) (now work) (now tables) ⌝ }
-    ensures { λ r. ⌜ ((p own : Problem) (by : List ℕ) → Laid p own by (now (numbers .entry)) (now (supports .entry)) (now (images .entry)) (now (order .entry)) positions → Begun p by (now (numbers .entry)) (now (work .entry)) (now (stack .exit)) (now (work .exit)) (now (supports .entry)) (now (tables .exit)) (now (numbers .exit)) r) ⌝ }
+    requires { ⌜ ((p : Problem) × (own : Problem) × (by : List ℕ) × Laid p own by (now numbers) (now supports) (now images) (now order) positions)
+        × Writable (now stack) (now work) (now tables) ⌝ }
+    ensures { λ r. ⌜ ((p own : Problem) (by : List ℕ) → Laid p own by (now (numbers .entry)) (now (supports .entry)) (now (images .entry))
+        (now (order .entry)) positions → Begun p by (now (numbers .entry)) (now (work .entry)) (now (stack .exit)) (now (work .exit))
+        (now (supports .entry)) (now (tables .exit)) (now (numbers .exit)) r) ⌝ }
 {
-    arrays_tables::index(numbers, supports, images, tables);
     run_task::put_order(numbers, order);
     run_task::put_block(numbers, positions);
+    arrays_tables::index(numbers, supports, images, tables);
     if prune::root(stack, work, supports, tables, numbers) {
         ALL
     } else {
@@ -63,7 +66,8 @@ pub fn walk_tree(
     step: u8,
 ) -> CountedPart
     requires { ⌜ (step ≡ DEEPER → (p : Problem) × AtPrefix p (now stack) (now work) (now supports) (now tables) (now numbers) (now list) noNodes 0) ⌝ }
-    ensures { λ r. ⌜ Ended (now (stack .entry)) (now (work .entry)) (now (supports .entry)) (now (tables .entry)) (now (numbers .entry)) (now (list .entry)) step (now (stack .exit)) (now (work .exit)) (now (list .exit)) (tallyIn (r .tally)) (r .stop) ⌝ }
+    ensures { λ r. ⌜ Ended (now (stack .entry)) (now (work .entry)) (now (supports .entry)) (now (tables .entry)) (now (numbers .entry))
+        (now (list .entry)) step (now (stack .exit)) (now (work .exit)) (now (list .exit)) (tallyIn (r .tally)) (r .stop) ⌝ }
 {
     let tally = run_state::no_nodes();
     if step != DEEPER {
@@ -88,7 +92,8 @@ pub fn prepare(
     size: usize,
 ) -> u8
     requires { ⌜ Blank (now stack) (now work) (now supports) (now tables) (now numbers) size ⌝ }
-    ensures { λ r. ⌜ Prepared (now (work .entry)) (now (sheet .entry)) (now (pairs .entry)) (now (block .entry)) limit size (now (stack .exit)) (now (work .exit)) (now (supports .exit)) (now (tables .exit)) (now (numbers .exit)) r ⌝ }
+    ensures { λ r. ⌜ Prepared (now (work .entry)) (now (sheet .entry)) (now (pairs .entry)) (now (block .entry)) limit size (now (stack .exit))
+        (now (work .exit)) (now (supports .exit)) (now (tables .exit)) (now (numbers .exit)) r ⌝ }
 {
     let mut images = [0u8; IMAGES];
     let mut order = [0u8; 16];
@@ -141,7 +146,8 @@ pub fn explore(
     tally: &mut Tally,
 ) -> u8
     requires { ⌜ Blank (now stack) (now work) (now supports) (now tables) (now numbers) (length (now list)) ⌝ }
-    ensures { λ r. ⌜ Explored (now (work .entry)) (now (sheet .entry)) (now (pairs .entry)) (now (block .entry)) limit (now (list .entry)) (tallyIn (now (tally .entry))) (now (work .exit)) (now (list .exit)) (tallyIn (now (tally .exit))) r ⌝ }
+    ensures { λ r. ⌜ Explored (now (work .entry)) (now (sheet .entry)) (now (pairs .entry)) (now (block .entry)) limit (now (list .entry))
+        (tallyIn (now (tally .entry))) (now (work .exit)) (now (list .exit)) (tallyIn (now (tally .exit))) r ⌝ }
 {
     let step = prepare(
         stack,

@@ -1,17 +1,10 @@
 -- A plan that was found has room unless as many are listed as the list has room for. Assumes nothing.
-use mathlib.Core.Path.{_≡_, refl, sym, ap₂, _∙_}
-use mathlib.Core.List.{List}
-use Prim.Native.Nat.{ℕ, suc, _+_, _*_, _≤_}
-use native.Mathlib.Nat.{mul-le-mul-right}
-use native.Mathlib.Numerals.{add-one}
-use native.Mathlib.Omega.{arith}
-use lib.ListN.{length, set, length-set}
+use Rattle.model.specs.Kit.{_≡_, refl, sym, ap₂, _∙_, List, ℕ, suc, _+_, _*_, _≤_, mul-le-mul-right, add-one, arith, length, set, length-set}
 use Rattle.model.specs.Lists.{at}
 use Rattle.model.proofs.Lists.{at-set, at-set-other}
 use Rattle.order.specs.Reordered.{write}
-use Rattle.arrays.specs.Places.{PLANS, ALL, FULL, WORK}
-use Rattle.run_state.specs.Walk.{noted, listed}
-use Rattle.run_state.specs.Pair.{prefixOf, ListRoom, Listed}
+use Rattle.arrays.specs.inner.Places.{PLANS, ALL, FULL, WORK}
+use Rattle.run_state.specs.{Walk.noted, Walk.listed, inner.Pair.prefixOf, inner.Pair.ListRoom, inner.Pair.Listed}
 use Rattle.run_state.proofs.Walk.{listed-full, listed-kept}
 
 module _ (n room : ℕ) (list : List ℕ) (plans : ℕ) (h : ListRoom n room list plans) (e : plans ≡ room → ⊥) where

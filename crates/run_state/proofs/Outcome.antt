@@ -1,29 +1,16 @@
 -- A walk along nodes, from nothing counted and after rows that stand in the list, is model's `search`: it comes to that ending, the tally has the
 -- nodes made, counted in the order, the list the rows, written in the order, at its front and all bytes after them as they came, and the last node
 -- made is the last of them. Along the nodes of the tree it is the run. Assumes nothing.
-use mathlib.Core.Path.{_≡_, refl, sym, ap, ap₂, _∙_, subst}
-use mathlib.Core.Bool.{Bool, true, false}
-use mathlib.Core.List.{List, [], _∷_, _++_, map, append-nil}
-use Prim.Native.Nat.{ℕ, zero, suc, _+_, _-_, _*_, _≤_, _<_}
-use native.Mathlib.Nat.{mul-le-mul-right, sub-zero}
-use native.Mathlib.Decide.{decLt}
-use native.Mathlib.Numerals.{add-one}
-use native.Mathlib.Omega.{arith}
-use lib.Dec.{eqb, leb}
-use lib.ListN.{length, take, drop, length-append, length-drop}
+use Rattle.model.specs.Kit.{_≡_, refl, sym, ap, ap₂, _∙_, subst, Bool, true, false, List, [], _∷_, _++_, map, append-nil, ℕ, zero, suc, _+_, _-_, _*_, _≤_, _<_, mul-le-mul-right}
+use Rattle.model.specs.Kit.{decLt, add-one, arith, eqb, leb, length, take, drop, length-append, length-drop, leb-true, leb-false, eqb-true, eqb-false, eq-eqb, ne-eqb}
+use native.Mathlib.Nat.{sub-zero}
 use lib.Seq.{take-at, drop-append-add, drop-drop}
-use borrow.Author.Tests.{leb-true, leb-false, eqb-true, eqb-false, eq-eqb, ne-eqb}
-use Rattle.model.specs.Written.{placed}
-use Rattle.model.specs.Lists.{flat, keep, choose, tabulate, at}
-use Rattle.model.specs.Problem.{Problem}
-use Rattle.model.specs.Search.{isPlan, nodes}
-use Rattle.model.specs.Run.{spent, full, plansIn, nodesIn, Result, search, resultOf, written, Tally, settledBy, countsBy}
-use Rattle.model.proofs.Lists.{flat-append, map-append}
-use Rattle.model.proofs.Runs.{turn, search-turn}
-use Rattle.model.proofs.Tally.{counts-snoc}
+use Rattle.model.specs.{Written.placed, Lists.flat, Lists.keep, Lists.choose, Lists.tabulate, Lists.at, Problem.Problem, Search.isPlan, Search.nodes, Run.spent, Run.full}
+use Rattle.model.specs.Run.{plansIn, nodesIn, Result, search, resultOf, written, Tally, settledBy, countsBy}
+use Rattle.model.proofs.{Lists.flat-append, Lists.map-append, Runs.turn, Runs.search-turn, Tally.counts-snoc}
 use Rattle.order.specs.Reordered.{write}
 use Rattle.run_cut.specs.Parts.{lastOf}
-use Rattle.arrays.specs.Places.{ALL, SPENT, FULL}
+use Rattle.arrays.specs.inner.Places.{ALL, SPENT, FULL}
 use Rattle.run_state.specs.Walk.{withNode, noNodes, State, noted, kept, listed, counted, visit, walk, stopIn, tallyBy}
 use Rattle.run_state.proofs.Walk.{listed-full, listed-kept, noted-none, noted-over, visit-spent, visit-other, visit-plan, walk-stopped, length-write}
 
@@ -85,7 +72,8 @@ take-next {A} (suc k) (x ∷ l) a rest e = ap (λ (r : List A). x ∷ r) (take-n
 drop-next : {A : Type 0} (k : ℕ) (l : List A) (a : A) (rest : List A) → drop k l ≡ a ∷ rest → drop (suc k) l ≡ rest
 drop-next {A} k l a rest e = ap (λ (n : ℕ). drop n l) (sym (add-one k)) ∙ sym (drop-drop 1 k l) ∙ ap (drop 1) e
 
-module _ (p : Problem) (order : List ℕ) (sized : length order ≡ p .variables) (limit room bytes : ℕ) (out : List ℕ) (fits : room * p .variables ≤ bytes) (most : bytes < suc room * p .variables) (same : (length out ≡ 0 → ⊥) → bytes ≡ length out)
+module _ (p : Problem) (order : List ℕ) (sized : length order ≡ p .variables) (limit room bytes : ℕ) (out : List ℕ) (fits : room * p .variables ≤ bytes) (most : bytes < suc room * p .variables)
+    (same : (length out ≡ 0 → ⊥) → bytes ≡ length out)
     (all : List (List ℕ)) (path : List ℕ) (d : ℕ) where
   abbrev by : List (List ℕ) → List (List ℕ)
   by rows = map (write order) rows
@@ -118,7 +106,8 @@ module _ (p : Problem) (order : List ℕ) (sized : length order ≡ p .variables
   unfolding tallyBy
   nodes-by made = refl
 
-  walk-search : (ts : List (List ℕ)) (made so : ℕ) (rows : List (List ℕ)) → so ≡ made + d → drop made all ≡ ts → length (flat (by rows)) ≡ length rows * p .variables → length rows * p .variables ≤ bytes →
+  walk-search : (ts : List (List ℕ)) (made so : ℕ) (rows : List (List ℕ)) → so ≡ made + d → drop made all ≡ ts → length (flat (by rows)) ≡ length rows * p .variables
+      → length rows * p .variables ≤ bytes →
       walk p order limit room ts (from made rows) ≡ to (search p (limit + d) bytes ts so rows)
   unfolding walk search
   walk-search [] made so rows e g z h = ended-at made so e (length rows) ALL rows
@@ -192,7 +181,8 @@ module _ (p : Problem) (order : List ℕ) (sized : length order ≡ p .variables
           let q : suc (length rows) * p .variables ≡ length rows * p .variables + p .variables = omega arith in
           ap (walk p order limit room ts)
           (visit-plan p order limit room t s refl (due e) e′ ∙ ap (listed (p .variables) room (write order t)) next ∙ listed-kept (p .variables) room (write order t) _ (less l)
-          ∙ ap₂ (λ (k : ℕ) (l : List ℕ). record { tally = tallyBy order all (suc made); plans = k; stop = ALL; list = l; last = lastOf path (take (suc made) all) }) (sym g) (kept-snoc (by rows) (write order t) out (length rows * p .variables) z (λ o. let s = same o in omega arith) ∙ ap (λ (l : List (List ℕ)). kept l out) (sym m)))
+          ∙ ap₂ (λ (k : ℕ) (l : List ℕ). record { tally = tallyBy order all (suc made); plans = k; stop = ALL; list = l; last = lastOf path (take (suc made) all) }) (sym g)
+          (kept-snoc (by rows) (write order t) out (length rows * p .variables) z (λ o. let s = same o in omega arith) ∙ ap (λ (l : List (List ℕ)). kept l out) (sym m)))
           ∙ jh (f ∙ (omega arith) ∙ ap (λ (k : ℕ). k * p .variables) (sym g)) (subst (λ (k : ℕ). k * p .variables ≤ bytes) (sym g) l)
 
   -- along all the nodes, from nothing counted and rows that stand in the list
@@ -203,7 +193,7 @@ module _ (p : Problem) (order : List ℕ) (sized : length order ≡ p .variables
       ap (λ (l : List ℕ). walk p order limit room all (record { tally = noNodes; plans = length rows; stop = ALL; list = l; last = path })) (sym e)
       ∙ walk-search all 0 d rows (omega arith) refl z h
 
-nothing-kept : (out : List ℕ) → kept [] out ≡ out
+pub nothing-kept : (out : List ℕ) → kept [] out ≡ out
 unfolding kept written flat
 nothing-kept out = go (eqb (length out) 0)
   where
@@ -212,12 +202,20 @@ nothing-kept out = go (eqb (length out) 0)
     go false = refl
 
 -- the whole tree, from nothing counted and nothing listed
-module _ (p : Problem) (order : List ℕ) (sized : length order ≡ p .variables) (limit room bytes : ℕ) (out last : List ℕ) (fits : room * p .variables ≤ bytes) (most : bytes < suc room * p .variables) (same : (length out ≡ 0 → ⊥) → bytes ≡ length out) where
+module _ (p : Problem) (order : List ℕ) (sized : length order ≡ p .variables) (limit room bytes : ℕ) (out last : List ℕ) (fits : room * p .variables ≤ bytes)
+    (most : bytes < suc room * p .variables) (same : (length out ≡ 0 → ⊥) → bytes ≡ length out) where
   abbrev r : Result
   r = resultOf p limit bytes
 
   pub outcome : walk p order limit room (nodes p) (record { tally = noNodes; plans = 0; stop = ALL; list = out; last = last })
-      ≡ record { tally = tallyBy order (nodes p) (nodesIn (r .ending)); plans = plansIn (r .ending); stop = stopIn (r .ending); list = kept (map (write order) (r .rows)) out; last = lastOf last (take (nodesIn (r .ending)) (nodes p)) }
+      ≡ record {
+        tally = tallyBy order (nodes p) (nodesIn (r .ending));
+        plans = plansIn (r .ending);
+        stop = stopIn (r .ending);
+        list = kept (map (write order) (r .rows)) out;
+        last = lastOf last
+            (take (nodesIn (r .ending)) (nodes p));
+      }
   unfolding resultOf flat
   outcome =
       outcome-on p order sized limit room bytes out fits most same (nodes p) last 0 [] (omega arith) (omega arith) (nothing-kept out)

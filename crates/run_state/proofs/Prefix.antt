@@ -1,15 +1,11 @@
 -- Laws of the prefix in `work`: it has k values, goes by them alone, and grows by the next. Assumes nothing.
-use mathlib.Core.Path.{_≡_, refl, sym, ap, _∙_, subst}
-use mathlib.Core.List.{List, [], _∷_, _++_}
-use Prim.Native.Nat.{ℕ, suc, _+_, _≤_, _<_}
-use native.Mathlib.Numerals.{add-one}
-use native.Mathlib.Decide.{decLt}
-use native.Mathlib.Omega.{arith}
-use lib.ListN.{length, take, getD, length-append, List·getD-append}
-use lib.Seq.{length-take-le, getD-take, getD-at}
+use Rattle.model.specs.Kit.{_≡_, refl, sym, ap, _∙_, subst, List, [], _∷_, _++_, ℕ, suc, _+_, _≤_, _<_, add-one, decLt, arith, length, take, getD, length-append, length-take-le}
+use Rattle.model.specs.Kit.{getD-take}
+use lib.ListN.{List·getD-append}
+use lib.Seq.{getD-at}
 use Rattle.model.specs.Lists.{at, tabulate}
 use Rattle.model.proofs.Lists.{length-tabulate, at-tabulate, at-ext}
-use Rattle.run_state.specs.Pair.{prefixOf}
+use Rattle.run_state.specs.inner.Pair.{prefixOf}
 
 pub length-prefix : (work : List ℕ) (k : ℕ) → length (prefixOf work k) ≡ k
 unfolding prefixOf

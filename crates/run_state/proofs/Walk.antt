@@ -1,23 +1,10 @@
 -- Laws of the walk: it goes on where a first part of it left off, and a stopped run changes nothing. Assumes nothing.
-use mathlib.Core.Path.{_≡_, refl, sym, ap, _∙_, subst}
-use mathlib.Core.Bool.{Bool, true, false}
-use mathlib.Core.List.{List, [], _∷_, _++_}
-use Prim.Native.Nat.{ℕ, suc, _+_, _*_, _≤_, _<_}
-use native.Mathlib.Nat.{mul-le-mul-right}
-use native.Mathlib.Omega.{arith}
-use lib.Dec.{eqb, leb}
-use lib.ListN.{length, length-set, length-replicate}
-use borrow.Author.Tests.{leb-true, leb-false, eqb-true, eqb-false, eq-eqb, ne-eqb, le-leb, lt-leb}
-use Rattle.model.proofs.Written.{length-placed}
-use Rattle.model.specs.Written.{placed}
-use Rattle.model.specs.Lists.{at, total}
-use Rattle.model.specs.Problem.{Problem}
-use Rattle.model.specs.Search.{isPlan}
-use Rattle.model.specs.Run.{Tally, settledBy}
-use Rattle.model.proofs.Lists.{length-below}
-use Rattle.model.proofs.Tally.{total-set}
+use Rattle.model.specs.Kit.{_≡_, refl, sym, ap, _∙_, subst, Bool, true, false, List, [], _∷_, _++_, ℕ, suc, _+_, _*_, _≤_, _<_, mul-le-mul-right, arith, eqb, leb, length}
+use Rattle.model.specs.Kit.{length-set, length-replicate, leb-true, leb-false, eqb-true, eqb-false, eq-eqb, ne-eqb, le-leb, lt-leb}
+use Rattle.model.proofs.{Written.length-placed, Lists.length-below, Tally.total-set}
+use Rattle.model.specs.{Written.placed, Lists.at, Lists.total, Problem.Problem, Search.isPlan, Run.Tally, Run.settledBy}
 use Rattle.order.specs.Reordered.{position, write}
-use Rattle.arrays.specs.Places.{ALL, FULL}
+use Rattle.arrays.specs.inner.Places.{ALL, FULL}
 use Rattle.run_state.specs.Walk.{withNode, noNodes, Summed, State, noted, listed, counted, exhausted, visit, walk}
 
 pub length-write : (order r : List ℕ) → length (write order r) ≡ length order
@@ -63,7 +50,8 @@ module _ (p : Problem) (order : List ℕ) (limit room : ℕ) where
   unfolding visit
   visit-other t s g h e = rw (eq-eqb (s .stop) ALL g, ne-eqb (s .tally .nodes) limit h, e)
 
-  pub visit-plan : (t : List ℕ) (s : State) → s .stop ≡ ALL → (s .tally .nodes ≡ limit → ⊥) → isPlan p t ≡ true → visit p order limit room t s ≡ listed (p .variables) room (write order t) (counted (at order (settledBy t)) t s)
+  pub visit-plan : (t : List ℕ) (s : State) → s .stop ≡ ALL → (s .tally .nodes ≡ limit → ⊥) → isPlan p t ≡ true → visit p order limit room t s ≡ listed (p .variables) room (write order t)
+      (counted (at order (settledBy t)) t s)
   unfolding visit
   visit-plan t s g h e = rw (eq-eqb (s .stop) ALL g, ne-eqb (s .tally .nodes) limit h, e)
 

@@ -1,22 +1,12 @@
 -- A plan's bytes over a list, by variable number: one turn of `keep` for each variable in the order. Assumes nothing.
-use mathlib.Core.Path.{_≡_, refl, sym, ap, _∙_, subst}
-use mathlib.Core.List.{List}
-use Prim.Native.Nat.{ℕ, _+_, _-_, _≤_, _<_}
-use native.Mathlib.Nat.{not-suc-le-zero}
-use native.Mathlib.Decide.{decLt, ℕ-discrete}
-use native.Mathlib.Omega.{arith}
-use lib.ListN.{length, take, set, length-set}
-use lib.Seq.{length-take-le}
-use Rattle.model.proofs.Written.{length-placed, placed-before, placed-in, placed-after}
-use Rattle.model.specs.Written.{placed}
-use Rattle.model.specs.Lists.{at}
-use Rattle.model.proofs.Lists.{mem-at, at-set, at-set-other, at-ext, at-take, at-tabulate, at-below, length-tabulate}
-use Rattle.order.specs.Order.{Ordering}
-use Rattle.order.specs.Reordered.{position, write}
+use Rattle.model.specs.Kit.{_≡_, refl, sym, ap, _∙_, subst, List, ℕ, _+_, _-_, _≤_, _<_, not-suc-le-zero, decLt, ℕ-discrete, arith, length, take, set, length-set, length-take-le}
+use Rattle.model.proofs.{Written.length-placed, Written.placed-before, Written.placed-in, Written.placed-after, Lists.mem-at, Lists.at-set, Lists.at-set-other, Lists.at-ext}
+use Rattle.model.proofs.Lists.{at-take, at-tabulate, at-below, length-tabulate}
+use Rattle.model.specs.{Written.placed, Lists.at}
+use Rattle.order.specs.{Order.Ordering, Reordered.position, Reordered.write}
 use Rattle.order.proofs.Reordered.{position-e}
-use Rattle.run_state.specs.Pair.{prefixOf, settling, orderIn}
-use Rattle.run_state.proofs.Walk.{length-write}
-use Rattle.run_state.proofs.Prefix.{prefix-at}
+use Rattle.run_state.specs.inner.Pair.{prefixOf, settling, orderIn}
+use Rattle.run_state.proofs.{Walk.length-write, Prefix.prefix-at}
 
 -- ---- the order among the numbers
 pub order-at : (numbers : List ℕ) (n k : ℕ) → k < n → at (orderIn numbers n) k ≡ settling numbers k
@@ -56,7 +46,8 @@ module _ (start n : ℕ) (order work list : List ℕ) (o : Ordering n order) (fi
   }
     where
       go : (i : ℕ) → i < k + 1 → Dec (i ≡ k) → at (set list′ (start + at order k) (at work k)) (start + at order i) ≡ at work i
-      go i m (yes e) = subst (λ (j : ℕ). at (set list′ (start + at order k) (at work k)) (start + at order j) ≡ at work j) (sym e) (at-set list′ (start + at order k) (at work k) (omega (arith, place-inside k l, h .sized)))
+      go i m (yes e) = subst (λ (j : ℕ). at (set list′ (start + at order k) (at work k)) (start + at order j) ≡ at work j) (sym e)
+          (at-set list′ (start + at order k) (at work k) (omega (arith, place-inside k l, h .sized)))
       go i m (no e) =
           at-set-other list′ (start + at order k) (at work k) (start + at order i) (λ q. e (o .once i k (omega arith) l (omega arith))) ∙ h .put i (omega arith)
 

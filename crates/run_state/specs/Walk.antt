@@ -1,19 +1,11 @@
 -- A run as a walk along a list of nodes (paper 01, "The search"): what each node does to the tally and to the caller's list.
 -- The search goes down the tree and takes one step for each node; proofs/Walk has the laws that join the steps, and proofs/Outcome says that
 -- the walk along all nodes of the tree is the run of model's `search`.
-use mathlib.Core.Path.{_≡_}
-use mathlib.Core.List.{List, [], _∷_, _++_, map}
-use Prim.Native.Nat.{ℕ, suc, _+_, _*_}
-use lib.ListN.{length, take, set, replicate}
-use lib.Dec.{leb, eqb}
-use Rattle.model.specs.Written.{placed}
-use Rattle.model.specs.Lists.{flat, choose, at, total}
-use Rattle.model.specs.ValueSets.{members}
-use Rattle.model.specs.Problem.{Problem}
-use Rattle.model.specs.Search.{isPlan, nodesBelow}
-use Rattle.model.specs.Run.{Ending, finished, spent, full, written, Tally, settledBy, countsBy}
+use Rattle.model.specs.Kit.{_≡_, List, [], _∷_, _++_, map, ℕ, suc, _+_, _*_, length, take, set, replicate, leb, eqb}
+use Rattle.model.specs.{Written.placed, Lists.flat, Lists.choose, Lists.at, Lists.total, ValueSets.members, Problem.Problem, Search.isPlan, Search.nodesBelow, Run.Ending}
+use Rattle.model.specs.Run.{finished, spent, full, written, Tally, settledBy, countsBy}
 use Rattle.order.specs.Reordered.{write}
-use Rattle.arrays.specs.Places.{ALL, SPENT, FULL}
+use Rattle.arrays.specs.inner.Places.{ALL, SPENT, FULL}
 
 -- one node more, which settles variable x
 abbrev pub withNode : ℕ → Tally → Tally

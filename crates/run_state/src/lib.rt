@@ -1,5 +1,6 @@
 // A run as a walk along the nodes of the tree (paper 01, "The search"): its tally, its list, and what it reads of the arrays.
 use arrays::ALL;
+use arrays::DIAGONAL;
 use arrays::FULL;
 use arrays::LIMIT;
 use arrays::Numbers;
@@ -18,10 +19,11 @@ ghost use Rattle.model.specs.Lists.{at};
 ghost use Rattle.model.specs.ValueSets.{withoutMask, lowestOf};
 ghost use Rattle.order.specs.Order.{Ordering};
 ghost use Rattle.order.specs.Reordered.{write};
-ghost use Rattle.arrays.specs.Places.{VARIABLES, LIMIT, ROOM, PLANS, WORK};
+ghost use Rattle.arrays.specs.inner.Places.{VARIABLES, LIMIT, ROOM, PLANS, WORK};
+ghost use Rattle.arrays.specs.inner.Places.{DIAGONAL};
 ghost use Rattle.run_state.specs.Walk.{noted};
-ghost use Rattle.run_state.specs.Pair.{prefixOf, settling, orderIn, Countable, Counted, Cleared, ListRoom, Listed};
-ghost use Rattle.loans.specs.Slices.{SameSlice};
+ghost use Rattle.run_state.specs.inner.Pair.{prefixOf, settling, orderIn, Countable, Counted, Cleared, ListRoom, Listed};
+ghost use Rattle.loans.specs.inner.Slices.{SameSlice};
 ghost use Rattle.run_state.specs.Meaning.{tallyIn};
 
 // How a run ends; each ending carries the plans listed and the nodes made.
@@ -87,8 +89,12 @@ fn keep(list: &mut [u8], work: &[u64], numbers: &Numbers, n: usize, start: usize
 // Lists the plan after so many others; a list of no byte stays as it is.
 fn note(list: &mut [u8], work: &[u64], numbers: &Numbers, plans: usize)
     requires { ⌜ ListRoom (at (now numbers) VARIABLES) (at (now numbers) ROOM) (now list) plans × (plans ≡ at (now numbers) ROOM → ⊥) ⌝ }
-    requires { ⌜ (at (now numbers) VARIABLES ≤ 12) × (at (now numbers) VARIABLES ≤ length (now work)) × ((i : ℕ) → i < at (now numbers) VARIABLES → at (now work) i < 256) × Ordering (at (now numbers) VARIABLES) (orderIn (now numbers) (at (now numbers) VARIABLES)) ⌝ }
-    ensures { λ _. ⌜ now (list .exit) ≡ noted (plans * at (now (numbers .entry)) VARIABLES) (write (orderIn (now (numbers .entry)) (at (now (numbers .entry)) VARIABLES)) (prefixOf (now (work .entry)) (at (now (numbers .entry)) VARIABLES))) (now (list .entry)) ⌝ }
+    requires { ⌜ (at (now numbers) VARIABLES ≤ 12) × (at (now numbers) VARIABLES ≤ length (now work)) ×
+        ((i : ℕ) → i < at (now numbers) VARIABLES → at (now work) i < 256) × Ordering (at (now numbers) VARIABLES)
+        (orderIn (now numbers) (at (now numbers) VARIABLES)) ⌝ }
+    ensures { λ _. ⌜ now (list .exit) ≡ noted (plans * at (now (numbers .entry)) VARIABLES)
+        (write (orderIn (now (numbers .entry)) (at (now (numbers .entry)) VARIABLES)) (prefixOf (now (work .entry)) (at (now (numbers .entry)) VARIABLES)))
+        (now (list .entry)) ⌝ }
 {
     if list.len() == 0 {
         return;
@@ -100,8 +106,11 @@ fn note(list: &mut [u8], work: &[u64], numbers: &Numbers, plans: usize)
 // A plan was found: FULL where it has no room, else it is counted, and listed in a list that isn't empty.
 pub fn list_plan(work: &mut Work, numbers: &Numbers, list: &mut &mut [u8]) -> u8
     requires { ⌜ ListRoom (at (now numbers) VARIABLES) (at (now numbers) ROOM) (now (now list)) (at (now work) PLANS) ⌝ }
-    requires { ⌜ (at (now numbers) VARIABLES ≤ 12) × ((i : ℕ) → i < at (now numbers) VARIABLES → at (now work) i < 256) × (length (now work) ≡ WORK) × Ordering (at (now numbers) VARIABLES) (orderIn (now numbers) (at (now numbers) VARIABLES)) ⌝ }
-    ensures { λ r. ⌜ Listed (at (now (numbers .entry)) VARIABLES) (at (now (numbers .entry)) ROOM) (orderIn (now (numbers .entry)) (at (now (numbers .entry)) VARIABLES)) (now (work .entry)) (now (now (list .entry))) (now (work .exit)) (now (now (list .exit))) r ⌝ }
+    requires { ⌜ (at (now numbers) VARIABLES ≤ 12) × ((i : ℕ) → i < at (now numbers) VARIABLES → at (now work) i < 256) × (length (now work) ≡ WORK)
+        × Ordering (at (now numbers) VARIABLES) (orderIn (now numbers) (at (now numbers) VARIABLES)) ⌝ }
+    ensures { λ r. ⌜ Listed (at (now (numbers .entry)) VARIABLES) (at (now (numbers .entry)) ROOM)
+        (orderIn (now (numbers .entry)) (at (now (numbers .entry)) VARIABLES)) (now (work .entry)) (now (now (list .entry))) (now (work .exit))
+        (now (now (list .exit))) r ⌝ }
     ensures { λ _. ⌜ SameSlice (now (list .entry)) (now (list .exit)) ⌝ }
 {
     let plans = work[PLANS] as usize;
@@ -116,9 +125,9 @@ pub fn list_plan(work: &mut Work, numbers: &Numbers, list: &mut &mut [u8]) -> u8
 // The values of the set of variable k at depth k.
 pub fn candidates(stack: &Stack, k: usize) -> u16
     requires { ⌜ k < 12 ⌝ }
-    ensures { λ r. ⌜ r ≡ at (now (stack .entry)) (17 * k) ⌝ }
+    ensures { λ r. ⌜ r ≡ at (now (stack .entry)) (DIAGONAL * k) ⌝ }
 {
-    stack[17 * k]
+    stack[DIAGONAL * k]
 }
 
 // The values but the lowest.

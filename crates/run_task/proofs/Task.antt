@@ -1,18 +1,10 @@
 -- The order among the numbers, and the room for plans. Assumes nothing.
-use mathlib.Core.Path.{_≡_, refl, sym, ap, _∙_, subst}
-use mathlib.Core.Bool.{Bool}
-use mathlib.Core.List.{List}
-use Prim.Native.Nat.{ℕ, zero, suc, _+_, _-_, _/_, _≤_, _<_}
-use native.Mathlib.Nat.{not-suc-le-zero}
-use native.Mathlib.Decide.{decLt, ℕ-discrete}
-use native.Mathlib.Omega.{arith}
-use lib.Dec.{eqb}
-use borrow.Author.Tests.{ne-eqb}
-use lib.ListN.{length, set, length-set}
+use Rattle.model.specs.Kit.{_≡_, refl, sym, ap, _∙_, subst, Bool, List, ℕ, zero, suc, _+_, _-_, _/_, _≤_, _<_, not-suc-le-zero, decLt, ℕ-discrete, arith, eqb, ne-eqb, length, set}
+use Rattle.model.specs.Kit.{length-set}
 use Rattle.model.specs.Lists.{at, choose}
 use Rattle.model.proofs.Lists.{at-set, at-set-other}
-use Rattle.arrays.specs.Places.{ORDER}
-use Rattle.run_task.specs.Task.{roomFor, ordered}
+use Rattle.arrays.specs.inner.Places.{ORDER}
+use Rattle.run_task.specs.inner.Task.{roomFor, ordered}
 
 -- ---- the order among the numbers
 module _ (order : List ℕ) where
@@ -35,7 +27,8 @@ module _ (order : List ℕ) where
       go ih (yes d) = at-set-other (ordered order n l) (ORDER + n) (at order n) (ORDER + k) (λ e. omega arith) ∙ ih d
       go ih (no d) =
           let e : n ≡ k = omega arith in
-          ap (λ (j : ℕ). at (set (ordered order n l) (ORDER + n) (at order n)) (ORDER + j)) (sym e) ∙ at-set (ordered order n l) (ORDER + n) (at order n) (let s = length-ordered n l in omega arith) ∙ ap (at order) e
+          ap (λ (j : ℕ). at (set (ordered order n l) (ORDER + n) (at order n)) (ORDER + j)) (sym e) ∙ at-set (ordered order n l) (ORDER + n) (at order n)
+          (let s = length-ordered n l in omega arith) ∙ ap (at order) e
 
 -- the first k numbers stand at their places, and the next is put
 pub placed-next : (k : ℕ) (list : List ℕ) → k < length list → ((j : ℕ) → j < k → at list j ≡ j) → (j : ℕ) → j < k + 1 → at (set list k k) j ≡ j

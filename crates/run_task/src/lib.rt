@@ -9,8 +9,8 @@ ghost use mathlib.Core.Path.{_≡_};
 ghost use Prim.Native.Nat.{ℕ, _+_, _≤_, _<_};
 ghost use lib.ListN.{length, set};
 ghost use Rattle.model.specs.Lists.{at};
-ghost use Rattle.arrays.specs.Places.{LIMIT, ROOM, ORDER, BLOCK, WANTED};
-ghost use Rattle.run_task.specs.Task.{roomFor, ordered};
+ghost use Rattle.arrays.specs.inner.Places.{LIMIT, ROOM, ORDER, BLOCK, WANTED};
+ghost use Rattle.run_task.specs.inner.Task.{roomFor, ordered};
 
 // Puts the node limit and the number of plans that there is room for among the numbers, which are lent as a slice: that tells their length.
 pub fn put_bounds(numbers: &mut [u64], limit: u64, room: u64)

@@ -1,28 +1,15 @@
 -- The facts that the walks of `settle` and `try_value` need at each call, and what the tests of the code say of numbers. Assumes nothing.
-use mathlib.Core.Path.{_≡_, sym, ap, _∙_, subst}
-use mathlib.Core.Bool.{not}
-use mathlib.Core.List.{List}
-use Prim.Native.Nat.{ℕ, zero, suc, _+_, _*_, _^_, _<_}
-use native.Mathlib.Nat.{zero-lt-suc}
-use native.Mathlib.Omega.{arith}
-use lib.Dec.{T, T-not, eqb, eqb→eq, eqb-refl}
-use denote.Ref.{RefT, at-last}
-use Rattle.model.specs.Lists.{at}
-use Rattle.model.specs.ValueSets.{withoutMask, lowestOf}
-use Rattle.model.specs.Problem.{Problem}
-use Rattle.model.specs.Run.{Tally}
-use Rattle.arrays.specs.Places.{ALL, DEEPER}
-use Rattle.run_state.specs.Walk.{withNode}
-use Rattle.run_state.specs.Pair.{settling, Countable, Counted, AtValues, AtValue, Walked, Entered, tried, lowestTried}
-use Rattle.loans.specs.Slices.{SameSlice}
+use Rattle.model.specs.Kit.{_≡_, sym, ap, _∙_, subst, not, List, ℕ, _+_, _*_, _^_, _<_, arith, T, T-not, eqb, eqb→eq, eqb-refl, RefT}
+use denote.Ref.{at-last}
+use Rattle.model.specs.{Lists.at, ValueSets.withoutMask, ValueSets.lowestOf, Problem.Problem, Run.Tally}
+use Rattle.arrays.specs.inner.Places.{ALL, DEEPER, DIAGONAL}
+use Rattle.run_state.specs.{Walk.withNode, inner.Pair.settling, inner.Pair.Countable, inner.Pair.Counted, inner.Pair.AtValues, inner.Pair.AtValue, inner.Pair.Walked}
+use Rattle.run_state.specs.inner.Pair.{Entered, tried, lowestTried}
+use Rattle.loans.specs.inner.Slices.{SameSlice}
 use Rattle.run_state.proofs.Written.{settling-inside}
 use Rattle.run_tree.proofs.Turns.{turn-asks, turn-goes, values-ask, μ-settle, rest-falls}
 
 -- ---- tests
-pub pos : (n : ℕ) → T (not (eqb n 0)) → 0 < n
-pos zero z = absurd z
-pos (suc m) z = zero-lt-suc m
-
 pub ne-of : (m n : ℕ) → T (not (eqb m n)) → m ≡ n → ⊥
 ne-of m n z e = T-not (eqb m n) z (subst (λ (k : ℕ). T (eqb m k)) e (eqb-refl m))
 
@@ -34,10 +21,13 @@ eq-of m n z = eqb→eq m n (not-not (eqb m n) z)
     not-not mathlib.Core.Bool.false z = absurd z
 
 -- ---- `settle`: the values but the lowest are j
-module _ (p : Problem) (stack work supports tables numbers list : List ℕ) (tally : Tally) (k m : ℕ) (h : AtValues p stack work supports tables numbers list tally k m) (some : 0 < m) (small : m < 2 ^ 16)
-    (stack′ work′ list′ : List ℕ) (tally′ : Tally) (stop : ℕ) (d : Walked p (lowestTried p work k m) stack work numbers list tally k stack′ work′ list′ tally′ stop) (j : ℕ) (is : j ≡ withoutMask m (lowestOf m)) where
+module _ (p : Problem) (stack work supports tables numbers list : List ℕ) (tally : Tally) (k m : ℕ) (h : AtValues p stack work supports tables numbers list tally k m) (some : 0 < m)
+    (small : m < 2 ^ 16)
+    (stack′ work′ list′ : List ℕ) (tally′ : Tally) (stop : ℕ) (d : Walked p (lowestTried p work k m) stack work numbers list tally k stack′ work′ list′ tally′ stop) (j : ℕ)
+    (is : j ≡ withoutMask m (lowestOf m)) where
   pub rest-asks : AtValues p stack′ work′ supports tables numbers list′ tally′ k j
-  rest-asks = subst (AtValues p stack′ work′ supports tables numbers list′ tally′ k) (sym is) (turn-asks p stack work supports tables numbers list tally k m h some small stack′ work′ list′ tally′ stop d)
+  rest-asks = subst (AtValues p stack′ work′ supports tables numbers list′ tally′ k) (sym is)
+      (turn-asks p stack work supports tables numbers list tally k m h some small stack′ work′ list′ tally′ stop d)
 
   pub rest-goes : stop ≡ ALL → (stack″ work″ list″ : List ℕ) (tally″ : Tally) (stop″ : ℕ) → Walked p (tried p work′ k j) stack′ work′ numbers list′ tally′ k stack″ work″ list″ tally″ stop″ →
       Walked p (tried p work k m) stack work numbers list tally k stack″ work″ list″ tally″ stop″
@@ -75,7 +65,7 @@ module _ (p : Problem) (stack work supports tables numbers list : List ℕ) (tal
         pub next-few : k + 1 < 12
         next-few = let i = w .next e .inner in let f = g .values .prefix .ready .wellFormed .few in omega arith
 
-        module _ (values : ℕ) (all : values ≡ at stack′ (17 * (k + 1))) where
+        module _ (values : ℕ) (all : values ≡ at stack′ (DIAGONAL * (k + 1))) where
           pub next-asks : AtValues p stack′ work′ supports tables numbers list′ tally′ (k + 1) values
           next-asks =
               subst (λ (t : Tally). AtValues p stack′ work′ supports tables numbers list′ t (k + 1) values) (sym is-next)
@@ -85,7 +75,7 @@ module _ (p : Problem) (stack work supports tables numbers list : List ℕ) (tal
               Walked p (lowestTried p work k m) stack work numbers list tally k stack″ work″ list″ tally″ stop
           next-goes stack″ work″ list″ tally″ stop v =
               w .then e stack″ work″ list″ tally″ stop
-              (subst (λ (t : Tally). Walked p (tried p work′ (k + 1) (at stack′ (17 * (k + 1)))) stack′ work′ numbers list′ t (k + 1) stack″ work″ list″ tally″ stop) is-next
+              (subst (λ (t : Tally). Walked p (tried p work′ (k + 1) (at stack′ (DIAGONAL * (k + 1)))) stack′ work′ numbers list′ t (k + 1) stack″ work″ list″ tally″ stop) is-next
               (subst (λ (i : ℕ). Walked p (tried p work′ (k + 1) i) stack′ work′ numbers list′ tally′ (k + 1) stack″ work″ list″ tally″ stop) all v))
 
 -- a slice that stays the same slice twice

@@ -1,20 +1,8 @@
 -- Laws of model's definitions: a dead prefix has no node below, and the values of a live one are below 16. Assumes nothing.
-use mathlib.Core.Path.{_≡_, refl, sym, ap, _∙_}
-use mathlib.Core.Bool.{false}
-use mathlib.Core.List.{List, [], _∷_, _++_, map}
-use Prim.Native.Nat.{ℕ, zero, suc, _<_}
-use native.Mathlib.Omega.{arith}
-use lib.Dec.{T}
-use lib.ListN.{length}
-use borrow.Author.Tests.{not-false}
-use Rattle.model.specs.Lists.{at, flat}
-use Rattle.model.specs.ValueSets.{members, anyEmpty}
-use Rattle.model.specs.Problem.{Problem}
-use Rattle.model.specs.Search.{setsAt, isLive, nodesBelow}
-use Rattle.model.specs.Pruning.{closed}
-use Rattle.model.proofs.Lists.{of-not}
-use Rattle.model.proofs.Sets.{members-of-none, member, at-zeros, empty-i}
-use Rattle.model.proofs.Prune.{Sized, setsAt-dead, live-is, live-closed, largest, narrowed-e}
+use Rattle.model.specs.Kit.{_≡_, refl, sym, ap, _∙_, false, List, [], _∷_, _++_, map, ℕ, zero, suc, _<_, arith, T, length, not-false}
+use Rattle.model.specs.{Lists.at, Lists.flat, ValueSets.members, ValueSets.anyEmpty, Problem.Problem, Search.setsAt, Search.isLive, Search.nodesBelow, inner.Pruning.closed}
+use Rattle.model.proofs.{Lists.of-not, Sets.members-of-none, Sets.member, Sets.at-zeros, Sets.empty-i, Prune.Sized, Prune.setsAt-dead, Prune.live-is, Prune.live-closed}
+use Rattle.model.proofs.Prune.{largest, narrowed-e}
 
 -- ---- a dead prefix
 dead-sets : (p : Problem) (prefix : List ℕ) (x : ℕ) → isLive p prefix ≡ false → at (setsAt p prefix) x ≡ 0

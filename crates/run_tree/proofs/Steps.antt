@@ -1,22 +1,10 @@
 -- What one value does: the walk along the nodes of a set of values, by its lowest member. Assumes nothing.
-use mathlib.Core.Path.{_≡_, refl, ap, ap₂, _∙_}
-use mathlib.Core.Bool.{Bool, true, false}
-use mathlib.Core.List.{List, [], _∷_, _++_, map}
-use Prim.Native.Nat.{ℕ, suc, _^_, _<_}
-use native.Mathlib.Omega.{arith}
-use lib.Dec.{eqb}
-use lib.ListN.{length}
-use borrow.Author.Tests.{eq-eqb, ne-eqb}
-use Rattle.model.specs.Lists.{both, at, flat}
-use Rattle.model.specs.ValueSets.{withoutMask, lowestOf}
-use Rattle.model.specs.Problem.{Problem}
-use Rattle.model.specs.Search.{setsAt, isLive, isPlan, nodesBelow}
-use Rattle.model.specs.Run.{settledBy}
-use Rattle.model.proofs.Sets.{members-of-none}
-use Rattle.model.proofs.Members.{both-no}
-use Rattle.model.proofs.Lowest.{members-lowest}
+use Rattle.model.specs.Kit.{_≡_, refl, ap, ap₂, _∙_, Bool, true, false, List, [], _∷_, _++_, map, ℕ, suc, _^_, _<_, arith, eqb, length, eq-eqb, ne-eqb}
+use Rattle.model.specs.{Lists.both, Lists.at, Lists.flat, ValueSets.withoutMask, ValueSets.lowestOf, Problem.Problem, Search.setsAt, Search.isLive, Search.isPlan}
+use Rattle.model.specs.{Search.nodesBelow, Run.settledBy}
+use Rattle.model.proofs.{Sets.members-of-none, Lowest.members-lowest, Lists.both-false}
 use Rattle.order.specs.Reordered.{write}
-use Rattle.arrays.specs.Places.{ALL}
+use Rattle.arrays.specs.inner.Places.{ALL}
 use Rattle.run_state.specs.Walk.{State, listed, counted, exhausted, walk, nodesFor}
 use Rattle.run_tree.proofs.Laws.{dead-below}
 use Rattle.run_state.proofs.Walk.{visit-spent, visit-other, visit-plan, walk-append, walk-stopped}
@@ -27,7 +15,7 @@ is-plan p t e l = ap₂ both (eq-eqb (length t) (p .variables) e) l
 
 dead-no-plan : (p : Problem) (t : List ℕ) → isLive p t ≡ false → isPlan p t ≡ false
 unfolding isPlan
-dead-no-plan p t l = ap (both (eqb (length t) (p .variables))) l ∙ both-no (eqb (length t) (p .variables))
+dead-no-plan p t l = ap (both (eqb (length t) (p .variables))) l ∙ both-false (eqb (length t) (p .variables))
 
 short-no-plan : (p : Problem) (t : List ℕ) → (length t ≡ p .variables → ⊥) → isPlan p t ≡ false
 unfolding isPlan
@@ -69,7 +57,8 @@ module _ (p : Problem) (order : List ℕ) (limit room k : ℕ) (prefix : List �
     unfolding walk
     node-dead d = ap₂ (walk p order limit room) (dead-below p k t d) (visit-other p order limit room t s going allowed (dead-no-plan p t d))
 
-    pub node-plan : isLive p t ≡ true → length t ≡ p .variables → k ≡ 0 → walk p order limit room (t ∷ nodesBelow p k t) s ≡ listed (p .variables) room (write order t) (counted (at order (settledBy t)) t s)
+    pub node-plan : isLive p t ≡ true → length t ≡ p .variables → k ≡ 0 → walk p order limit room (t ∷ nodesBelow p k t) s ≡ listed (p .variables) room (write order t)
+        (counted (at order (settledBy t)) t s)
     unfolding walk nodesBelow
     node-plan l n z = ap₂ (λ (j : ℕ) (u : State). walk p order limit room (nodesBelow p j t) u) z (visit-plan p order limit room t s going allowed (is-plan p t n l))
 

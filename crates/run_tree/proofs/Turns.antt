@@ -1,39 +1,24 @@
 -- One turn of `settle` and of `try_value`, as statements about what they are given and what they leave: nothing to try, no node left, and a value
 -- whose node is dead, a plan, or has nodes below it. Assumes nothing.
-use mathlib.Core.Path.{_≡_, refl, sym, ap, ap₂, _∙_, subst}
-use mathlib.Core.Bool.{Bool, true, false}
-use mathlib.Core.List.{List, [], _∷_, _++_}
-use Prim.Native.Nat.{ℕ, suc, _+_, _-_, _*_, _^_, _≤_, _<_}
-use native.Mathlib.Numerals.{add-one}
-use native.Mathlib.Omega.{arith}
-use lib.Dec.{T}
-use borrow.Author.Tests.{not-true, not-false}
-use lib.ListN.{length, take, set, length-set}
-use Rattle.model.specs.Lists.{at}
-use Rattle.model.specs.ValueSets.{has, withoutMask, lowestOf}
-use Rattle.model.specs.Problem.{Problem}
-use Rattle.model.specs.Search.{setsAt, isLive, nodesBelow}
-use Rattle.model.specs.Run.{Tally, settledBy}
-use Rattle.model.proofs.Lists.{T-of, both-l, at-set, at-set-other}
-use Rattle.model.proofs.Sets.{mask-e}
-use Rattle.model.proofs.Lowest.{lowest-in, without-less}
-use Rattle.model.proofs.Tree.{well-sized}
-use Rattle.model.specs.WellFormed.{WellFormed}
-use Rattle.order.specs.Order.{Ordering}
-use Rattle.order.specs.Reordered.{write}
-use Rattle.arrays.specs.Places.{VARIABLES, LIMIT, ROOM, PLANS, LAST, MARKS, ALL, SPENT, DEEPER, WORK}
-use Rattle.prune.specs.Node.{Ready, Holds, Marked, AtNode, Reached, longer}
+use Rattle.model.specs.Kit.{_≡_, refl, sym, ap, ap₂, _∙_, subst, Bool, true, false, List, [], _∷_, _++_, ℕ, suc, _+_, _-_, _*_, _^_, _≤_, _<_, add-one, arith, T, not-true}
+use Rattle.model.specs.Kit.{not-false, length, take, set, length-set}
+use Rattle.model.specs.{Lists.at, ValueSets.has, ValueSets.withoutMask, ValueSets.lowestOf, Problem.Problem, Search.setsAt, Search.isLive, Search.nodesBelow, Run.Tally}
+use Rattle.model.specs.{Run.settledBy, WellFormed.WellFormed}
+use Rattle.model.proofs.{Lists.T-of, Lists.both-l, Lists.at-set, Lists.at-set-other, Sets.mask-e, Lowest.lowest-in, Lowest.without-less, Tree.well-sized}
+use Rattle.order.specs.{Order.Ordering, Reordered.write}
+use Rattle.arrays.specs.inner.Places.{VARIABLES, LIMIT, ROOM, PLANS, LAST, MARKS, ALL, SPENT, DEEPER, WORK, DIAGONAL}
+use Rattle.prune.specs.inner.Node.{Ready, Holds, Marked, AtNode, Reached, longer}
 use Rattle.prune.proofs.Marks.{marked-on}
-use Rattle.run_state.specs.Walk.{withNode, Summed, State, listed, counted, walk, nodesFor}
-use Rattle.run_state.specs.Pair.{prefixOf, settling, orderIn, ownIn, stateOf, ListRoom, Listed, AtPrefix, AtValues, AtValue, Walked, Entered, tried, lowestNode, lowestTried}
-use Rattle.run_tree.proofs.Laws.{live-values}
-use Rattle.run_state.proofs.Walk.{Fits, walk-fits, walk-stopped, summed-more}
-use Rattle.run_tree.proofs.Steps.{below-is, step-none, step, step-spent, node-dead, node-plan, node-inner, node-then}
-use Rattle.run_state.proofs.Prefix.{length-prefix, prefix-at, prefix-ext, prefix-take, prefix-snoc}
-use Rattle.run_state.proofs.Written.{order-at, length-order, settling-inside}
+use Rattle.run_state.specs.{Walk.withNode, Walk.Summed, Walk.State, Walk.listed, Walk.counted, Walk.walk, Walk.nodesFor, inner.Pair.prefixOf, inner.Pair.settling}
+use Rattle.run_state.specs.inner.Pair.{orderIn, ownIn, stateOf, ListRoom, Listed, AtPrefix, AtValues, AtValue, Walked, Entered, tried, lowestNode, lowestTried}
+use Rattle.run_tree.proofs.{Laws.live-values, Steps.below-is, Steps.step-none, Steps.step, Steps.step-spent, Steps.node-dead, Steps.node-plan, Steps.node-inner}
+use Rattle.run_tree.proofs.Steps.{node-then}
+use Rattle.run_state.proofs.{Walk.Fits, Walk.walk-fits, Walk.walk-stopped, Walk.summed-more, Prefix.length-prefix, Prefix.prefix-at, Prefix.prefix-ext, Prefix.prefix-take}
+use Rattle.run_state.proofs.{Prefix.prefix-snoc, Written.order-at, Written.length-order, Written.settling-inside}
 
 -- the arrays still hold p where what was lent kept its length
-pub ready-on : {p : Problem} {gs : List (List ℕ)} {stack work supports tables numbers stack′ work′ : List ℕ} → Ready p gs stack work supports tables numbers → length stack′ ≡ length stack → length work′ ≡ length work →
+pub ready-on : {p : Problem} {gs : List (List ℕ)} {stack work supports tables numbers stack′ work′ : List ℕ} → Ready p gs stack work supports tables numbers → length stack′ ≡ length stack
+    → length work′ ≡ length work →
     Ready p gs stack′ work′ supports tables numbers
 ready-on h s w = record {
   indexed = h .indexed;
@@ -70,8 +55,10 @@ module _ (p : Problem) (stack work supports tables numbers list : List ℕ) (tal
     ready = ready-on (h .ready) (d .stack-length) (d .work-length);
     inner = h .inner;
     live = subst (λ (q : List ℕ). T (isLive p q)) (sym same) (h .live);
-    held = held-on (ownIn p numbers) stack stack′ k (setsAt p (prefixOf work′ k)) (h .ready .wellFormed) (λ i l. d .sets i (omega arith)) (subst (λ (q : List ℕ). Holds (ownIn p numbers) stack k (setsAt p q)) (sym same) (h .held));
-    marked = marked-on (ownIn p numbers) (p .symmetries) work work′ (prefixOf work′ k) k (h .ready .symmetries) (λ i l u. d .marks i l (omega arith)) (subst (λ (q : List ℕ). Marked (ownIn p numbers) (p .symmetries) work q k) (sym same) (h .marked));
+    held = held-on (ownIn p numbers) stack stack′ k (setsAt p (prefixOf work′ k)) (h .ready .wellFormed) (λ i l. d .sets i (omega arith))
+        (subst (λ (q : List ℕ). Holds (ownIn p numbers) stack k (setsAt p q)) (sym same) (h .held));
+    marked = marked-on (ownIn p numbers) (p .symmetries) work work′ (prefixOf work′ k) k (h .ready .symmetries) (λ i l u. d .marks i l (omega arith))
+        (subst (λ (q : List ℕ). Marked (ownIn p numbers) (p .symmetries) work q k) (sym same) (h .marked));
     limited = h .limited;
     allowed = fits .allowed;
     summed = d .summed;
@@ -172,13 +159,13 @@ module _ (p : Problem) (stack work supports tables numbers list : List ℕ) (tal
 
 -- ---- `settle`'s values from the sets: all values of the variable's set are to be tried
 module _ (p : Problem) (stack work supports tables numbers list : List ℕ) (tally : Tally) (k : ℕ) (h : AtPrefix p stack work supports tables numbers list tally k) where
-  pub all-values : at stack (17 * k) ≡ at (setsAt p (prefixOf work k)) k
-  all-values = let e : 17 * k ≡ 16 * k + k = omega arith in ap (at stack) e ∙ h .held .sets k (h .inner)
+  pub all-values : at stack (DIAGONAL * k) ≡ at (setsAt p (prefixOf work k)) k
+  all-values = let e : DIAGONAL * k ≡ 16 * k + k = omega arith in ap (at stack) e ∙ h .held .sets k (h .inner)
 
-  pub values-ask : AtValues p stack work supports tables numbers list tally k (at stack (17 * k))
+  pub values-ask : AtValues p stack work supports tables numbers list tally k (at stack (DIAGONAL * k))
   values-ask = record { prefix = h; inside = λ v t. subst (λ (m : ℕ). T (has m v)) all-values t }
 
-  pub tried-all : tried p work k (at stack (17 * k)) ≡ nodesBelow p (p .variables - k) (prefixOf work k)
+  pub tried-all : tried p work k (at stack (DIAGONAL * k)) ≡ nodesBelow p (p .variables - k) (prefixOf work k)
   tried-all =
       let e : p .variables - k ≡ suc (p .variables - (k + 1)) = let i = h .inner in omega arith in
       ap (nodesFor p (p .variables - (k + 1)) (prefixOf work k)) (all-values ∙ ap (at (setsAt p (prefixOf work k))) (sym (length-prefix work k)))
@@ -186,7 +173,8 @@ module _ (p : Problem) (stack work supports tables numbers list : List ℕ) (tal
       ∙ ap (λ (j : ℕ). nodesBelow p j (prefixOf work k)) (sym e)
 
 -- ---- `enter`: the lowest value v stands in `work`, with the number of values that are a node now, and `child` has answered
-module _ (p : Problem) (stack work supports tables numbers list : List ℕ) (tally : Tally) (k m : ℕ) (g : AtValue p stack work supports tables numbers list tally k m) (small : m < 2 ^ 16) (v : ℕ) (lowest : v ≡ lowestOf m) where
+module _ (p : Problem) (stack work supports tables numbers list : List ℕ) (tally : Tally) (k m : ℕ) (g : AtValue p stack work supports tables numbers list tally k m) (small : m < 2 ^ 16) (v : ℕ)
+    (lowest : v ≡ lowestOf m) where
   abbrev h : AtPrefix p stack work supports tables numbers list tally k
   h = g .values .prefix
 
@@ -298,7 +286,8 @@ module _ (p : Problem) (stack work supports tables numbers list : List ℕ) (tal
     pub entered-dead : dead ≡ true → Out stack₂ work₂ list ALL
     entered-dead e = record {
       walked = λ n. record {
-        state = state₂ ∙ sym (node-dead p (orderIn numbers (p .variables)) (at numbers LIMIT) (at numbers ROOM) (p .variables - (k + 1)) (prefixOf work k) here (stateOf tally work ALL list) refl (g .due) (dead₂ e));
+        state = state₂ ∙ sym (node-dead p (orderIn numbers (p .variables)) (at numbers LIMIT) (at numbers ROOM) (p .variables - (k + 1)) (prefixOf work k) here (stateOf tally work ALL list) refl
+            (g .due) (dead₂ e));
         summed = summed₂;
         sets = sets₂;
         values = before₂;
@@ -330,14 +319,17 @@ module _ (p : Problem) (stack work supports tables numbers list : List ℕ) (tal
     pub plan-sized : length work₂ ≡ WORK
     plan-sized = work-length₂ ∙ h .ready .work-length
 
-    pub entered-plan : dead ≡ false → k + 1 ≡ p .variables → (work₃ list₃ : List ℕ) (stop : ℕ) → Listed (at numbers VARIABLES) (at numbers ROOM) (orderIn numbers (at numbers VARIABLES)) work₂ list work₃ list₃ stop → Out stack₂ work₃ list₃ stop
+    pub entered-plan : dead ≡ false → k + 1 ≡ p .variables → (work₃ list₃ : List ℕ) (stop : ℕ) → Listed (at numbers VARIABLES) (at numbers ROOM)
+        (orderIn numbers (at numbers VARIABLES)) work₂ list work₃ list₃ stop → Out stack₂ work₃ list₃ stop
     entered-plan e n work₃ list₃ stop w = record {
       walked = λ z. record {
         state = w .state next (prefixOf work₃ (at work₃ LAST))
-            ∙ ap (λ (t : List ℕ). listed (at numbers VARIABLES) (at numbers ROOM) (write (orderIn numbers (at numbers VARIABLES)) (prefixOf work₂ (at numbers VARIABLES))) record { tally = next; plans = at work₂ PLANS; stop = ALL; list = list; last = t }) last₃
+            ∙ ap (λ (t : List ℕ). listed (at numbers VARIABLES) (at numbers ROOM) (write (orderIn numbers (at numbers VARIABLES)) (prefixOf work₂ (at numbers VARIABLES))) record
+            { tally = next; plans = at work₂ PLANS; stop = ALL; list = list; last = t }) last₃
             ∙ ap (λ (j : ℕ). listed j (at numbers ROOM) (write (orderIn numbers j) (prefixOf work₂ j)) (stateOf next work₂ ALL list)) (h .ready .indexed .numbered .variables)
             ∙ ap₂ (λ (t : List ℕ) (s : State). listed (p .variables) (at numbers ROOM) (write (orderIn numbers (p .variables)) t) s) (ap (prefixOf work₂) (sym n) ∙ node₂) state₂
-            ∙ sym (node-plan p (orderIn numbers (p .variables)) (at numbers LIMIT) (at numbers ROOM) (p .variables - (k + 1)) (prefixOf work k) here (stateOf tally work ALL list) refl (g .due) (live₂ e) (length-node ∙ n) (omega arith));
+            ∙ sym (node-plan p (orderIn numbers (p .variables)) (at numbers LIMIT) (at numbers ROOM) (p .variables - (k + 1)) (prefixOf work k) here (stateOf tally work ALL list) refl (g .due)
+            (live₂ e) (length-node ∙ n) (omega arith));
         summed = summed₂;
         sets = sets₂;
         values = λ i l. w .others i (let f = h .ready .wellFormed .few in let z = h .inner in λ e. omega arith) ∙ before₂ i l;
@@ -374,9 +366,11 @@ module _ (p : Problem) (stack work supports tables numbers list : List ℕ) (tal
       walked = λ z. absurd (z refl);
       next = λ z. next₂ e n;
       then = λ z stack₃ work₃ list₃ tally₃ stop w. record {
-        state = w .state ∙ ap (λ (ts : List (List ℕ)). walk p (orderIn numbers (p .variables)) (at numbers LIMIT) (at numbers ROOM) ts (stateOf next work₂ ALL list)) (tried-all p stack₂ work₂ supports tables numbers list next (k + 1) (next₂ e n))
+        state = w .state ∙ ap (λ (ts : List (List ℕ)). walk p (orderIn numbers (p .variables)) (at numbers LIMIT) (at numbers ROOM) ts (stateOf next work₂ ALL list))
+            (tried-all p stack₂ work₂ supports tables numbers list next (k + 1) (next₂ e n))
             ∙ ap₂ (λ (t : List ℕ) (s : State). walk p (orderIn numbers (p .variables)) (at numbers LIMIT) (at numbers ROOM) (nodesBelow p (p .variables - (k + 1)) t) s) node₂ state₂
-            ∙ sym (node-inner p (orderIn numbers (p .variables)) (at numbers LIMIT) (at numbers ROOM) (p .variables - (k + 1)) (prefixOf work k) here (stateOf tally work ALL list) refl (g .due) (λ z. n (sym length-node ∙ z)));
+            ∙ sym (node-inner p (orderIn numbers (p .variables)) (at numbers LIMIT) (at numbers ROOM) (p .variables - (k + 1)) (prefixOf work k) here (stateOf tally work ALL list) refl (g .due)
+            (λ z. n (sym length-node ∙ z)));
         summed = w .summed;
         sets = λ i l. w .sets i (omega arith) ∙ sets₂ i l;
         values = λ i l. w .values i (omega arith) ∙ before₂ i l;
@@ -390,7 +384,8 @@ module _ (p : Problem) (stack work supports tables numbers list : List ℕ) (tal
     pub node-is : prefixOf work₂ (k + 1) ≡ lowestNode work k m
     node-is = node₂
 
-    pub entered-then : (k + 1 ≡ p .variables → ⊥) → (ts : List (List ℕ)) (stack₃ work₃ list₃ : List ℕ) (tally₃ : Tally) (stop : ℕ) → Walked p ts stack₂ work₂ numbers list next (k + 1) stack₃ work₃ list₃ tally₃ stop →
+    pub entered-then : (k + 1 ≡ p .variables → ⊥) → (ts : List (List ℕ)) (stack₃ work₃ list₃ : List ℕ) (tally₃ : Tally) (stop : ℕ) → Walked p ts stack₂ work₂ numbers list next
+        (k + 1) stack₃ work₃ list₃ tally₃ stop →
         Walked p (lowestNode work k m ∷ ts) stack work numbers list tally k stack₃ work₃ list₃ tally₃ stop
     entered-then n ts stack₃ work₃ list₃ tally₃ stop w = record {
       state = w .state ∙ ap (walk p (orderIn numbers (p .variables)) (at numbers LIMIT) (at numbers ROOM) ts) state₂

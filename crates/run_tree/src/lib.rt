@@ -13,8 +13,8 @@ use model::ValueSet;
 use run_state::Tally;
 ghost use Rattle.model.specs.Problem.{Problem};
 ghost use Rattle.model.specs.Run as Run;
-ghost use Rattle.run_state.specs.Pair.{AtValues, AtValue, Walked, Entered, tried, lowestTried};
-ghost use Rattle.loans.specs.Slices.{SameSlice};
+ghost use Rattle.run_state.specs.inner.Pair.{AtValues, AtValue, Walked, Entered, tried, lowestTried};
+ghost use Rattle.loans.specs.inner.Slices.{SameSlice};
 ghost use Rattle.run_state.specs.Meaning.{tallyIn};
 
 // Makes the node of the lowest of the values m of variable k: ALL where it is dead or its plan was listed, FULL where a plan has no room,
@@ -29,8 +29,12 @@ fn enter(
     k: usize,
     m: u16,
 ) -> u8
-    requires { ⌜ ((p : Problem) × ((tally : Run.Tally) × AtValue p (now stack) (now work) (now supports) (now tables) (now numbers) (now (now list)) tally k m)) ⌝ }
-    ensures { λ r. ⌜ ((p : Problem) (tally : Run.Tally) → AtValue p (now (stack .entry)) (now (work .entry)) (now (supports .entry)) (now (tables .entry)) (now (numbers .entry)) (now (now (list .entry))) tally k m → Entered p (now (stack .entry)) (now (work .entry)) (now (supports .entry)) (now (tables .entry)) (now (numbers .entry)) (now (now (list .entry))) tally k m (now (stack .exit)) (now (work .exit)) (now (now (list .exit))) r) ⌝ }
+    requires { ⌜ ((p : Problem) × ((tally : Run.Tally) × AtValue p (now stack) (now work) (now supports) (now tables) (now numbers)
+        (now (now list)) tally k m)) ⌝ }
+    ensures { λ r. ⌜ ((p : Problem) (tally : Run.Tally) → AtValue p (now (stack .entry)) (now (work .entry)) (now (supports .entry)) (now (tables .entry))
+        (now (numbers .entry)) (now (now (list .entry))) tally k m → Entered p (now (stack .entry)) (now (work .entry)) (now (supports .entry))
+        (now (tables .entry)) (now (numbers .entry)) (now (now (list .entry))) tally k m (now (stack .exit)) (now (work .exit))
+        (now (now (list .exit))) r) ⌝ }
     ensures { λ _. ⌜ SameSlice (now (list .entry)) (now (list .exit)) ⌝ }
 {
     let values = ValueSet { bits: m };
@@ -59,7 +63,10 @@ pub fn settle(
     m: u16,
 ) -> u8
     requires { ⌜ ((p : Problem) × AtValues p (now stack) (now work) (now supports) (now tables) (now numbers) (now (now list)) (tallyIn (now tally)) k m) ⌝ }
-    ensures { λ r. ⌜ ((p : Problem) → AtValues p (now (stack .entry)) (now (work .entry)) (now (supports .entry)) (now (tables .entry)) (now (numbers .entry)) (now (now (list .entry))) (tallyIn (now (tally .entry))) k m → Walked p (tried p (now (work .entry)) k m) (now (stack .entry)) (now (work .entry)) (now (numbers .entry)) (now (now (list .entry))) (tallyIn (now (tally .entry))) k (now (stack .exit)) (now (work .exit)) (now (now (list .exit))) (tallyIn (now (tally .exit))) r) ⌝ }
+    ensures { λ r. ⌜ ((p : Problem) → AtValues p (now (stack .entry)) (now (work .entry)) (now (supports .entry)) (now (tables .entry))
+        (now (numbers .entry)) (now (now (list .entry))) (tallyIn (now (tally .entry))) k m → Walked p (tried p (now (work .entry)) k m)
+        (now (stack .entry)) (now (work .entry)) (now (numbers .entry)) (now (now (list .entry))) (tallyIn (now (tally .entry))) k (now (stack .exit))
+        (now (work .exit)) (now (now (list .exit))) (tallyIn (now (tally .exit))) r) ⌝ }
     ensures { λ _. ⌜ SameSlice (now (list .entry)) (now (list .exit)) ⌝ }
 {
     if m == 0 {
@@ -98,7 +105,10 @@ fn try_value(
     m: u16,
 ) -> u8
     requires { ⌜ ((p : Problem) × AtValue p (now stack) (now work) (now supports) (now tables) (now numbers) (now (now list)) (tallyIn (now tally)) k m) ⌝ }
-    ensures { λ r. ⌜ ((p : Problem) → AtValue p (now (stack .entry)) (now (work .entry)) (now (supports .entry)) (now (tables .entry)) (now (numbers .entry)) (now (now (list .entry))) (tallyIn (now (tally .entry))) k m → Walked p (lowestTried p (now (work .entry)) k m) (now (stack .entry)) (now (work .entry)) (now (numbers .entry)) (now (now (list .entry))) (tallyIn (now (tally .entry))) k (now (stack .exit)) (now (work .exit)) (now (now (list .exit))) (tallyIn (now (tally .exit))) r) ⌝ }
+    ensures { λ r. ⌜ ((p : Problem) → AtValue p (now (stack .entry)) (now (work .entry)) (now (supports .entry)) (now (tables .entry))
+        (now (numbers .entry)) (now (now (list .entry))) (tallyIn (now (tally .entry))) k m → Walked p (lowestTried p (now (work .entry)) k m)
+        (now (stack .entry)) (now (work .entry)) (now (numbers .entry)) (now (now (list .entry))) (tallyIn (now (tally .entry))) k (now (stack .exit))
+        (now (work .exit)) (now (now (list .exit))) (tallyIn (now (tally .exit))) r) ⌝ }
     ensures { λ _. ⌜ SameSlice (now (list .entry)) (now (list .exit)) ⌝ }
 {
     let x = run_state::variable_at(numbers, k);
@@ -140,7 +150,10 @@ pub fn walk_counted(
     m: u16,
 ) -> CountedPart
     requires { ⌜ ((p : Problem) × AtValues p (now stack) (now work) (now supports) (now tables) (now numbers) (now list) (tallyIn before) k m) ⌝ }
-    ensures { λ r. ⌜ ((p : Problem) → AtValues p (now (stack .entry)) (now (work .entry)) (now (supports .entry)) (now (tables .entry)) (now (numbers .entry)) (now (list .entry)) (tallyIn before) k m → Walked p (tried p (now (work .entry)) k m) (now (stack .entry)) (now (work .entry)) (now (numbers .entry)) (now (list .entry)) (tallyIn before) k (now (stack .exit)) (now (work .exit)) (now (list .exit)) (tallyIn (r .tally)) (r .stop)) ⌝ }
+    ensures { λ r. ⌜ ((p : Problem) → AtValues p (now (stack .entry)) (now (work .entry)) (now (supports .entry)) (now (tables .entry))
+        (now (numbers .entry)) (now (list .entry)) (tallyIn before) k m → Walked p (tried p (now (work .entry)) k m) (now (stack .entry))
+        (now (work .entry)) (now (numbers .entry)) (now (list .entry)) (tallyIn before) k (now (stack .exit)) (now (work .exit)) (now (list .exit))
+        (tallyIn (r .tally)) (r .stop)) ⌝ }
 {
     let mut sink = &mut *list;
     let mut tally = before;

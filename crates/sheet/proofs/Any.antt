@@ -1,14 +1,8 @@
 -- Laws of the test of any over what a function gives in turn. Assumes nothing.
-use mathlib.Core.Path.{_≡_, refl, sym, ap, ap₂, _∙_}
-use mathlib.Core.Bool.{Bool, true, false}
-use mathlib.Core.List.{List, [], _∷_, _++_, map, List·Memᴰ, List·Memᴰ·head, List·Memᴰ·tail}
-use Prim.Native.Nat.{ℕ, zero, suc, _+_, _<_}
-use native.Mathlib.Omega.{arith}
-use native.Mathlib.Numerals.{add-one}
-use lib.ListN.{getD}
+use Rattle.model.specs.Kit.{_≡_, refl, sym, ap, ap₂, _∙_, Bool, true, false, List, [], _∷_, _++_, map, List·Memᴰ, List·Memᴰ·head, List·Memᴰ·tail, ℕ, zero, suc, _+_, _<_, arith}
+use Rattle.model.specs.Kit.{add-one, getD}
 use Rattle.model.specs.Lists.{either, any, below, upFrom}
-use Rattle.model.proofs.Lists.{any-cons, upFrom-add, map-append, below-e}
-use Rattle.model.proofs.Members.{either-no}
+use Rattle.model.proofs.{Lists.any-cons, Lists.upFrom-add, Lists.map-append, Lists.below-e, Members.either-no}
 
 pub either-assoc : (a b c : Bool) → either (either a b) c ≡ either a (either b c)
 either-assoc true b c = refl

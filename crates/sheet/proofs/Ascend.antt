@@ -1,11 +1,5 @@
 -- The tests of order over what a function gives in turn: they hold where each is before the next. Assumes nothing.
-use mathlib.Core.Path.{_≡_, refl, sym, subst}
-use mathlib.Core.Bool.{Bool, true, false}
-use mathlib.Core.List.{List, [], _∷_, map}
-use Prim.Native.Nat.{ℕ, zero, suc, _+_, _≤_, _<_}
-use native.Mathlib.Omega.{arith}
-use lib.Dec.{T, eqb, ltb, ltb→lt, lt→ltb}
-use borrow.Author.Tests.{eqb-true, eqb-false}
+use Rattle.model.specs.Kit.{_≡_, refl, sym, subst, Bool, true, false, List, [], _∷_, map, ℕ, zero, suc, _+_, _≤_, _<_, arith, T, eqb, ltb, ltb→lt, lt→ltb, eqb-true, eqb-false}
 use Rattle.model.specs.Lists.{both, upFrom, below, earlier, ascending, rowsAscend}
 use Rattle.model.proofs.Lists.{both-i, both-l, both-r}
 

@@ -1,20 +1,9 @@
 -- Questions passed and refused. Assumes nothing.
-use mathlib.Core.Path.{_≡_, ap, _∙_, subst}
-use mathlib.Core.List.{List}
-use mathlib.Core.Bool.{Bool, true, false}
-use Prim.Native.Nat.{ℕ, _≤_}
-use lib.ListN.{length}
-use lib.Dec.{leb}
-use borrow.Author.Tests.{leb-true}
-use Rattle.model.specs.Lists.{both}
+use Rattle.model.specs.Kit.{_≡_, ap, _∙_, subst, List, Bool, true, false, ℕ, _≤_, length, leb, leb-true}
+use Rattle.model.specs.{Lists.both, Verdict.Verdict, Verdict.refused, Verdict.ask, Sheet.headerOf, Sheet.headerVerdict, Sheet.Header as Numbers}
 use Rattle.model.proofs.Lists.{both-r, T-of, of-T}
-use Rattle.model.specs.Verdict.{Verdict, refused, ask}
-use Rattle.model.specs.Sheet.{headerOf, headerVerdict, Header as Numbers}
-use Rattle.reader.specs.Read.{stated}
-use Rattle.reader.specs.declared.Header.{Header}
-use Rattle.sheet.specs.Meaning.{Answers}
-use Rattle.sheet.specs.Parts.{headerAsked}
-use Rattle.sheet.specs.declared.Answer.{Answer}
+use Rattle.reader.specs.{inner.Read.stated, declared.Header.Header}
+use Rattle.sheet.specs.{Meaning.Answers, inner.Parts.headerAsked, declared.Answer.Answer}
 
 -- a question passed, and one that is not
 pub pass : (c : Bool) (n i : ℕ) (v w : Verdict) → c ≡ true → v ≡ w → ask c n i v ≡ w

@@ -1,29 +1,12 @@
 -- What all rows leave in the support sets, and what that says of the rows. Assumes nothing.
-use mathlib.Core.Path.{_≡_, refl, sym, ap, ap₂, _∙_, subst}
-use mathlib.Core.Bool.{Bool, true, false}
-use mathlib.Core.List.{List, [], _∷_, _++_, map}
-use Prim.Native.Nat.{ℕ, zero, suc, _+_, _*_, _/_, _%_, _^_, _≤_, _<_}
-use native.Mathlib.Omega.{arith}
-use native.Mathlib.Nat.{not-suc-le-zero}
-use lib.Dec.{T, eqb, ltb, ltb→lt, lt→ltb}
-use lib.ListN.{length, length-append}
-use borrow.Author.Tests.{eqb-true, eqb-false}
-use Rattle.model.specs.Lists.{at, all, either, any, below, same}
-use Rattle.model.specs.ValueSets.{has, maskOf}
-use Rattle.model.specs.Sheet.{word, words, rowsAt}
-use Rattle.model.proofs.Lists.{all-cons, all-i, both-i, both-l, both-r, at-mem}
-use Rattle.model.proofs.Sets.{has-none}
-use Rattle.model.proofs.Masks.{is-mask}
-use Rattle.model.proofs.Accepted.{length-words}
-use Rattle.arrays.specs.Layout.{place}
-use Rattle.arrays.specs.Places.{SUPPORTS}
-use Rattle.sheet.specs.Fill.{rowKey, withRows}
-use Rattle.sheet.specs.Steps.{offsetAt, supportsTo}
-use Rattle.sheet.proofs.Any.{any-same}
-use Rattle.sheet.proofs.Keys.{keyFrom, Digits, key-same, key-snoc, key-place, key-words, key-bound}
-use Rattle.sheet.proofs.RowsTest.{digits}
-use Rattle.sheet.proofs.Support.{rows-length, rows-at, rows-small, rows-low, rows-high}
-use Rattle.sheet.proofs.Touch.{Good}
+use Rattle.model.specs.Kit.{_≡_, refl, sym, ap, ap₂, _∙_, subst, Bool, true, false, List, [], _∷_, _++_, map, ℕ, zero, suc, _+_, _*_, _/_, _%_, _^_, _≤_, _<_, arith}
+use Rattle.model.specs.Kit.{not-suc-le-zero, T, eqb, ltb, ltb→lt, lt→ltb, length, length-append, eqb-true, eqb-false}
+use Rattle.model.specs.{Lists.at, Lists.all, Lists.either, Lists.any, Lists.below, Lists.same, ValueSets.has, ValueSets.maskOf, Sheet.word, Sheet.words, Sheet.rowsAt}
+use Rattle.model.proofs.{Lists.all-cons, Lists.all-i, Lists.both-i, Lists.both-l, Lists.both-r, Lists.at-mem, Sets.has-none, Masks.is-mask, Accepted.length-words}
+use Rattle.arrays.specs.{inner.Layout.place, inner.Places.SUPPORTS}
+use Rattle.sheet.specs.{inner.Fill.rowKey, inner.Fill.withRows, inner.Steps.offsetAt, inner.Steps.supportsTo}
+use Rattle.sheet.proofs.{Any.any-same, Keys.keyFrom, Keys.Digits, Keys.key-same, Keys.key-snoc, Keys.key-place, Keys.key-words, Keys.key-bound, RowsTest.digits}
+use Rattle.sheet.proofs.{Support.rows-length, Support.rows-at, Support.rows-small, Support.rows-low, Support.rows-high, Touch.Good}
 
 -- the key of a row that passed
 row-small : (b : List ℕ) (n d o : ℕ) → d ≤ 16 → Good b n d o → (i : ℕ) → i < word b (o + 2) → rowKey b (o + 4 + 2 * word b o) (word b o) i < 4096
@@ -141,4 +124,5 @@ module _ (b : List ℕ) (n d o : ℕ) (d16 : d ≤ 16) (g : Good b n d o) (vs : 
   set-of-rows s small′ h =
       is-mask s (λ v. any (same (vs ++ (v ∷ []))) (rowsAt b o)) small′
       (λ v l. h (place vs) v refl (place-small vs (omega (arith, g .few)) (digits-of vs small)) l
-      ∙ any-same (eqb (16 * place vs + v)) (same (vs ++ (v ∷ []))) (rowKey b (o + 4 + 2 * word b o) (word b o)) (λ i. words b (o + 4 + 2 * word b o + 2 * (i * word b o)) (word b o)) (word b (o + 2)) (row-same v l))
+      ∙ any-same (eqb (16 * place vs + v)) (same (vs ++ (v ∷ []))) (rowKey b (o + 4 + 2 * word b o) (word b o)) (λ i. words b (o + 4 + 2 * word b o + 2 * (i * word b o)) (word b o))
+      (word b (o + 2)) (row-same v l))

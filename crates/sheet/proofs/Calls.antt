@@ -1,14 +1,9 @@
 -- What a caller of `question` holds (specs/Calls). Assumes nothing.
-use mathlib.Core.Path.{_≡_, refl, sym, ap, _∙_}
-use Prim.Native.Nat.{ℕ}
-use native.Mathlib.Omega.{arith}
-use Rattle.model.specs.Verdict.{Verdict, accepted, refused}
-use Rattle.model.specs.Sheet.{verdictOf}
+use Rattle.model.specs.Kit.{_≡_, refl, sym, ap, _∙_, ℕ, arith}
+use Rattle.model.specs.{Verdict.Verdict, Verdict.accepted, Verdict.refused, Sheet.verdictOf}
 use Rattle.model.proofs.OneMoreAccepted.{one-more-accepted}
-use Rattle.sheet.specs.Meaning.{means}
-use Rattle.sheet.specs.declared.Answer.{Answer}
-use Rattle.sheet.specs.declared.Answer.the-variants.{Accepted, Refused}
-use Rattle.sheet.specs.Calls.{Says, Question-calls, One-more-calls}
+use Rattle.sheet.specs.{Meaning.means, declared.Answer.Answer, declared.Answer.the-variants.Accepted, declared.Answer.the-variants.Refused, Calls.Says, Calls.Question-calls}
+use Rattle.sheet.specs.Calls.{One-more-calls}
 
 is-accepted : (r : Answer) → means r ≡ accepted → r ≡ Accepted
 is-accepted Accepted e = refl

@@ -1,19 +1,10 @@
 -- Bytes that pass questions 1 to 15 (specs/Form, `compilable`): their problem is well formed, and an accepted sheet is one of them. Assumes nothing.
-use mathlib.Core.Path.{_≡_, refl, sym, ap, _∙_, subst}
-use mathlib.Core.Bool.{Bool, true, false, not}
-use mathlib.Core.List.{List, [], _∷_, Memᴰ·of-map}
-use Prim.Native.Nat.{ℕ, zero, suc, _+_, _*_, _^_}
-use lib.Dec.{T, leb, ltb, eqb}
-use lib.ListN.{length}
-use Rattle.model.specs.Lists.{all, both, below, ascending, rowsAscend}
-use Rattle.model.specs.Verdict.{Verdict, accepted, ask, isAccepted}
-use Rattle.model.specs.Sheet.{Header, word, headerOf, headerVerdict, offsetsFit, setsVerdict, scopeAt, rowsAt, afterAt, constraintVerdict, constraintsVerdict, tableAt, problemOf, permutesPairs, tablesFit, formVerdict, symmetriesVerdict, verdictOf}
-use Rattle.model.specs.WellFormed.{WellFormed}
-use Rattle.model.proofs.Lists.{all-e, all-i}
-use Rattle.model.proofs.Accepted.{length-words, symmetries-e}
-use Rattle.sheet.specs.Parts.{Fit}
-use Rattle.sheet.specs.Decoding.{permuting}
-use Rattle.sheet.specs.Form.{compilable}
+use Rattle.model.specs.Kit.{_≡_, refl, sym, ap, _∙_, subst, Bool, true, false, not, List, [], _∷_, Memᴰ·of-map, ℕ, zero, suc, _+_, _*_, _^_, T, leb, ltb, eqb, length}
+use Rattle.model.specs.{Lists.all, Lists.both, Lists.below, Lists.ascending, Lists.rowsAscend, Verdict.Verdict, Verdict.accepted, Verdict.ask, Verdict.isAccepted, Sheet.Header}
+use Rattle.model.specs.Sheet.{word, headerOf, headerVerdict, offsetsFit, setsVerdict, scopeAt, rowsAt, afterAt, constraintVerdict, constraintsVerdict, tableAt, problemOf}
+use Rattle.model.specs.{Sheet.permutesPairs, Sheet.tablesFit, Sheet.formVerdict, Sheet.symmetriesVerdict, Sheet.verdictOf, WellFormed.WellFormed}
+use Rattle.model.proofs.{Lists.all-e, Lists.all-i, Accepted.length-words, Accepted.symmetries-e}
+use Rattle.sheet.specs.{inner.Parts.Fit, inner.Decoding.permuting, Form.compilable}
 use Rattle.sheet.proofs.Stating.{FormPassed, form-e}
 
 -- ---- what is asked after questions 1 to 14 does not matter to them
@@ -97,7 +88,8 @@ module _ (b : List ℕ) (t : T (compilable b)) where
         narrow = f .states .narrow;
         constrained = f .states .constrained;
         symmetric = λ g m. record {
-          sized = (let r = Memᴰ·of-map (tableAt b h) (below (h .symmetries)) m in ap length (sym (r .2)) ∙ length-words b (h .third + 2 * (r .0 * (h .variables * h .values))) (h .variables * h .values));
+          sized = (let r = Memᴰ·of-map (tableAt b h) (below (h .symmetries)) m in ap length (sym (r .2)) ∙ length-words b (h .third + 2 * (r .0 * (h .variables * h .values)))
+              (h .variables * h .values));
           permutes = all-e (permutesPairs (problemOf b)) (problemOf b .symmetries) (passed .1) g m;
         };
       }

@@ -1,20 +1,12 @@
 -- The answer for one constraint, from what was found on the way. Assumes nothing.
-use mathlib.Core.Path.{_≡_, refl, sym, ap, ap₂, _∙_, subst₂, subst₃}
-use mathlib.Core.Bool.{Bool, true, false}
-use mathlib.Core.Logic.{_⊎_, ⊎-elim}
-use mathlib.Core.List.{List}
-use Prim.Native.Nat.{ℕ, _+_, _*_, _≤_, _<_}
-use native.Mathlib.Omega.{arith}
-use native.Mathlib.Nat.{mul-le-mul-right}
-use lib.Dec.{T, leb, ltb, eqb}
-use borrow.Author.Tests.{le-leb, lt-leb, leb-true, eqb-true, eqb-false}
-use Rattle.model.specs.Lists.{both, all, ascending}
-use Rattle.model.specs.Verdict.{Verdict, refused}
-use Rattle.model.specs.Sheet.{headerOf, word, scopeAt, rowsAt, afterAt, constraintVerdict}
+use Rattle.model.specs.Kit.{_≡_, refl, sym, ap, ap₂, _∙_, subst₂, Bool, true, false, _⊎_, ⊎-elim, List, ℕ, _+_, _*_, _≤_, _<_, arith, mul-le-mul-right, T, leb, ltb, eqb, le-leb}
+use Rattle.model.specs.Kit.{lt-leb, leb-true, eqb-true, eqb-false}
+use mathlib.Core.Path.{subst₃}
+use Rattle.model.specs.{Lists.both, Lists.all, Lists.ascending, Verdict.Verdict, Verdict.refused, Sheet.headerOf, Sheet.word, Sheet.scopeAt, Sheet.rowsAt, Sheet.afterAt}
+use Rattle.model.specs.Sheet.{constraintVerdict}
 use Rattle.model.proofs.Lists.{both-l, both-r, T-of, of-T}
-use Rattle.sheet.specs.Fill.{ScopeAsked, RowsAsked}
-use Rattle.sheet.specs.Steps.{ConstraintAsked}
-use Rattle.sheet.specs.declared.constraints.Step.the-variants.{Next, Refused}
+use Rattle.sheet.specs.{inner.Fill.ScopeAsked, inner.Fill.RowsAsked, inner.Steps.ConstraintAsked, declared.constraints.Step.the-variants.Next}
+use Rattle.sheet.specs.declared.constraints.Step.the-variants.{Refused}
 use Rattle.sheet.proofs.RowsTest.{order-two, rows-ascend, rows-fall, rows-fit, row-unfit}
 
 -- ---- what the code reads is what the questions ask of
@@ -62,7 +54,8 @@ refusal b o k q numbers supports numbers′ supports′ h =
     never o′ e = let z : _≡_ {A = ℕ} 0 1 = cc in omega arith
 
 -- the counts do not end by the third offset
-pub refused-9 : (b : List ℕ) (o k third : ℕ) (numbers supports numbers′ supports′ : List ℕ) → third ≡ headerOf b .third → third < o + 4 → ConstraintAsked b o k numbers supports numbers′ supports′ (Refused 9)
+pub refused-9 : (b : List ℕ) (o k third : ℕ) (numbers supports numbers′ supports′ : List ℕ) → third ≡ headerOf b .third → third < o + 4 → ConstraintAsked b o k numbers supports numbers′ supports′
+    (Refused 9)
 unfolding constraintVerdict
 refused-9 b o k third numbers supports numbers′ supports′ e l =
     refusal b o k 9 numbers supports numbers′ supports′ (λ later. simp (lt-leb (o + 4) (headerOf b .third) (omega arith)))

@@ -1,18 +1,9 @@
 -- The turns of the loop over the constraints. Assumes nothing.
-use mathlib.Core.Path.{_≡_, refl, sym, ap, ap₂, _∙_, subst}
-use mathlib.Core.Bool.{Bool}
-use mathlib.Core.List.{List}
-use Prim.Native.Nat.{ℕ, suc, _+_, _-_, _≤_, _<_}
-use native.Mathlib.Omega.{arith}
-use lib.Dec.{eqb}
-use borrow.Author.Tests.{eq-eqb, ne-eqb}
-use Rattle.model.specs.Verdict.{Verdict, refused, ask}
-use Rattle.model.specs.Sheet.{headerOf, afterAt, constraintVerdict, constraintsVerdict}
-use Rattle.sheet.specs.Fill.{numbersWith, supportsWith}
-use Rattle.sheet.specs.Steps.{stepThen, ConstraintAsked, offsetAt, numbersTo, supportsTo, ConstraintsAsked}
-use Rattle.sheet.specs.declared.Answer.the-variants.{Accepted, Refused as RefusedBy}
-use Rattle.sheet.specs.declared.constraints.Step.{Step}
-use Rattle.sheet.specs.declared.constraints.Step.the-variants.{Next, Refused}
+use Rattle.model.specs.Kit.{_≡_, refl, sym, ap, ap₂, _∙_, subst, Bool, List, ℕ, suc, _+_, _-_, _≤_, _<_, arith, eqb, eq-eqb, ne-eqb}
+use Rattle.model.specs.{Verdict.Verdict, Verdict.refused, Verdict.ask, Sheet.headerOf, Sheet.afterAt, Sheet.constraintVerdict, Sheet.constraintsVerdict}
+use Rattle.sheet.specs.{inner.Fill.numbersWith, inner.Fill.supportsWith, inner.Steps.stepThen, inner.Steps.ConstraintAsked, inner.Steps.offsetAt, inner.Steps.numbersTo}
+use Rattle.sheet.specs.{inner.Steps.supportsTo, inner.Steps.ConstraintsAsked, declared.Answer.the-variants.Accepted, declared.Answer.the-variants.Refused as RefusedBy}
+use Rattle.sheet.specs.{declared.constraints.Step.Step, declared.constraints.Step.the-variants.Next, declared.constraints.Step.the-variants.Refused}
 
 -- k constraints were asked, and the next stands at an offset
 pub record ConstraintsTo (b : List ℕ) (c : ℕ) (numbers supports : List ℕ) (k o : ℕ) (numbers′ supports′ : List ℕ) : Type 0 where
@@ -39,7 +30,8 @@ module _ (b : List ℕ) (c : ℕ) (numbers supports : List ℕ) (k o : ℕ) (num
   unfolding constraintsVerdict
   open-one later = t .passed later ∙ ap (λ (m : ℕ). constraintsVerdict b (headerOf b) m k o later) (let z : c - k ≡ suc (c - (k + 1)) = omega arith in z)
 
-  pub constraints-no : (number : ℕ) (n s : List ℕ) (w : Step) → c ≡ headerOf b .constraints → w ≡ Refused number → ConstraintAsked b o k numbers′ supports′ n s w → ConstraintsAsked b numbers supports n s (RefusedBy number k)
+  pub constraints-no : (number : ℕ) (n s : List ℕ) (w : Step) → c ≡ headerOf b .constraints → w ≡ Refused number → ConstraintAsked b o k numbers′ supports′ n s w
+      → ConstraintsAsked b numbers supports n s (RefusedBy number k)
   constraints-no number n s w e f a′ =
       let a = subst (λ (x : Step). ConstraintAsked b o k numbers′ supports′ n s x) f a′ in
       record {
@@ -58,10 +50,12 @@ module _ (b : List ℕ) (c : ℕ) (numbers supports : List ℕ) (k o : ℕ) (num
         inside = a .inside o′ f;
         scoped = a .scoped o′ f ∙ ap₂ (λ (q : ℕ) (m : List ℕ). numbersWith b q k m) (t .here) (t .scoped) ∙ ap (λ (j : ℕ). numbersTo b (headerOf b .second) j numbers) z;
         supported = a .supported o′ f ∙ ap₂ (λ (q : ℕ) (m : List ℕ). supportsWith b q k m) (t .here) (t .supported) ∙ ap (λ (j : ℕ). supportsTo b (headerOf b .second) j supports) z;
-        passed = λ later. open-one later ∙ a .answers _ ∙ ap (λ (x : Step). stepThen x k (constraintsVerdict b (headerOf b) (c - (k + 1)) (suc k) (afterAt b o) later)) f ∙ ap₂ (λ (j q : ℕ). constraintsVerdict b (headerOf b) (c - (k + 1)) j q later) z (sym e);
+        passed = λ later. open-one later ∙ a .answers _ ∙ ap (λ (x : Step). stepThen x k (constraintsVerdict b (headerOf b) (c - (k + 1)) (suc k) (afterAt b o) later)) f ∙ ap₂
+            (λ (j q : ℕ). constraintsVerdict b (headerOf b) (c - (k + 1)) j q later) z (sym e);
       }
 
-module _ (b : List ℕ) (c : ℕ) (numbers supports : List ℕ) (k o : ℕ) (numbers′ supports′ : List ℕ) (t : ConstraintsTo b c numbers supports k o numbers′ supports′) (l : c ≤ k) (m : k ≤ c) (e : c ≡ headerOf b .constraints) where
+module _ (b : List ℕ) (c : ℕ) (numbers supports : List ℕ) (k o : ℕ) (numbers′ supports′ : List ℕ) (t : ConstraintsTo b c numbers supports k o numbers′ supports′) (l : c ≤ k) (m : k ≤ c)
+    (e : c ≡ headerOf b .constraints) where
   ended : (later : Verdict) → constraintsVerdict b (headerOf b) (headerOf b .constraints) 0 (headerOf b .second) later ≡ ask (eqb o (headerOf b .third)) 9 k later
   unfolding constraintsVerdict
   ended later =

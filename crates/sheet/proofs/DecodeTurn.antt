@@ -1,30 +1,15 @@
 -- The turns of the loops that decode the tables. Assumes nothing.
-use mathlib.Core.Path.{_≡_, refl, sym, ap, ap₂, _∙_, subst, subst₂}
-use mathlib.Core.Bool.{Bool, true, false, false≢true}
-use mathlib.Core.List.{List, [], Memᴰ·map, Memᴰ·of-map}
-use Prim.Native.Nat.{ℕ, suc, _+_, _*_, _/_, _%_, _≤_, _<_}
-use native.Mathlib.Omega.{arith}
-use native.Mathlib.Nat.{not-suc-le-zero, mul-le-mul-right, suc-mul}
-use native.Mathlib.Numerals.{add-one}
-use lib.Dec.{T, eqb, ltb, ltb→lt, eqb→eq}
-use lib.ListN.{length, set}
-use borrow.Author.Tests.{eqb-true, eqb-false}
+use Rattle.model.specs.Kit.{_≡_, refl, sym, ap, ap₂, _∙_, subst, subst₂, Bool, true, false, List, [], Memᴰ·map, Memᴰ·of-map, ℕ, suc, _+_, _*_, _/_, _%_, _≤_, _<_, arith}
+use Rattle.model.specs.Kit.{not-suc-le-zero, mul-le-mul-right, suc-mul, add-one, T, eqb, ltb, ltb→lt, eqb→eq, length, set, eqb-true, eqb-false}
+use mathlib.Core.Bool.{false≢true}
 use lib.Arith.{digits-lt, digits-div, digits-mod}
-use Rattle.model.specs.Lists.{at, all, below}
-use Rattle.model.specs.ValueSets.{has}
-use Rattle.model.specs.Problem.{Problem, isPair, pair}
-use Rattle.model.specs.Sheet.{headerOf, word, tableAt, problemOf, permutesPairs, distinct}
-use Rattle.model.proofs.Lists.{both-l, all-e, all-i, below-i, below-e, length-below, T-of, of-T}
-use Rattle.model.proofs.Accepted.{at-words}
-use Rattle.model.proofs.Filling.{filled-turn}
-use Rattle.model.specs.Filling.{Filled}
-use Rattle.arrays.specs.Layout.{Images, symmetryAt, pairCode}
-use Rattle.arrays.specs.Places.{IMAGES}
+use Rattle.model.specs.{Lists.at, Lists.all, Lists.below, ValueSets.has, Problem.Problem, Problem.isPair, Problem.pair, Problem.symmetryAt, Sheet.headerOf, Sheet.word}
+use Rattle.model.specs.{Sheet.tableAt, Sheet.problemOf, Sheet.permutesPairs, Sheet.distinct, inner.Filling.Filled}
+use Rattle.model.proofs.{Lists.both-l, Lists.all-e, Lists.all-i, Lists.below-i, Lists.below-e, Lists.length-below, Lists.T-of, Lists.of-T, Accepted.at-words, Filling.filled-turn}
+use Rattle.arrays.specs.{inner.Layout.Images, inner.Layout.pairCode, inner.Places.IMAGES}
 use Rattle.sheet_symmetries.proofs.Codes.{code-small, code-inj}
-use Rattle.sheet.specs.Decoding.{Decodable, Decoded, permuting, TablesDecoded}
-use Rattle.sheet.proofs.Any.{getD-below}
-use Rattle.sheet.proofs.Stating.{FormPassed}
-use Rattle.sheet.proofs.TablesTurn.{tableOffset, table-room}
+use Rattle.sheet.specs.inner.Decoding.{Decodable, Decoded, permuting, TablesDecoded}
+use Rattle.sheet.proofs.{Any.getD-below, Stating.FormPassed, TablesTurn.tableOffset, TablesTurn.table-room}
 
 -- ---- one table
 -- the images of the first k pair numbers, and nothing else changed
@@ -55,7 +40,8 @@ inside : (p : Problem) (g : List ℕ) → T (permutesPairs p g) → (q : ℕ) �
 unfolding permutesPairs
 inside p g t q l =
     go (isPair p q)
-    (all-e (λ q. elim (isPair p q) [ true ↦ isPair p (at g q) | false ↦ eqb (at g q) q ]) (below (p .variables * p .values)) (both-l (all (λ q. elim (isPair p q) [ true ↦ isPair p (at g q) | false ↦ eqb (at g q) q ]) (below (p .variables * p .values))) (distinct g) t) q (below-i (p .variables * p .values) q l))
+    (all-e (λ q. elim (isPair p q) [ true ↦ isPair p (at g q) | false ↦ eqb (at g q) q ]) (below (p .variables * p .values))
+    (both-l (all (λ q. elim (isPair p q) [ true ↦ isPair p (at g q) | false ↦ eqb (at g q) q ]) (below (p .variables * p .values))) (distinct g) t) q (below-i (p .variables * p .values) q l))
   where
     go : (s : Bool) → T (elim s [ true ↦ isPair p (at g q) | false ↦ eqb (at g q) q ]) → at g q < p .variables * p .values
     go true u = is-lt p (at g q) u
@@ -85,7 +71,8 @@ permuted-all b h =
 pub permuted-each : (b : List ℕ) → permuting b ≡ true → (e : ℕ) → e < headerOf b .symmetries → permutedAt b e ≡ true
 unfolding problemOf
 permuted-each b t e l =
-    of-T (permutedAt b e) (all-e (permutesPairs (problemOf b)) (problemOf b .symmetries) (T-of (permuting b) t) (tableAt b (headerOf b) e) (Memᴰ·map (tableAt b (headerOf b)) (below-i (headerOf b .symmetries) e l)))
+    of-T (permutedAt b e) (all-e (permutesPairs (problemOf b)) (problemOf b .symmetries) (T-of (permuting b) t) (tableAt b (headerOf b) e)
+    (Memᴰ·map (tableAt b (headerOf b)) (below-i (headerOf b .symmetries) e l)))
 
 pub permuted-not : (b : List ℕ) (e : ℕ) → e < headerOf b .symmetries → permutedAt b e ≡ false → permuting b ≡ false
 permuted-not b e l n = go (permuting b) refl
@@ -99,7 +86,8 @@ pub record ImagesTo (b : List ℕ) (e o : ℕ) (new : List ℕ) : Type 0 where
   pub here : o ≡ tableOffset b e
   pub sized : length new ≡ IMAGES
   pub permuted : (f : ℕ) → f < e → permutedAt b f ≡ true
-  pub images : (f q : ℕ) → f < e → q < headerOf b .variables * headerOf b .values → at new (192 * f + pairCode (headerOf b .values) q) ≡ pairCode (headerOf b .values) (word b (tableOffset b f + 2 * q))
+  pub images : (f q : ℕ) → f < e → q < headerOf b .variables * headerOf b .values → at new (192 * f + pairCode (headerOf b .values) q) ≡ pairCode (headerOf b .values)
+      (word b (tableOffset b f + 2 * q))
 
 pub images-none : (b : List ℕ) (o : ℕ) (new : List ℕ) → o ≡ headerOf b .third → length new ≡ IMAGES → ImagesTo b 0 o new
 images-none b o new e s =
@@ -110,7 +98,8 @@ images-none b o new e s =
       images = λ f q l. absurd (not-suc-le-zero l);
     }
 
-module _ (b : List ℕ) (v : FormPassed b) (e o : ℕ) (new : List ℕ) (t : ImagesTo b e o new) (l : e < headerOf b .symmetries) (count d : ℕ) (ed : d ≡ headerOf b .values) (ec : count ≡ headerOf b .variables * headerOf b .values) (z : permutedAt b e ≡ true) where
+module _ (b : List ℕ) (v : FormPassed b) (e o : ℕ) (new : List ℕ) (t : ImagesTo b e o new) (l : e < headerOf b .symmetries) (count d : ℕ) (ed : d ≡ headerOf b .values)
+    (ec : count ≡ headerOf b .variables * headerOf b .values) (z : permutedAt b e ≡ true) where
   product : headerOf b .variables * headerOf b .values ≤ 12 * headerOf b .values
   product = mul-le-mul-right (headerOf b .values) (v .fits .few)
 
@@ -142,7 +131,8 @@ module _ (b : List ℕ) (v : FormPassed b) (e o : ℕ) (new : List ℕ) (t : Ima
       asked f m true x = ap (permutedAt b) (eqb-true f e x) ∙ z
       asked f m false x = let n : f ≡ e → ⊥ = eqb-false f e x in t .permuted f (omega arith)
 
-      slot : (g q : ℕ) → g < e + 1 → q < headerOf b .variables * headerOf b .values → (s : Bool) → eqb g e ≡ s → at next (192 * g + pairCode (headerOf b .values) q) ≡ pairCode (headerOf b .values) (word b (tableOffset b g + 2 * q))
+      slot : (g q : ℕ) → g < e + 1 → q < headerOf b .variables * headerOf b .values → (s : Bool) → eqb g e ≡ s → at next (192 * g + pairCode (headerOf b .values) q) ≡ pairCode (headerOf b .values)
+          (word b (tableOffset b g + 2 * q))
       slot g q m h true x =
           let y : g ≡ e = eqb-true g e x in
           ap₂ (λ (i j : ℕ). at next (192 * i + pairCode j q)) y (sym ed) ∙ u .images q (omega arith)

@@ -1,28 +1,15 @@
 -- The answer to questions 1 to 14 from those of the parts. Assumes nothing.
-use mathlib.Core.Path.{_≡_, refl, sym, ap, ap₂, _∙_, subst}
-use mathlib.Core.Bool.{Bool, true, false}
-use mathlib.Core.List.{List}
-use Prim.Native.Nat.{ℕ, _*_, _≤_, _<_}
-use native.Mathlib.Omega.{arith}
-use native.Mathlib.Nat.{mul-le-mul}
-use lib.ListN.{length}
-use borrow.Author.Tests.{lt-leb}
-use Rattle.model.specs.Verdict.{Verdict, accepted, ask}
-use Rattle.model.specs.Sheet.{Header as Numbers′, headerOf, problemOf, headerVerdict, tablesFit, formVerdict}
-use Rattle.arrays.specs.Layout.{Numbers, Supports}
-use Rattle.arrays.specs.Places.{SUPPORTS, NUMBERS}
-use Rattle.sheet.specs.Meaning.{means, andThen, Answers}
-use Rattle.sheet.specs.Parts.{headerAsked, setsAsked, Fit, AllSets, SetsAsked}
-use Rattle.sheet.specs.Steps.{constraintsAsked, ConstraintsAsked, numbersTo}
-use Rattle.sheet.specs.Form.{Zeros, counted, FormAsked, FormRead}
-use Rattle.reader.specs.Read.{stated}
-use Rattle.reader.specs.declared.Header.{Header}
-use Rattle.sheet.specs.declared.Answer.{Answer}
-use Rattle.sheet.specs.declared.Answer.the-variants.{Accepted, Refused}
+use Rattle.model.specs.Kit.{_≡_, refl, sym, ap, ap₂, _∙_, subst, Bool, true, false, List, ℕ, _*_, _≤_, _<_, arith, mul-le-mul, length, lt-leb}
+use Rattle.model.specs.{Verdict.Verdict, Verdict.accepted, Verdict.ask, Sheet.Header as Numbers′, Sheet.headerOf, Sheet.problemOf, Sheet.headerVerdict, Sheet.tablesFit}
+use Rattle.model.specs.Sheet.{formVerdict}
+use Rattle.arrays.specs.{inner.Layout.Numbers, inner.Layout.Supports, inner.Places.SUPPORTS, inner.Places.NUMBERS}
+use Rattle.sheet.specs.{Meaning.means, Meaning.andThen, Meaning.Answers, inner.Parts.headerAsked, inner.Parts.setsAsked, inner.Parts.Fit, inner.Parts.AllSets}
+use Rattle.sheet.specs.{inner.Parts.SetsAsked, inner.Steps.constraintsAsked, inner.Steps.ConstraintsAsked, inner.Steps.numbersTo, Form.Zeros, Form.counted, Form.FormAsked}
+use Rattle.sheet.specs.{Form.FormRead, declared.Answer.Answer, declared.Answer.the-variants.Accepted, declared.Answer.the-variants.Refused}
 use Rattle.sheet.specs.declared.form.Form.the-variants.{Passed, Refused as NotPassed}
-use Rattle.sheet.proofs.Asking.{stop}
-use Rattle.sheet.proofs.Passed.{fit, good, is-accepted}
-use Rattle.sheet.proofs.Numbered.{numbered, numbered-length, supports-length, supports-hold}
+use Rattle.reader.specs.{inner.Read.stated, declared.Header.Header}
+use Rattle.sheet.proofs.{Asking.stop, Passed.fit, Passed.good, Numbered.numbered, Numbered.numbered-length, Numbered.supports-length, Numbered.supports-hold}
+use Rattle.model.proofs.Accepted.{is-accepted}
 
 -- counts multiplied
 pub pair-room : (n d : ℕ) → n ≤ 12 → d ≤ 16 → n * d ≤ 192
@@ -78,7 +65,8 @@ module _ (b : List ℕ) where
           refusal b numbers supports r n i e
           (λ later. no-no (headerAsked b) r₁ e₁ a₁ _ ∙ no-no (setsAsked b) r₂ e₂ (a₂ .answers) _ ∙ first-no (constraintsAsked b) ends r n i e (a .answers) later)
 
-      module _ (sup numbers supports : List ℕ) (r₃ : Answer) (e₃ : r₃ ≡ Accepted) (a₃ : ConstraintsAsked b mid sup numbers supports r₃) (h : Header) (eh : stated h ≡ headerOf b) (t : Bool) (et : t ≡ tablesFit (stated h)) where
+      module _ (sup numbers supports : List ℕ) (r₃ : Answer) (e₃ : r₃ ≡ Accepted) (a₃ : ConstraintsAsked b mid sup numbers supports r₃) (h : Header) (eh : stated h ≡ headerOf b) (t : Bool)
+          (et : t ≡ tablesFit (stated h)) where
         asked : (v : Bool) → t ≡ v → (later : Verdict) → formVerdict b later ≡ ask v 14 0 later
         unfolding formVerdict
         asked v q later =
@@ -88,10 +76,12 @@ module _ (b : List ℕ) where
         pub form-length : t ≡ false → FormAsked b numbers supports (Refused 14 0)
         form-length q = refusal b numbers supports (Refused 14 0) 14 0 refl (asked false q)
 
-        pub form-whole : (last : List ℕ) → t ≡ true → m ≡ headerOf b .variables → Zeros NUMBERS old → Zeros SUPPORTS sup → last ≡ counted (h .variables) (h .values) (h .constraints) (h .symmetries) numbers → FormAsked b last supports Accepted
+        pub form-whole : (last : List ℕ) → t ≡ true → m ≡ headerOf b .variables → Zeros NUMBERS old → Zeros SUPPORTS sup → last ≡ counted (h .variables) (h .values) (h .constraints)
+            (h .symmetries) numbers → FormAsked b last supports Accepted
         form-whole last q em zn zs el =
             let f = fit-of b r₁ e₁ a₁ in
-            let gs = good b (headerOf b) (headerOf b .constraints) 0 (headerOf b .second) accepted (is-accepted (constraintsAsked b accepted) (no-no (constraintsAsked b) r₃ e₃ (a₃ .answers) accepted)) .0 in
+            let gs = good b (headerOf b) (headerOf b .constraints) 0 (headerOf b .second) accepted
+            (is-accepted (constraintsAsked b accepted) (no-no (constraintsAsked b) r₃ e₃ (a₃ .answers) accepted)) .0 in
             let sets = subst (λ (x : ℕ). AllSets b x old mid) em (a₂ .filled e₂) in
             record {
               answers = asked true q;

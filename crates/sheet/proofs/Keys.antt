@@ -1,18 +1,10 @@
 -- A row of values below 16 as one number: the order of rows is that of their numbers, and equal rows have equal numbers. Assumes nothing.
-use mathlib.Core.Path.{_≡_, refl, sym, ap, ap₂, _∙_, subst}
-use mathlib.Core.Bool.{Bool, true, false}
-use mathlib.Core.List.{List, [], _∷_, _++_, map}
-use Prim.Native.Nat.{ℕ, zero, suc, _+_, _*_, _≤_, _<_}
-use native.Mathlib.Omega.{arith}
-use native.Mathlib.Numerals.{add-one}
-use lib.Dec.{T, eqb, ltb, ltb→lt, eqb→eq}
-use lib.ListN.{length}
-use borrow.Author.Tests.{eq-eqb, eqb-true, eqb-false, lt-ltb, le-ltb, ltb-true, ltb-false}
-use Rattle.model.specs.Lists.{all, below, upFrom, same, earlier}
-use Rattle.model.specs.Sheet.{word, words}
-use Rattle.arrays.specs.Layout.{place}
+use Rattle.model.specs.Kit.{_≡_, refl, sym, ap, ap₂, _∙_, subst, Bool, true, false, List, [], _∷_, _++_, map, ℕ, zero, suc, _+_, _*_, _≤_, _<_, arith, add-one, T, eqb, ltb, ltb→lt}
+use Rattle.model.specs.Kit.{eqb→eq, length, eq-eqb, eqb-true, eqb-false, lt-ltb, le-ltb, ltb-true, ltb-false}
+use Rattle.model.specs.{Lists.all, Lists.below, Lists.upFrom, Lists.same, Lists.earlier, Sheet.word, Sheet.words}
+use Rattle.arrays.specs.inner.Layout.{place}
 use Rattle.model.proofs.Lists.{all-cons, both-l, both-r, upFrom-add, map-append, T-ext, T-of, same-eq, same-refl}
-use Rattle.sheet.specs.Fill.{keyTo}
+use Rattle.sheet.specs.inner.Fill.{keyTo}
 
 -- the digits of a list after those of x
 unfoldable pub keyFrom : ℕ → List ℕ → ℕ

@@ -1,27 +1,11 @@
 -- The numbers and the support sets of a sheet that passed questions 1 to 14. Assumes nothing.
-use mathlib.Core.Path.{_≡_, sym, ap, ap₂, _∙_, subst}
-use mathlib.Core.Bool.{Bool}
-use mathlib.Core.List.{List, [], _∷_, _++_, map}
-use Prim.Native.Nat.{ℕ, suc, _+_, _*_, _/_, _%_, _^_, _<_}
-use native.Mathlib.Omega.{arith}
-use lib.Dec.{eqb}
-use lib.ListN.{length, set, length-set}
-use borrow.Author.Tests.{lt-ltb}
-use Rattle.model.specs.Lists.{at, both, either, any, below, same}
-use Rattle.model.specs.ValueSets.{has, maskOf}
-use Rattle.model.specs.Problem.{Constraint}
+use Rattle.model.specs.Kit.{_≡_, sym, ap, ap₂, _∙_, subst, Bool, List, [], _∷_, _++_, map, ℕ, suc, _+_, _*_, _/_, _%_, _^_, _<_, arith, eqb, length, set, length-set, lt-ltb}
+use Rattle.model.specs.{Lists.at, Lists.both, Lists.either, Lists.any, Lists.below, Lists.same, ValueSets.has, ValueSets.maskOf, Problem.Constraint, Problem.constraintAt}
 use Rattle.model.specs.Sheet.{headerOf, word, scopeAt, rowsAt, problemOf, tableAt}
-use Rattle.model.proofs.Lists.{length-below, at-set, at-set-other}
-use Rattle.model.proofs.Sets.{has-none}
-use Rattle.model.proofs.Accepted.{length-words, at-words}
-use Rattle.arrays.specs.Layout.{Numbers, Supports, constraintAt, place}
-use Rattle.arrays.specs.Places.{SUPPORTS, NUMBERS}
-use Rattle.sheet.specs.Parts.{Fit, AllSets}
-use Rattle.sheet.specs.Steps.{offsetAt, numbersTo, supportsTo}
-use Rattle.sheet.specs.Form.{counted}
-use Rattle.sheet.proofs.Touch.{Good, Held, held, packed-arity, packed-at}
-use Rattle.sheet.proofs.Backing.{Backed, backed, set-of-rows}
-use Rattle.sheet.proofs.Passed.{length-constraints, constraint-at}
+use Rattle.model.proofs.{Lists.length-below, Lists.at-set, Lists.at-set-other, Sets.has-none, Accepted.length-words, Accepted.at-words, Accepted.length-constraints}
+use Rattle.arrays.specs.{inner.Layout.Numbers, inner.Layout.Supports, inner.Layout.place, inner.Places.SUPPORTS, inner.Places.NUMBERS}
+use Rattle.sheet.specs.{inner.Parts.Fit, inner.Parts.AllSets, inner.Steps.offsetAt, inner.Steps.numbersTo, inner.Steps.supportsTo, Form.counted}
+use Rattle.sheet.proofs.{Touch.Good, Touch.Held, Touch.held, Touch.packed-arity, Touch.packed-at, Backing.Backed, Backing.backed, Backing.set-of-rows, Passed.constraint-at}
 
 -- ---- the four counts
 module _ (n d c g : ℕ) (l : List ℕ) (long : length l ≡ NUMBERS) where
@@ -108,7 +92,8 @@ module _ (b : List ℕ) where
       touching x k hx hk =
           let h : k < headerOf b .constraints = omega (arith, many) in
           ap (λ (s : ℕ). has s k) (low x (omega arith)) ∙ t .touching x k hx
-          ∙ ap₂ (λ (u v : Bool). either u (both v (any (eqb x) (scopeAt b (offsetAt b (headerOf b .second) k))))) (ap (λ (s : ℕ). has s k) (sets .low x hx ∙ blank x) ∙ has-none k) (lt-ltb k (headerOf b .constraints) h)
+          ∙ ap₂ (λ (u v : Bool). either u (both v (any (eqb x) (scopeAt b (offsetAt b (headerOf b .second) k))))) (ap (λ (s : ℕ). has s k) (sets .low x hx ∙ blank x) ∙ has-none k)
+          (lt-ltb k (headerOf b .constraints) h)
           ∙ ap (any (eqb x)) (sym (scope-is k h))
 
       pub numbered-length : length new ≡ NUMBERS
@@ -120,7 +105,8 @@ module _ (b : List ℕ) where
           record {
             touching = touching;
             touching-few = λ x h. subst (λ (s : ℕ). s < 2 ^ length (problemOf b .constraints)) (sym (low x (omega arith))) (subst (λ (k : ℕ). at mid x < 2 ^ k) (sym many) (t .touching-few x h));
-            initial = λ x h. (let w : x < 12 = omega (arith, f .few) in low (16 + x) (omega arith) ∙ t .kept (16 + x) (omega arith) (omega arith) ∙ sets .initial x h ∙ sym (at-words b 16 (headerOf b .variables) x h));
+            initial = λ x h. (let w : x < 12 = omega (arith, f .few) in low (16 + x) (omega arith) ∙ t .kept (16 + x) (omega arith) (omega arith) ∙ sets .initial x h ∙ sym
+                (at-words b 16 (headerOf b .variables) x h));
             unused = λ x h k. low (16 + x) (omega arith) ∙ t .kept (16 + x) (omega arith) (omega arith) ∙ sets .unused x h k;
             arity = λ k h. (let w : k < headerOf b .constraints = omega (arith, many) in
                 ap (λ (s : ℕ). s % 256) (low (32 + k) (omega (arith, f .constraints)) ∙ t .packs k w)
@@ -141,8 +127,10 @@ module _ (b : List ℕ) where
           tables = length-below (tableAt b (headerOf b)) (headerOf b .symmetries)
 
     -- ---- the support sets
-    supports-backed : (l : List ℕ) → length l ≡ SUPPORTS → ((y : ℕ) → at l y ≡ 0) → Backed b (headerOf b .second) (headerOf b .constraints) l (supportsTo b (headerOf b .second) (headerOf b .constraints) l)
-    supports-backed l long blank = backed b (headerOf b .variables) (headerOf b .values) (headerOf b .second) (headerOf b .constraints) (f .sixteen) (f .constraints) good l long blank (headerOf b .constraints) (omega arith)
+    supports-backed : (l : List ℕ) → length l ≡ SUPPORTS → ((y : ℕ) → at l y ≡ 0) → Backed b (headerOf b .second) (headerOf b .constraints) l
+        (supportsTo b (headerOf b .second) (headerOf b .constraints) l)
+    supports-backed l long blank = backed b (headerOf b .variables) (headerOf b .values) (headerOf b .second) (headerOf b .constraints) (f .sixteen) (f .constraints) good l long blank
+        (headerOf b .constraints) (omega arith)
 
     pub supports-length : (l : List ℕ) → length l ≡ SUPPORTS → ((y : ℕ) → at l y ≡ 0) → length (supportsTo b (headerOf b .second) (headerOf b .constraints) l) ≡ SUPPORTS
     supports-length l long blank = supports-backed l long blank .sized ∙ long

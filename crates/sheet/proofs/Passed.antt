@@ -1,23 +1,10 @@
 -- What the questions leave where the answer is that there is no "no". Assumes nothing.
-use mathlib.Core.Path.{_≡_, refl, sym, ap, _∙_, subst}
-use mathlib.Core.List.{List, []}
-use Prim.Native.Nat.{ℕ, zero, suc, _+_, _*_, _<_}
-use native.Mathlib.Omega.{arith}
-use native.Mathlib.Nat.{not-suc-le-zero}
-use lib.Dec.{T, leb, ltb, eqb, leb→le, ltb→lt}
-use lib.ListN.{length, getD}
-use Rattle.model.specs.Lists.{both, all, ascending}
-use Rattle.model.specs.Verdict.{Verdict, accepted, isAccepted}
-use Rattle.model.specs.Sheet.{Header, headerOf, word, words, scopeAt, rowsAt, afterAt, constraintsFrom, constraintsVerdict}
-use Rattle.model.proofs.Lists.{both-l, both-r}
-use Rattle.model.proofs.Accepted.{asked, header-e, ConstraintPassed, constraint-asked}
-use Rattle.sheet.specs.Parts.{headerAsked, Fit}
-use Rattle.sheet.specs.Steps.{offsetAt}
-use Rattle.sheet.proofs.Words.{map-all-e, words-all-e}
-use Rattle.sheet.proofs.Touch.{Good}
-
-pub is-accepted : (v : Verdict) → v ≡ accepted → T (isAccepted v)
-is-accepted v e = subst (λ (w : Verdict). T (isAccepted w)) (sym e) tt
+use Rattle.model.specs.Kit.{_≡_, refl, ap, _∙_, subst, List, [], ℕ, zero, suc, _+_, _*_, _<_, arith, not-suc-le-zero, T, leb, ltb, eqb, leb→le, ltb→lt, length, getD}
+use Rattle.model.specs.{Lists.both, Lists.all, Lists.ascending, Verdict.Verdict, Verdict.isAccepted, Sheet.Header, Sheet.headerOf, Sheet.word, Sheet.words, Sheet.scopeAt}
+use Rattle.model.specs.Sheet.{rowsAt, afterAt, constraintsFrom, constraintsVerdict}
+use Rattle.model.proofs.{Lists.both-l, Lists.both-r, Accepted.asked, Accepted.header-e, Accepted.ConstraintPassed, Accepted.constraint-asked}
+use Rattle.sheet.specs.{inner.Parts.headerAsked, inner.Parts.Fit, inner.Steps.offsetAt}
+use Rattle.sheet.proofs.{Words.map-all-e, Words.words-all-e, Touch.Good}
 
 -- questions 1 to 7
 pub fit : (b : List ℕ) (later : Verdict) → T (isAccepted (headerAsked b later)) → Fit b × T (isAccepted later)
@@ -60,19 +47,16 @@ module _ (b : List ℕ) (h : Header) where
           record {
             some = leb→le 1 (word b o) (both-l (leb 1 (word b o)) (leb (word b o) 3) sizes);
             few = leb→le (word b o) 3 (both-r (leb 1 (word b o)) (leb (word b o) 3) sizes);
-            scoped = λ m z. ltb→lt (word b (o + 4 + 2 * m)) (h .variables) (words-all-e (λ x. ltb x (h .variables)) b (o + 4) (word b o) (both-l (all (λ x. ltb x (h .variables)) (scopeAt b o)) (ascending (scopeAt b o)) (q .scoped)) m z);
+            scoped = λ m z. ltb→lt (word b (o + 4 + 2 * m)) (h .variables) (words-all-e (λ x. ltb x (h .variables)) b (o + 4) (word b o)
+                (both-l (all (λ x. ltb x (h .variables)) (scopeAt b o)) (ascending (scopeAt b o)) (q .scoped)) m z);
             ordered = both-r (all (λ x. ltb x (h .variables)) (scopeAt b o)) (ascending (scopeAt b o)) (q .scoped);
             valued = map-all-e (all (λ w. ltb w (h .values))) (λ m. words b (o + 4 + 2 * word b o + 2 * (m * word b o)) (word b o)) (word b (o + 2)) (q .valued);
           }
       go q ih (suc j) l = subst (Good b (h .variables) (h .values)) (offset-next b o j) (ih j (omega arith))
 
 -- the constraints of the problem
-pub length-constraints : (b : List ℕ) (k o : ℕ) → length (constraintsFrom b k o) ≡ k
-unfolding constraintsFrom
-length-constraints b zero o = refl
-length-constraints b (suc k) o = ap suc (length-constraints b k (afterAt b o))
-
-pub constraint-at : (b : List ℕ) (k o j : ℕ) → j < k → getD (constraintsFrom b k o) j (record { scope = []; rows = [] }) ≡ record { scope = scopeAt b (offsetAt b o j); rows = rowsAt b (offsetAt b o j) }
+pub constraint-at : (b : List ℕ) (k o j : ℕ) → j < k → getD (constraintsFrom b k o) j (record { scope = []; rows = [] }) ≡ record
+    { scope = scopeAt b (offsetAt b o j); rows = rowsAt b (offsetAt b o j) }
 unfolding constraintsFrom offsetAt
 constraint-at b zero o j l = absurd (not-suc-le-zero l)
 constraint-at b (suc k) o zero l = refl

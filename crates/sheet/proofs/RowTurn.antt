@@ -1,16 +1,8 @@
 -- The turns of the loops over one row and over the rows of a constraint. Assumes nothing.
-use mathlib.Core.Path.{_≡_, refl, sym, ap, ap₂, _∙_, subst}
-use mathlib.Core.Bool.{Bool, true, false}
-use mathlib.Core.List.{List}
-use Prim.Native.Nat.{ℕ, zero, suc, _+_, _*_, _≤_, _<_}
-use native.Mathlib.Omega.{arith}
-use native.Mathlib.Nat.{not-suc-le-zero, mul-le-mul-right, suc-mul}
-use native.Mathlib.Numerals.{add-one}
-use lib.Dec.{T, ltb, ltb→lt, lt→ltb, eqb}
-use borrow.Author.Tests.{eqb-true, eqb-false}
-use Rattle.model.specs.Lists.{all, choose}
-use Rattle.model.specs.Sheet.{word, words}
-use Rattle.sheet.specs.Fill.{keyTo, rowKey, rowFits, leastKey, order, withRow, withRows, RowRead, RowsAsked}
+use Rattle.model.specs.Kit.{_≡_, refl, sym, ap, ap₂, _∙_, subst, Bool, true, false, List, ℕ, zero, suc, _+_, _*_, _≤_, _<_, arith, not-suc-le-zero, mul-le-mul-right, suc-mul}
+use Rattle.model.specs.Kit.{add-one, T, ltb, ltb→lt, lt→ltb, eqb, eqb-true, eqb-false}
+use Rattle.model.specs.{Lists.all, Lists.choose, Sheet.word, Sheet.words}
+use Rattle.sheet.specs.inner.Fill.{keyTo, rowKey, rowFits, leastKey, order, withRow, withRows, RowRead, RowsAsked}
 use Rattle.sheet.proofs.Words.{words-all-i, words-all-e}
 
 -- ---- one row

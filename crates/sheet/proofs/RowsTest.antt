@@ -1,20 +1,10 @@
 -- What was asked of the rows one by one is what questions 12 and 13 ask of them together. Assumes nothing.
-use mathlib.Core.Path.{_≡_, refl, sym, ap₂, _∙_, subst}
-use mathlib.Core.Bool.{Bool, true, false}
-use mathlib.Core.Logic.{_⊎_, inl, inr}
-use mathlib.Core.List.{List, map}
-use Prim.Native.Nat.{ℕ, zero, suc, _+_, _*_, _≤_, _<_}
-use native.Mathlib.Omega.{arith}
-use lib.Dec.{T, eqb, ltb, ltb→lt, lt→ltb}
-use borrow.Author.Tests.{ltb-true, ltb-false, lt-ltb, eqb-true, eqb-false}
-use Rattle.model.specs.Lists.{all, below, earlier, rowsAscend, choose}
-use Rattle.model.specs.Sheet.{word, words}
-use Rattle.model.proofs.Lists.{T-of, of-T, not-of}
-use Rattle.model.proofs.Accepted.{length-words}
-use Rattle.sheet.specs.Fill.{rowKey, rowFits, leastKey, order}
-use Rattle.sheet.proofs.Words.{map-all-i, map-all-e, words-all-i, words-all-e}
-use Rattle.sheet.proofs.Keys.{Digits, key-earlier, key-words}
-use Rattle.sheet.proofs.Ascend.{rows-i, rows-e}
+use Rattle.model.specs.Kit.{_≡_, refl, sym, ap₂, _∙_, subst, Bool, true, false, _⊎_, inl, inr, List, map, ℕ, zero, suc, _+_, _*_, _≤_, _<_, arith, T, eqb, ltb, ltb→lt, lt→ltb}
+use Rattle.model.specs.Kit.{ltb-true, ltb-false, lt-ltb, eqb-true, eqb-false}
+use Rattle.model.specs.{Lists.all, Lists.below, Lists.earlier, Lists.rowsAscend, Lists.choose, Sheet.word, Sheet.words}
+use Rattle.model.proofs.{Lists.T-of, Lists.of-T, Lists.not-of, Accepted.length-words}
+use Rattle.sheet.specs.inner.Fill.{rowKey, rowFits, leastKey, order}
+use Rattle.sheet.proofs.{Words.map-all-i, Words.map-all-e, Words.words-all-i, Words.words-all-e, Keys.Digits, Keys.key-earlier, Keys.key-words, Ascend.rows-i, Ascend.rows-e}
 
 -- values below d are digits
 pub digits : (b : List ℕ) (o a d : ℕ) → d ≤ 16 → T (all (λ w. ltb w d) (words b o a)) → Digits (words b o a)
@@ -24,7 +14,8 @@ digits b o a d l t =
 
 module _ (b : List ℕ) (from a d : ℕ) (d16 : d ≤ 16) where
   -- keys are in the rows' order
-  row-earlier : (i j : ℕ) → T (rowFits b from a d i) → T (rowFits b from a d j) → earlier (words b (from + 2 * (i * a)) a) (words b (from + 2 * (j * a)) a) ≡ ltb (rowKey b from a i) (rowKey b from a j)
+  row-earlier : (i j : ℕ) → T (rowFits b from a d i) → T (rowFits b from a d j) → earlier (words b (from + 2 * (i * a)) a) (words b (from + 2 * (j * a)) a) ≡ ltb (rowKey b from a i)
+      (rowKey b from a j)
   row-earlier i j p q =
       let o = from + 2 * (i * a) in
       let u = from + 2 * (j * a) in

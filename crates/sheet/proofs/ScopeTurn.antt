@@ -1,21 +1,11 @@
 -- The turns of the loop over the scope of a constraint. Assumes nothing.
-use mathlib.Core.Path.{_≡_, refl, sym, ap, ap₂, _∙_, subst}
-use mathlib.Core.Bool.{Bool, true, false}
-use mathlib.Core.List.{List}
-use Prim.Native.Nat.{ℕ, zero, suc, _+_, _*_, _%_, _^_, _≤_, _<_}
-use native.Mathlib.Omega.{arith}
-use native.Mathlib.Nat.{not-suc-le-zero, pow-suc, mul-le-mul-right}
-use lib.Bits.{bitOr}
-use lib.ListN.{set, getD}
-use lib.Dec.{T, ltb, ltb→lt, lt→ltb, eqb}
-use borrow.Author.Tests.{eqb-true, eqb-false}
-use Rattle.model.specs.Lists.{all, at, both, ascending}
-use Rattle.model.specs.Sheet.{word, words}
-use Rattle.model.proofs.Lists.{both-i, both-l, both-r, of-T, not-of}
-use Rattle.model.proofs.Members.{one-bit}
-use Rattle.sheet.specs.Fill.{touch, touched, packed, leastAt, ScopeAsked}
-use Rattle.sheet.proofs.Words.{words-all-i, words-all-e}
-use Rattle.sheet.proofs.Ascend.{ascending-i, ascending-e}
+use Rattle.model.specs.Kit.{_≡_, refl, sym, ap, ap₂, _∙_, subst, Bool, true, false, List, ℕ, zero, suc, _+_, _*_, _%_, _^_, _≤_, _<_, arith, not-suc-le-zero, mul-le-mul-right}
+use Rattle.model.specs.Kit.{bitOr, set, getD, T, ltb, ltb→lt, lt→ltb, eqb, eqb-true, eqb-false}
+use native.Mathlib.Nat.{pow-suc}
+use Rattle.model.specs.{Lists.all, Lists.at, Lists.both, Lists.ascending, Sheet.word, Sheet.words}
+use Rattle.model.proofs.{Lists.both-i, Lists.both-l, Lists.both-r, Lists.of-T, Lists.not-of, Members.one-bit}
+use Rattle.sheet.specs.inner.Fill.{touch, touched, packed, leastAt, ScopeAsked}
+use Rattle.sheet.proofs.{Words.words-all-i, Words.words-all-e, Ascend.ascending-i, Ascend.ascending-e}
 
 pub touch-is : (k x : ℕ) (l : List ℕ) → k < 64 → set l x (bitOr (getD l x 0) (1 * 2 ^ k % 2 ^ 64)) ≡ touch k x l
 unfolding touch at

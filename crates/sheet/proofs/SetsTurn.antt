@@ -1,22 +1,11 @@
 -- The turns of the loops over the initial sets: what is asked and what is stored for one variable. Assumes nothing.
-use mathlib.Core.Path.{_≡_, refl, sym, ap, _∙_, subst}
-use mathlib.Core.Bool.{Bool, true, false, not}
-use mathlib.Core.List.{List, _∷_}
-use Prim.Native.Nat.{ℕ, suc, _+_, _-_, _*_, _^_, _≤_, _<_}
-use native.Mathlib.Omega.{arith}
-use lib.ListN.{length, set}
-use lib.Dec.{eqb, leb, ltb}
-use borrow.Author.Tests.{lt-ltb, le-ltb, ltb-true, ltb-false, leb-true, leb-false}
-use Rattle.model.specs.Lists.{both, below, upFrom}
-use Rattle.model.specs.ValueSets.{fullMask}
-use Rattle.model.specs.Verdict.{Verdict, refused, ask}
-use Rattle.model.specs.Sheet.{Header, word, headerOf, setsVerdict}
-use Rattle.model.proofs.Masks.{shl-one, shl-pos, full-op, full-all}
-use Rattle.model.proofs.Filling.{filled-turn}
-use Rattle.model.specs.Filling.{Filled}
-use Rattle.arrays.specs.Places.{NUMBERS}
-use Rattle.sheet.specs.Parts.{ZeroSets, AllSets, SetsAsked}
-use Rattle.sheet.specs.declared.Answer.the-variants.{Accepted, Refused}
+use Rattle.model.specs.Kit.{_≡_, refl, sym, ap, _∙_, subst, Bool, true, false, not, List, _∷_, ℕ, suc, _+_, _-_, _*_, _^_, _≤_, _<_, arith, length, set, eqb, leb, ltb, lt-ltb}
+use Rattle.model.specs.Kit.{le-ltb, ltb-true, ltb-false, leb-true, leb-false}
+use Rattle.model.specs.{Lists.both, Lists.below, Lists.upFrom, ValueSets.fullMask, Verdict.Verdict, Verdict.refused, Verdict.ask, Sheet.Header, Sheet.word, Sheet.headerOf}
+use Rattle.model.specs.{Sheet.setsVerdict, inner.Filling.Filled}
+use Rattle.model.proofs.{Masks.shl-one, Masks.shl-pos, Masks.full-op, Masks.full-all, Filling.filled-turn}
+use Rattle.arrays.specs.inner.Places.{NUMBERS}
+use Rattle.sheet.specs.{inner.Parts.ZeroSets, inner.Parts.AllSets, inner.Parts.SetsAsked, declared.Answer.the-variants.Accepted, declared.Answer.the-variants.Refused}
 
 -- ---- the question
 -- the variables before x passed
@@ -71,14 +60,16 @@ pub passed-all : (b : List ℕ) (h : Header) (n x : ℕ) → n ≤ x → PassedT
 unfolding setsVerdict upFrom
 passed-all b h n x l p later = p later ∙ ap (λ (k : ℕ). setsVerdict b h (upFrom x k) later) (let e : n - x ≡ 0 = omega arith in e)
 
-pub sets-refused : (b : List ℕ) (n x : ℕ) (old new : List ℕ) → n ≡ headerOf b .variables → ((later : Verdict) → setsVerdict b (headerOf b) (below n) later ≡ refused 8 x) → SetsAsked b n old new (Refused 8 x)
+pub sets-refused : (b : List ℕ) (n x : ℕ) (old new : List ℕ) → n ≡ headerOf b .variables → ((later : Verdict) → setsVerdict b (headerOf b) (below n) later ≡ refused 8 x) → SetsAsked b n old new
+    (Refused 8 x)
 sets-refused b n x old new e p =
     record {
       answers = subst (λ (m : ℕ). (later : Verdict) → setsVerdict b (headerOf b) (below m) later ≡ refused 8 x) e p;
       filled = λ q. absurd (let z : _≡_ {A = ℕ} 0 1 = cc in omega arith);
     }
 
-pub sets-accepted : (b : List ℕ) (n : ℕ) (old new : List ℕ) → n ≡ headerOf b .variables → ((later : Verdict) → setsVerdict b (headerOf b) (below n) later ≡ later) → AllSets b n old new → SetsAsked b n old new Accepted
+pub sets-accepted : (b : List ℕ) (n : ℕ) (old new : List ℕ) → n ≡ headerOf b .variables → ((later : Verdict) → setsVerdict b (headerOf b) (below n) later ≡ later) → AllSets b n old new
+    → SetsAsked b n old new Accepted
 sets-accepted b n old new e p f =
     record {
       answers = subst (λ (m : ℕ). (later : Verdict) → setsVerdict b (headerOf b) (below m) later ≡ later) e p;

@@ -1,19 +1,11 @@
 -- The problem that a sheet states once it passed questions 1 to 14, as questions 15 and 16 want it. Assumes nothing.
-use mathlib.Core.Path.{_≡_, refl, sym, _∙_, subst}
-use mathlib.Core.List.{List}
-use Prim.Native.Nat.{ℕ, _+_, _*_, _^_, _<_}
-use native.Mathlib.Omega.{arith}
-use lib.Dec.{T, eqb→eq}
-use lib.ListN.{length}
-use Rattle.model.specs.Lists.{at, below}
-use Rattle.model.specs.Verdict.{Verdict, accepted, ask, isAccepted}
-use Rattle.model.specs.Sheet.{headerOf, problemOf, tablesFit, formVerdict}
-use Rattle.model.proofs.Lists.{below-i}
-use Rattle.model.proofs.Accepted.{asked, at-words, sets-e, constraints-e}
-use Rattle.sheet_symmetries.specs.Table.{Stated}
-use Rattle.sheet.specs.Parts.{setsAsked, Fit}
-use Rattle.sheet.specs.Steps.{constraintsAsked}
-use Rattle.sheet.proofs.Passed.{is-accepted, fit, length-constraints}
+use Rattle.model.specs.Kit.{_≡_, refl, sym, _∙_, subst, List, ℕ, _+_, _*_, _^_, _<_, arith, T, eqb→eq, length}
+use Rattle.model.specs.{Lists.at, Lists.below, Verdict.Verdict, Verdict.accepted, Verdict.ask, Verdict.isAccepted, Sheet.headerOf, Sheet.problemOf, Sheet.tablesFit}
+use Rattle.model.specs.Sheet.{formVerdict}
+use Rattle.model.proofs.{Lists.below-i, Accepted.asked, Accepted.at-words, Accepted.sets-e, Accepted.constraints-e, Accepted.is-accepted, Accepted.length-constraints}
+use Rattle.sheet_symmetries.specs.inner.Table.{Stated}
+use Rattle.sheet.specs.{inner.Parts.setsAsked, inner.Parts.Fit, inner.Steps.constraintsAsked}
+use Rattle.sheet.proofs.Passed.{fit}
 
 -- what passing questions 1 to 14 leaves
 pub record FormPassed (b : List ℕ) : Type 0 where

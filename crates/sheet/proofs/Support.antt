@@ -1,19 +1,9 @@
 -- What the rows leave in the withRow sets. Assumes nothing.
-use mathlib.Core.Path.{_≡_, refl, sym, ap, ap₂, _∙_, subst}
-use mathlib.Core.Bool.{Bool, true, false}
-use mathlib.Core.List.{List, map}
-use Prim.Native.Nat.{ℕ, zero, suc, _+_, _/_, _%_, _^_, _≤_, _<_}
-use native.Mathlib.Omega.{arith}
-use lib.Dec.{eqb}
-use lib.ListN.{length, set, length-set}
-use borrow.Author.Tests.{eqb-true, eqb-false, eq-eqb, ne-eqb}
-use Rattle.model.specs.Lists.{at, either, any, below}
-use Rattle.model.specs.ValueSets.{has, unionMask}
-use Rattle.model.proofs.Lists.{at-set, at-set-other}
-use Rattle.model.proofs.Sets.{has-mask, mask-lt}
-use Rattle.model.proofs.Masks.{has-one}
-use Rattle.model.proofs.Members.{either-no}
-use Rattle.sheet.specs.Fill.{rowKey, withRow, withRows}
+use Rattle.model.specs.Kit.{_≡_, refl, sym, ap, ap₂, _∙_, subst, Bool, true, false, List, map, ℕ, zero, suc, _+_, _/_, _%_, _^_, _≤_, _<_, arith, eqb, length, set, length-set}
+use Rattle.model.specs.Kit.{eqb-true, eqb-false, eq-eqb, ne-eqb}
+use Rattle.model.specs.{Lists.at, Lists.either, Lists.any, Lists.below, ValueSets.has, ValueSets.unionMask}
+use Rattle.model.proofs.{Lists.at-set, Lists.at-set-other, Sets.has-mask, Sets.mask-lt, Masks.has-one, Members.either-no}
+use Rattle.sheet.specs.inner.Fill.{rowKey, withRow, withRows}
 use Rattle.sheet.proofs.Any.{either-assoc, any-more, any-none}
 
 -- numbers are equal where quotient and remainder are
@@ -48,7 +38,8 @@ row-small base x y l s h = go (eqb y (base + x / 16)) refl
   where
     go : (t : Bool) → eqb y (base + x / 16) ≡ t → at (set l (base + x / 16) (unionMask (at l (base + x / 16)) (2 ^ (x % 16)))) y < 2 ^ 16
     go true e =
-        subst (λ (k : ℕ). k < 2 ^ 16) (sym (ap (at (set l (base + x / 16) (unionMask (at l (base + x / 16)) (2 ^ (x % 16))))) (eqb-true y (base + x / 16) e) ∙ at-set l (base + x / 16) (unionMask (at l (base + x / 16)) (2 ^ (x % 16))) h))
+        subst (λ (k : ℕ). k < 2 ^ 16) (sym (ap (at (set l (base + x / 16) (unionMask (at l (base + x / 16)) (2 ^ (x % 16))))) (eqb-true y (base + x / 16) e) ∙ at-set l (base + x / 16)
+        (unionMask (at l (base + x / 16)) (2 ^ (x % 16))) h))
         (mask-lt 16 _)
     go false e = subst (λ (k : ℕ). k < 2 ^ 16) (sym (at-set-other l (base + x / 16) _ y (eqb-false y (base + x / 16) e))) (s y)
 
@@ -62,7 +53,8 @@ module _ (b : List ℕ) (from a base r : ℕ) (keys : (j : ℕ) → j < r → ro
   within : (i : ℕ) → i < r → base + rowKey b from a i / 16 < length (withRows b from a base i l)
   within i h = omega (arith, keys i h, rows-length i)
 
-  pub rows-at : (i : ℕ) → i ≤ r → (m : ℕ) → has (at (withRows b from a base i l) (base + m / 16)) (m % 16) ≡ either (has (at l (base + m / 16)) (m % 16)) (any (eqb m) (map (rowKey b from a) (below i)))
+  pub rows-at : (i : ℕ) → i ≤ r → (m : ℕ) → has (at (withRows b from a base i l) (base + m / 16)) (m % 16) ≡ either (has (at l (base + m / 16)) (m % 16))
+      (any (eqb m) (map (rowKey b from a) (below i)))
   unfolding withRows
   rows-at zero h m = sym (ap (either (has (at l (base + m / 16)) (m % 16))) (any-none (eqb m) (rowKey b from a)) ∙ either-no (has (at l (base + m / 16)) (m % 16)))
   rows-at (suc i) h m =

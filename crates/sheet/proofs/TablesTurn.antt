@@ -1,21 +1,10 @@
 -- The turns of the loop over the tables. Assumes nothing.
-use mathlib.Core.Path.{_≡_, refl, sym, ap, ap₂, _∙_, subst}
-use mathlib.Core.Bool.{Bool, true, false}
-use mathlib.Core.List.{List, map}
-use Prim.Native.Nat.{ℕ, suc, _+_, _-_, _*_, _≤_, _<_}
-use native.Mathlib.Omega.{arith}
-use native.Mathlib.Nat.{mul-le-mul-right, suc-mul}
-use native.Mathlib.Numerals.{add-one}
-use lib.ListN.{length}
-use Rattle.model.specs.Lists.{upFrom, below}
-use Rattle.model.specs.Verdict.{Verdict, accepted, refused, ask}
-use Rattle.model.specs.Problem.{respects}
-use Rattle.model.specs.Sheet.{headerOf, words, tableAt, problemOf, permutesPairs, formVerdict, symmetriesVerdict}
-use Rattle.arrays.specs.Layout.{Numbers}
-use Rattle.sheet_symmetries.specs.Table.{TableAt, Asked, tableOf, answerOf, tableAnswer}
-use Rattle.sheet.specs.Meaning.{means}
-use Rattle.sheet.specs.Form.{Formed}
-use Rattle.sheet.specs.declared.Answer.the-variants.{Accepted, Refused}
+use Rattle.model.specs.Kit.{_≡_, refl, sym, ap, ap₂, _∙_, subst, Bool, true, false, List, map, ℕ, suc, _+_, _-_, _*_, _≤_, _<_, arith, mul-le-mul-right, suc-mul, add-one, length}
+use Rattle.model.specs.{Lists.upFrom, Lists.below, Verdict.Verdict, Verdict.accepted, Verdict.refused, Verdict.ask, Problem.respects, Sheet.headerOf, Sheet.words, Sheet.tableAt}
+use Rattle.model.specs.Sheet.{problemOf, permutesPairs, formVerdict, symmetriesVerdict}
+use Rattle.arrays.specs.inner.Layout.{Numbers}
+use Rattle.sheet_symmetries.specs.inner.Table.{TableAt, Asked, tableOf, answerOf, tableAnswer}
+use Rattle.sheet.specs.{Meaning.means, Form.Formed, declared.Answer.the-variants.Accepted, declared.Answer.the-variants.Refused}
 use Rattle.sheet.proofs.Stating.{form-passed}
 
 -- the offset of a table
@@ -62,7 +51,8 @@ asked-no true false e k later q z = ap (λ (x : ℕ). refused x e) (sym q)
 asked-no false t e k later q z = ap (λ (x : ℕ). refused x e) (sym q)
 
 -- what question 15 asks, and what both do
-pub table-framed : (b numbers : List ℕ) (e o : ℕ) → formVerdict b accepted ≡ accepted → Numbers (problemOf b) numbers → o ≡ tableOffset b e → e < headerOf b .symmetries → TableAt (problemOf b) b o numbers
+pub table-framed : (b numbers : List ℕ) (e o : ℕ) → formVerdict b accepted ≡ accepted → Numbers (problemOf b) numbers → o ≡ tableOffset b e → e < headerOf b .symmetries → TableAt
+    (problemOf b) b o numbers
 unfolding problemOf
 table-framed b numbers e o f n t l =
     let r = form-passed b f in

@@ -1,24 +1,11 @@
 -- What the scopes leave in the numbers. Assumes nothing.
-use mathlib.Core.Path.{_≡_, refl, sym, ap, ap₂, _∙_, subst}
-use mathlib.Core.Bool.{Bool, true, false}
-use mathlib.Core.List.{List}
-use Prim.Native.Nat.{ℕ, zero, suc, _+_, _*_, _/_, _%_, _^_, _≤_, _<_}
-use native.Mathlib.Omega.{arith}
-use native.Mathlib.Nat.{not-suc-le-zero, lt-of-lt-of-le}
-use lib.Bits.{bitOr, or-lt}
-use lib.Pow.{pow-lt, pow-mono}
-use lib.Dec.{T, eqb, ltb}
-use lib.ListN.{length, set, length-set}
-use borrow.Author.Tests.{eqb-true, eqb-false, lt-ltb, le-ltb, ltb-true, ltb-false}
-use Rattle.model.specs.Lists.{at, both, either, any, ascending}
-use Rattle.model.specs.ValueSets.{has}
-use Rattle.model.specs.Sheet.{word, words, scopeAt}
-use Rattle.model.proofs.Lists.{at-set, at-set-other}
-use Rattle.model.proofs.Masks.{has-or, has-one}
-use Rattle.model.proofs.Members.{both-no, both-yes, either-no}
-use Rattle.arrays.specs.Places.{NUMBERS}
-use Rattle.sheet.specs.Fill.{touch, touched, packed, rowFits}
-use Rattle.sheet.specs.Steps.{offsetAt, numbersTo}
+use Rattle.model.specs.Kit.{_≡_, refl, sym, ap, ap₂, _∙_, subst, Bool, true, false, List, ℕ, zero, suc, _+_, _*_, _/_, _%_, _^_, _≤_, _<_, arith, not-suc-le-zero, lt-of-lt-of-le}
+use Rattle.model.specs.Kit.{bitOr, or-lt, pow-lt, T, eqb, ltb, length, set, length-set, eqb-true, eqb-false, lt-ltb, le-ltb, ltb-true, ltb-false}
+use lib.Pow.{pow-mono}
+use Rattle.model.specs.{Lists.at, Lists.both, Lists.either, Lists.any, Lists.ascending, ValueSets.has, Sheet.word, Sheet.words, Sheet.scopeAt}
+use Rattle.model.proofs.{Lists.at-set, Lists.at-set-other, Lists.both-true, Lists.both-false, Masks.has-or, Masks.has-one, Members.either-no}
+use Rattle.arrays.specs.inner.Places.{NUMBERS}
+use Rattle.sheet.specs.{inner.Fill.touch, inner.Fill.touched, inner.Fill.packed, inner.Fill.rowFits, inner.Steps.offsetAt, inner.Steps.numbersTo}
 use Rattle.sheet.proofs.Any.{either-assoc, any-more, any-none}
 
 split : (a b c d : Bool) → either (either a (both b c)) (both b d) ≡ either a (both b (either c d))
@@ -35,10 +22,10 @@ touch-at k x y j l h = go (eqb y x) refl
     go true e =
         let q : y ≡ x = eqb-true y x e in
         ap (λ (z : ℕ). has (at (set l x (bitOr (at l x) (2 ^ k))) z) j) q ∙ ap (λ (s : ℕ). has s j) (at-set l x (bitOr (at l x) (2 ^ k)) h)
-        ∙ has-or (at l x) (2 ^ k) j ∙ ap₂ either (ap (λ (z : ℕ). has (at l z) j) (sym q)) (has-one k j ∙ sym (both-yes (eqb j k)))
+        ∙ has-or (at l x) (2 ^ k) j ∙ ap₂ either (ap (λ (z : ℕ). has (at l z) j) (sym q)) (has-one k j ∙ sym (both-true (eqb j k)))
     go false e =
         ap (λ (s : ℕ). has s j) (at-set-other l x (bitOr (at l x) (2 ^ k)) y (eqb-false y x e))
-        ∙ sym (ap (either (has (at l y) j)) (both-no (eqb j k)) ∙ either-no (has (at l y) j))
+        ∙ sym (ap (either (has (at l y) j)) (both-false (eqb j k)) ∙ either-no (has (at l y) j))
 
 touch-small : (k x y : ℕ) (l : List ℕ) → at l y < 2 ^ suc k → at l x < 2 ^ suc k → x < length l → at (touch k x l) y < 2 ^ suc k
 unfolding touch
@@ -64,7 +51,7 @@ module _ (b : List ℕ) (from k a : ℕ) (small : (j : ℕ) → j < a → word b
   unfolding touched words
   touched-at zero h y j =
       sym (ap (λ (t : Bool). either (has (at l y) j) (both (eqb j k) t)) (any-none (eqb y) (λ i. word b (from + 2 * i)))
-      ∙ ap (either (has (at l y) j)) (both-no (eqb j k)) ∙ either-no (has (at l y) j))
+      ∙ ap (either (has (at l y) j)) (both-false (eqb j k)) ∙ either-no (has (at l y) j))
   touched-at (suc i) h y j =
       touch-at k (word b (from + 2 * i)) y j (touched b from k i l) (within i (omega arith))
       ∙ ap (λ (t : Bool). either t (both (eqb j k) (eqb y (word b (from + 2 * i))))) (touched-at i (omega arith) y j)
@@ -75,7 +62,8 @@ module _ (b : List ℕ) (from k a : ℕ) (small : (j : ℕ) → j < a → word b
   unfolding touched
   touched-small zero h s y m = s y m
   touched-small (suc i) h s y m =
-      touch-small k (word b (from + 2 * i)) y (touched b from k i l) (touched-small i (omega arith) s y m) (touched-small i (omega arith) s (word b (from + 2 * i)) (small i (omega arith))) (within i (omega arith))
+      touch-small k (word b (from + 2 * i)) y (touched b from k i l) (touched-small i (omega arith) s y m) (touched-small i (omega arith) s (word b (from + 2 * i)) (small i (omega arith)))
+      (within i (omega arith))
 
   touched-high : (i : ℕ) → i ≤ a → (y : ℕ) → 16 ≤ y → at (touched b from k i l) y ≡ at l y
   unfolding touched touch
@@ -134,7 +122,7 @@ below-next j k p = go (ltb j k) refl (eqb j k) refl
       where
         flip : (p t : Bool) → either p (both t p) ≡ p
         flip true t = refl
-        flip false t = both-no t
+        flip false t = both-false t
     go false e true q = sym (ap (λ (r : Bool). both r p) (lt-ltb j (suc k) (let h : j ≡ k = eqb-true j k q in omega arith)))
     go false e false q = sym (ap (λ (r : Bool). both r p) (le-ltb j (suc k) (let h : k ≤ j = ltb-false j k e in let n : j ≡ k → ⊥ = eqb-false j k q in omega arith)))
 
@@ -146,7 +134,8 @@ own j k f = go (eqb j k) refl
     go true e = ap f (sym (eqb-true j k e))
     go false e = refl
 
-module _ (b : List ℕ) (n d o c : ℕ) (n16 : n ≤ 16) (good : (j : ℕ) → j < c → Good b n d (offsetAt b o j)) (l : List ℕ) (long : length l ≡ NUMBERS) (c32 : c ≤ 32) (blank : (x : ℕ) → x < 16 → at l x ≡ 0) where
+module _ (b : List ℕ) (n d o c : ℕ) (n16 : n ≤ 16) (good : (j : ℕ) → j < c → Good b n d (offsetAt b o j)) (l : List ℕ) (long : length l ≡ NUMBERS) (c32 : c ≤ 32)
+    (blank : (x : ℕ) → x < 16 → at l x ≡ 0) where
   pub held : (k : ℕ) → k ≤ c → Held b o k l (numbersTo b o k l)
   unfolding numbersTo scopeAt
   held zero h =

@@ -1,24 +1,15 @@
 -- The answer to all questions from those of the two parts. Assumes nothing.
-use mathlib.Core.Bool.{Bool, true, false, false≢true}
-use mathlib.Core.Path.{_≡_, refl, sym, ap, _∙_}
-use mathlib.Core.List.{List}
-use Prim.Native.Nat.{ℕ}
-use native.Mathlib.Omega.{arith}
-use lib.ListN.{replicate, length-replicate}
-use Rattle.model.specs.Verdict.{Verdict, accepted, ask, isAccepted}
-use Rattle.model.specs.Sheet.{problemOf, permutesPairs, formVerdict, symmetriesVerdict, verdictOf}
-use Rattle.model.proofs.Lists.{at-replicate, all-i, of-T}
-use Rattle.model.proofs.Accepted.{symmetries-e}
-use Rattle.arrays.specs.Layout.{Compiled}
+use Rattle.model.specs.Kit.{Bool, true, false, _≡_, refl, sym, ap, _∙_, List, ℕ, arith, replicate, length-replicate}
+use mathlib.Core.Bool.{false≢true}
+use Rattle.model.specs.{Verdict.Verdict, Verdict.accepted, Verdict.ask, Verdict.isAccepted, Sheet.problemOf, Sheet.permutesPairs, Sheet.formVerdict, Sheet.symmetriesVerdict}
+use Rattle.model.specs.Sheet.{verdictOf}
+use Rattle.model.proofs.{Lists.at-replicate, Lists.all-i, Lists.of-T, Accepted.symmetries-e, Accepted.is-accepted}
+use Rattle.arrays.specs.inner.Layout.{Compiled}
 use Rattle.reader.specs.declared.Header.{Header}
-use Rattle.sheet.specs.Meaning.{means, andThen}
-use Rattle.sheet.specs.Decoding.{permuting, Tabled, TablesDecoded}
-use Rattle.sheet.specs.Form.{Zeros, Formed, answer, FormRead, Sized, Compilation, compilable, Recompilation}
-use Rattle.sheet.specs.declared.Answer.{Answer}
-use Rattle.sheet.specs.declared.Answer.the-variants.{Accepted, Refused}
-use Rattle.sheet.specs.declared.form.Form.{Form}
-use Rattle.sheet.specs.declared.form.Form.the-variants.{Passed, Refused as NotPassed}
-use Rattle.sheet.proofs.Passed.{is-accepted}
+use Rattle.sheet.specs.{Meaning.means, Meaning.andThen, inner.Decoding.permuting, inner.Decoding.Tabled, inner.Decoding.TablesDecoded, Form.Zeros, Form.Formed, Form.answer}
+use Rattle.sheet.specs.{Form.FormRead, Form.Sized, Form.Compilation, Form.compilable, Form.Recompilation, declared.Answer.Answer, declared.Answer.the-variants.Accepted}
+use Rattle.sheet.specs.{declared.Answer.the-variants.Refused, declared.form.Form.Form, declared.form.Form.the-variants.Passed}
+use Rattle.sheet.specs.declared.form.Form.the-variants.{Refused as NotPassed}
 use Rattle.sheet.proofs.Compilable.{asked-last}
 
 pub zeros : (n : ℕ) → Zeros n (replicate n 0)
@@ -69,7 +60,8 @@ compiled b numbers supports images t f d e = record { numbered = f .numbered; su
 sizes : (b numbers supports images : List ℕ) (t : Bool) → Formed b numbers supports → TablesDecoded b images t → Sized numbers supports images
 sizes b numbers supports images t f d = record { numbers-length = f .numbers-length; supports-length = f .supports-length; images-length = d .sized }
 
-pub compile-yes : (b numbers supports images : List ℕ) (t : Bool) → Formed b numbers supports → verdictOf b ≡ accepted → Tabled b numbers true → TablesDecoded b images t → Compilation b numbers supports images Accepted
+pub compile-yes : (b numbers supports images : List ℕ) (t : Bool) → Formed b numbers supports → verdictOf b ≡ accepted → Tabled b numbers true → TablesDecoded b images t
+    → Compilation b numbers supports images Accepted
 compile-yes b numbers supports images t f v k d =
     record { answers = sym v; compiled = λ _. compiled b numbers supports images t f d (d .answers ∙ k .known refl); sizes = λ _. sizes b numbers supports images t f d }
 

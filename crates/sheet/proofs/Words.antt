@@ -1,11 +1,6 @@
 -- Laws of the numbers at an offset: tests over them, and their elements. Assumes nothing.
-use mathlib.Core.Path.{subst}
-use mathlib.Core.Bool.{Bool}
-use mathlib.Core.List.{List, map, Memᴰ·map, Memᴰ·of-map}
-use Prim.Native.Nat.{ℕ, _+_, _*_, _<_}
-use lib.Dec.{T}
-use Rattle.model.specs.Lists.{all, below}
-use Rattle.model.specs.Sheet.{word, words}
+use Rattle.model.specs.Kit.{subst, Bool, List, map, Memᴰ·map, Memᴰ·of-map, ℕ, _+_, _*_, _<_, T}
+use Rattle.model.specs.{Lists.all, Lists.below, Sheet.word, Sheet.words}
 use Rattle.model.proofs.Lists.{all-i, all-e, below-i, below-e}
 
 module _ {A : Type 0} where

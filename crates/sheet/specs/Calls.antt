@@ -1,17 +1,9 @@
 -- A call of `question`, and what a caller may rely on: the answer is the first "no" with its number and item, or that there is none. proofs/Calls has the
 -- theorems.
-use mathlib.Core.Path.{_≡_}
-use mathlib.Core.Logic.{_↔_}
-use mathlib.Core.List.{List}
-use Prim.Native.Nat.{ℕ, _<_}
-use lib.Dec.{T}
-use Rattle.model.specs.Problem.{respects}
-use Rattle.model.specs.Verdict.{Verdict, accepted, refused}
-use Rattle.model.specs.Sheet.{headerOf, problemOf, permutesPairs, verdictOf}
-use Rattle.model.specs.Claims.{OneMore, exchangeIn}
-use Rattle.sheet.specs.Meaning.{means}
-use Rattle.sheet.specs.declared.Answer.{Answer}
-use Rattle.sheet.specs.declared.Answer.the-variants.{Accepted, Refused}
+use Rattle.model.specs.Kit.{_≡_, _↔_, List, ℕ, _<_, T}
+use Rattle.model.specs.{Problem.respects, Verdict.Verdict, Verdict.accepted, Verdict.refused, Sheet.headerOf, Sheet.problemOf, Sheet.permutesPairs, Sheet.verdictOf, Claims.OneMore}
+use Rattle.model.specs.Claims.{exchangeIn}
+use Rattle.sheet.specs.{Meaning.means, declared.Answer.Answer, declared.Answer.the-variants.Accepted, declared.Answer.the-variants.Refused}
 
 -- bytes b, answer r. It is the function's contract.
 abbrev pub CallQuestion : List ℕ → Answer → Type 0

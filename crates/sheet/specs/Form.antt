@@ -1,21 +1,12 @@
 -- What questions 1 to 14 leave in the arrays.
-use mathlib.Core.Path.{_≡_}
-use mathlib.Core.Bool.{Bool, true}
-use mathlib.Core.List.{List}
-use Prim.Native.Nat.{ℕ}
-use lib.ListN.{length, set}
-use Rattle.model.specs.Lists.{at, all}
-use Rattle.model.specs.Verdict.{accepted, ask, isAccepted}
-use Rattle.model.specs.Sheet.{headerOf, problemOf, formVerdict, permutesPairs, verdictOf}
-use Rattle.arrays.specs.Places.{VARIABLES, VALUES, CONSTRAINTS, SYMMETRIES, IMAGES, NUMBERS, SUPPORTS}
-use Rattle.arrays.specs.Layout.{Numbers, Supports, Compiled}
-use Rattle.reader.specs.Read.{stated}
-use Rattle.reader.specs.declared.Header.{Header}
-use Rattle.sheet.specs.Meaning.{means, Answers}
-use Rattle.sheet.specs.declared.Answer.{Answer}
-use Rattle.sheet.specs.declared.Answer.the-variants.{Accepted, Refused}
-use Rattle.sheet.specs.declared.form.Form.{Form}
-use Rattle.sheet.specs.declared.form.Form.the-variants.{Passed, Refused as NotPassed}
+use Rattle.model.specs.Kit.{_≡_, Bool, true, List, ℕ, length, set}
+use Rattle.model.specs.{Lists.at, Lists.all, Verdict.accepted, Verdict.ask, Verdict.isAccepted, Sheet.headerOf, Sheet.problemOf, Sheet.formVerdict, Sheet.permutesPairs}
+use Rattle.model.specs.Sheet.{verdictOf}
+use Rattle.arrays.specs.inner.Places.{VARIABLES, VALUES, CONSTRAINTS, SYMMETRIES, IMAGES, NUMBERS, SUPPORTS}
+use Rattle.arrays.specs.inner.Layout.{Numbers, Supports, Compiled}
+use Rattle.reader.specs.{inner.Read.stated, declared.Header.Header}
+use Rattle.sheet.specs.{Meaning.means, Meaning.Answers, declared.Answer.Answer, declared.Answer.the-variants.Accepted, declared.Answer.the-variants.Refused}
+use Rattle.sheet.specs.{declared.form.Form.Form, declared.form.Form.the-variants.Passed, declared.form.Form.the-variants.Refused as NotPassed}
 
 -- an array of n zeros
 pub record Zeros (n : ℕ) (l : List ℕ) : Type 0 where

@@ -1,8 +1,5 @@
 -- What the answers mean, and what the parts of the questioning say.
 pub mod Meaning
 pub mod Calls
-pub mod Parts
-pub mod Fill
-pub mod Steps
 pub mod Form
-pub mod Decoding
+pub mod inner

@@ -1,8 +1,7 @@
 -- The answer to the questions put to a sheet, as paper 01 has it.
-use mathlib.Core.Path.{_≡_}
+use Rattle.model.specs.Kit.{_≡_}
 use Rattle.model.specs.Verdict.{Verdict, accepted, refused}
-use Rattle.sheet.specs.declared.Answer.{Answer}
-use Rattle.sheet.specs.declared.Answer.the-variants.{Accepted, Refused}
+use Rattle.sheet.specs.{declared.Answer.Answer, declared.Answer.the-variants.Accepted, declared.Answer.the-variants.Refused}
 
 -- the paper's number and item
 abbrev pub means : Answer → Verdict

@@ -12,10 +12,10 @@ ghost use lib.ListN.{length};
 ghost use lib.Dec.{leb};
 ghost use Rattle.model.specs.Lists.{both};
 ghost use Rattle.model.specs.Sheet.{headerOf};
-ghost use Rattle.sheet.specs.Fill.{touch as touchAt, ScopeAsked};
-ghost use Rattle.sheet.specs.Parts.{Fit};
-ghost use Rattle.reader.specs.Read.{stated};
-ghost use Rattle.sheet.specs.Steps.{ConstraintAsked, ConstraintsAsked};
+ghost use Rattle.sheet.specs.inner.Fill.{touch as touchAt, ScopeAsked};
+ghost use Rattle.sheet.specs.inner.Parts.{Fit};
+ghost use Rattle.reader.specs.inner.Read.{stated};
+ghost use Rattle.sheet.specs.inner.Steps.{ConstraintAsked, ConstraintsAsked};
 
 // The answer for one constraint: where the next stands, or the number of the first "no".
 pub enum Step {
@@ -82,7 +82,8 @@ fn constraint(
     numbers: &mut Numbers,
     supports: &mut Supports,
 ) -> Step
-    requires { ⌜ Fit (now sheet) × (n ≡ headerOf (now sheet) .variables) × (d ≡ headerOf (now sheet) .values) × (third ≡ headerOf (now sheet) .third) × (o ≤ third) × (k < 32) ⌝ }
+    requires { ⌜ Fit (now sheet) × (n ≡ headerOf (now sheet) .variables) × (d ≡ headerOf (now sheet) .values) × (third ≡ headerOf (now sheet) .third) ×
+        (o ≤ third) × (k < 32) ⌝ }
     ensures { λ r. ⌜ ConstraintAsked (now (sheet .entry)) o k (now (numbers .entry)) (now (supports .entry)) (now (numbers .exit)) (now (supports .exit)) r ⌝ }
 {
     if third < o + 4 {

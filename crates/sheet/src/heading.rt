@@ -6,7 +6,7 @@ ghost use mathlib.Core.Path.{_≡_};
 ghost use lib.Dec.{leb};
 ghost use Rattle.model.specs.Lists.{both};
 ghost use Rattle.model.specs.Sheet.{offsetsFit, headerVerdict};
-ghost use Rattle.reader.specs.Read.{stated};
+ghost use Rattle.reader.specs.inner.Read.{stated};
 ghost use Rattle.sheet.specs.Meaning.{Answers};
 
 fn within(x: usize, low: usize, high: usize) -> bool

@@ -6,9 +6,9 @@ ghost use Prim.Native.Nat.{_+_, _*_, _≤_, _<_};
 ghost use mathlib.Core.Path.{_≡_};
 ghost use lib.ListN.{length};
 ghost use lib.Dec.{ltb};
-ghost use Rattle.sheet.specs.Fill.{withRow, RowRead, RowsAsked};
+ghost use Rattle.sheet.specs.inner.Fill.{withRow, RowRead, RowsAsked};
 ghost use Rattle.model.specs.Lists.{choose};
-ghost use Rattle.arrays.specs.Places.{SUPPORTS};
+ghost use Rattle.arrays.specs.inner.Places.{SUPPORTS};
 
 // The row of a values at an offset as one number, a hexadecimal digit for each value; 4096 where one is not below d.
 // Rows in their order have keys in theirs.

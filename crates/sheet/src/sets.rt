@@ -10,8 +10,8 @@ ghost use lib.ListN.{length};
 ghost use lib.Dec.{leb, eqb};
 ghost use Rattle.model.specs.Lists.{both};
 ghost use Rattle.model.specs.Sheet.{headerOf};
-ghost use Rattle.arrays.specs.Places.{NUMBERS};
-ghost use Rattle.sheet.specs.Parts.{Fit, SetsAsked, ZeroSets};
+ghost use Rattle.arrays.specs.inner.Places.{NUMBERS};
+ghost use Rattle.sheet.specs.inner.Parts.{Fit, SetsAsked, ZeroSets};
 
 // Whether a number is a set that is not empty, of values of the full set.
 fn is_set(s: usize, full: ValueSet) -> bool

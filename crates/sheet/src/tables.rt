@@ -10,12 +10,12 @@ ghost use mathlib.Core.Path.{_≡_};
 ghost use mathlib.Core.Bool.{true};
 ghost use lib.ListN.{length};
 ghost use Rattle.model.specs.Sheet.{headerOf, problemOf, permutesPairs, symmetriesVerdict};
-ghost use Rattle.arrays.specs.Places.{IMAGES};
-ghost use Rattle.sheet_symmetries.specs.Table.{TableAt, tableOf};
+ghost use Rattle.arrays.specs.inner.Places.{IMAGES};
+ghost use Rattle.sheet_symmetries.specs.inner.Table.{TableAt, tableOf};
 ghost use Rattle.sheet.specs.Meaning.{means};
 ghost use Rattle.sheet.specs.Form.{Formed};
-ghost use Rattle.sheet.specs.Decoding.{Decodable, Decoded, Tabled, TablesDecoded};
-ghost use Rattle.reader.specs.Read.{stated};
+ghost use Rattle.sheet.specs.inner.Decoding.{Decodable, Decoded, Tabled, TablesDecoded};
+ghost use Rattle.reader.specs.inner.Read.{stated};
 
 pub fn ask(sheet: &[u8], h: Header, numbers: &Numbers, supports: &Supports) -> Answer
     requires { ⌜ Formed (now sheet) (now numbers) (now supports) × (stated h ≡ headerOf (now sheet)) ⌝ }
@@ -51,7 +51,8 @@ fn decode(sheet: &[u8], from: usize, count: usize, d: usize, base: usize, images
 
 // Question 15 to the table at an offset, where it was not asked before.
 fn permuted(sheet: &[u8], from: usize, numbers: &Numbers, asked: bool) -> bool
-    requires { ⌜ TableAt (problemOf (now sheet)) (now sheet) from (now numbers) × (asked ≡ true → permutesPairs (problemOf (now sheet)) (tableOf (problemOf (now sheet)) (now sheet) from) ≡ true) ⌝ }
+    requires { ⌜ TableAt (problemOf (now sheet)) (now sheet) from (now numbers) ×
+        (asked ≡ true → permutesPairs (problemOf (now sheet)) (tableOf (problemOf (now sheet)) (now sheet) from) ≡ true) ⌝ }
     ensures { λ r. ⌜ r ≡ permutesPairs (problemOf (now (sheet .entry))) (tableOf (problemOf (now (sheet .entry))) (now (sheet .entry)) from) ⌝ }
 {
     if asked {

@@ -1,17 +1,8 @@
 -- What is answered about a position: past the last, short of room, and else. Assumes nothing.
-use mathlib.Core.Path.{_≡_, sym, ap, _∙_}
-use mathlib.Core.Bool.{Bool}
-use mathlib.Core.List.{List}
-use Prim.Native.Nat.{ℕ, _≤_, _<_}
-use lib.Dec.{leb}
-use lib.ListN.{length}
-use borrow.Author.Tests.{lt-ltb, le-ltb, lt-leb, le-leb}
-use Rattle.model.specs.Verdict.{Verdict, accepted, refused, ask}
-use Rattle.model.specs.Room.{wrote, refusal, outcomeOf, roomAfter}
-use Rattle.model.specs.Written.{Fronted}
+use Rattle.model.specs.Kit.{_≡_, sym, ap, _∙_, Bool, List, ℕ, _≤_, _<_, leb, length, lt-ltb, le-ltb, lt-leb, le-leb}
+use Rattle.model.specs.{Verdict.Verdict, Verdict.accepted, Verdict.refused, Verdict.ask, Room.wrote, Room.refusal, Room.outcomeOf, Room.roomAfter, Written.Fronted}
 use Rattle.model.proofs.Room.{wrote-out}
-use Rattle.sheet_small.specs.Small.{smallSheets}
-use Rattle.sheet_small.specs.Answers.{sheetAt, positionVerdict, smallOutcome, smallRoom}
+use Rattle.sheet_small.specs.{Small.smallSheets, Answers.sheetAt, Answers.positionVerdict, Answers.smallOutcome, Answers.smallRoom}
 
 module _ (k : ℕ) (room : List ℕ) where
   refused-so : (number : ℕ) → positionVerdict k room ≡ refused number 0 → (refusal number 0 ≡ smallOutcome k room) × (room ≡ smallRoom k room)

@@ -1,16 +1,7 @@
 -- What callers need of an outcome: a refusal's item is 0, and no more than 52 bytes are written. Assumes nothing.
-use mathlib.Core.Path.{_≡_, refl}
-use mathlib.Core.Bool.{Bool, true, false}
-use mathlib.Core.List.{List}
-use Prim.Native.Nat.{ℕ, _≤_}
-use native.Mathlib.Omega.{arith}
-use lib.Dec.{ltb, leb}
-use lib.ListN.{length}
-use borrow.Author.Tests.{ltb-true}
-use Rattle.model.specs.Verdict.{accepted, ask}
-use Rattle.model.specs.Room.{wrote, refusal, outcomeOf}
-use Rattle.sheet_small.specs.Small.{smallSheets}
-use Rattle.sheet_small.specs.Answers.{sheetAt, positionVerdict, smallOutcome}
+use Rattle.model.specs.Kit.{_≡_, refl, Bool, true, false, List, ℕ, _≤_, arith, ltb, leb, length, ltb-true}
+use Rattle.model.specs.{Verdict.accepted, Verdict.ask, Room.wrote, Room.refusal, Room.outcomeOf}
+use Rattle.sheet_small.specs.{Small.smallSheets, Answers.sheetAt, Answers.positionVerdict, Answers.smallOutcome}
 use Rattle.sheet_small.proofs.Claims.{room-enough}
 
 pub refusal-item : (k : ℕ) (room : List ℕ) (number item : ℕ) → refusal number item ≡ smallOutcome k room → item ≡ 0

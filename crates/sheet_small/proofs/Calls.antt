@@ -1,23 +1,12 @@
 -- What a caller of `small_sheet` holds (specs/Calls). Assumes nothing.
-use mathlib.Core.Path.{_≡_, refl, sym, ap, ap₂, _∙_, subst}
-use mathlib.Core.Bool.{Bool, true, false}
-use mathlib.Core.List.{List, []}
-use Prim.Native.Nat.{ℕ, _≤_, _<_}
-use native.Mathlib.Omega.{arith}
-use lib.Dec.{ltb, leb}
-use lib.ListN.{length, take, drop, getD}
+use Rattle.model.specs.Kit.{_≡_, refl, sym, ap, ap₂, _∙_, subst, Bool, true, false, List, [], ℕ, _≤_, _<_, arith, ltb, leb, length, take, drop, getD, lt-ltb, le-ltb, le-leb}
+use Rattle.model.specs.Kit.{lt-leb, ltb-true}
 use lib.Seq.{take-append-seam, drop-append-seam}
-use borrow.Author.Tests.{lt-ltb, le-ltb, le-leb, lt-leb, ltb-true}
-use Rattle.model.specs.Verdict.{Verdict, accepted, refused, ask}
-use Rattle.model.specs.Room.{wrote, refusal, outcomeOf, roomAfter}
-use Rattle.sheet_small.specs.Small.{smallSheets}
-use Rattle.sheet_small.specs.Answers.{means, sheetAt, positionVerdict, smallOutcome, smallRoom}
-use Rattle.sheet_small.specs.Claims.{IsSmall, Stands}
-use Rattle.sheet_small.specs.declared.Answer.{Answer}
-use Rattle.sheet_small.specs.declared.Answer.the-variants.{Written, Refused}
-use Rattle.sheet_small.specs.Calls.{CallSmall, SmallHeld}
-use Rattle.sheet_small.proofs.Figures.{figures}
-use Rattle.sheet_small.proofs.Claims.{each-once, nothing-else}
+use Rattle.model.specs.{Verdict.Verdict, Verdict.accepted, Verdict.refused, Verdict.ask, Room.wrote, Room.refusal, Room.outcomeOf, Room.roomAfter}
+use Rattle.sheet_small.specs.{Small.smallSheets, Answers.means, Answers.sheetAt, Answers.positionVerdict, Answers.smallOutcome, Answers.smallRoom, Claims.IsSmall}
+use Rattle.sheet_small.specs.{Claims.Stands, declared.Answer.Answer, declared.Answer.the-variants.Written, declared.Answer.the-variants.Refused, Calls.CallSmall}
+use Rattle.sheet_small.specs.Calls.{SmallHeld}
+use Rattle.sheet_small.proofs.{Figures.figures, Claims.each-once, Claims.nothing-else}
 
 is-written : (r : Answer) (k : ℕ) → means r ≡ wrote k → r ≡ Written k
 is-written (Written j) k e = cc
@@ -76,7 +65,8 @@ module _ (k : ℕ) (room : List ℕ) (n : ℕ) (after : List ℕ) (c : CallSmall
   unfolding smallOutcome smallRoom positionVerdict
   there = go (ltb k (length smallSheets)) (leb 52 (length room)) refl (c .0) (c .1)
     where
-      go : (t u : Bool) → ltb k (length smallSheets) ≡ t → wrote n ≡ outcomeOf (ask t 39 0 (ask u 40 0 accepted)) (sheetAt k) → after ≡ roomAfter (ask t 39 0 (ask u 40 0 accepted)) (sheetAt k) room → (k < 544) × (take n after ≡ sheetAt k)
+      go : (t u : Bool) → ltb k (length smallSheets) ≡ t → wrote n ≡ outcomeOf (ask t 39 0 (ask u 40 0 accepted)) (sheetAt k) → after ≡ roomAfter (ask t 39 0 (ask u 40 0 accepted))
+          (sheetAt k) room → (k < 544) × (take n after ≡ sheetAt k)
       go true true q e w = (
         omega (arith, ltb-true k (length smallSheets) q, all-there),
         ap₂ take (let z : n ≡ length (sheetAt k) = cc in z) w ∙ take-append-seam (sheetAt k) (drop (length (sheetAt k)) room),

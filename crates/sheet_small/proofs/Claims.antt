@@ -1,36 +1,23 @@
 -- The claims but for the figures: each small sheet stands at exactly one position, nothing else does, and the room is enough. Assumes nothing.
-use mathlib.Core.Path.{_≡_, refl, sym, ap, _∙_, subst}
-use mathlib.Core.Bool.{Bool, true, false}
-use mathlib.Core.List.{List, [], _∷_, map, List·Memᴰ, List·Memᴰ·head, Memᴰ·map, Memᴰ·of-map, Memᴰ·append-left, Memᴰ·append-right}
-use Prim.Native.Nat.{ℕ, zero, suc, _+_, _-_, _*_, _/_, _%_, _^_, _≤_, _<_}
-use native.Mathlib.Omega.{arith}
-use lib.Dec.{T, eqb, ltb, eqb→eq}
-use lib.ListN.{length, drop, getD}
-use borrow.Author.Tests.{ltb-true, ltb-false}
-use Rattle.model.specs.Lists.{all, keep, flat, upFrom, below, at}
-use Rattle.model.specs.ValueSets.{has, members}
-use Rattle.model.specs.Verdict.{Verdict, accepted, refused, isAccepted}
-use Rattle.model.specs.Sheet.{word, words, headerOf, scopeAt, constraintsFrom, problemOf, verdictOf}
-use Rattle.model.proofs.Lists.{Sorted, sorted-keep, upFrom-e, keep-i, keep-e, flat-i, mem-getD, place-of}
-use Rattle.sheet_small.specs.Claims.{IsSmall, Each-once, Nothing-else, Room-enough}
-use Rattle.sheet_small.specs.Small.{Shape, shapes, tables, rowsOf, frontOf, sheetOf, isSheet, plainSheets, symmetricSheets, smallSheets}
-use Rattle.sheet_small.specs.Inner.{shapeNo, tableNo, candidate}
-use Rattle.sheet_small.proofs.Lists.{tested}
-use Rattle.sheet_small.proofs.Order.{order}
-use Rattle.sheet_small.proofs.Reading.{accepts, shape, in-shapes, in-tables, is-sheet, short}
+use Rattle.model.specs.Kit.{_≡_, refl, sym, ap, _∙_, subst, Bool, true, false, List, [], _∷_, map, List·Memᴰ, List·Memᴰ·head, Memᴰ·map, Memᴰ·of-map, Memᴰ·append-left, ℕ, zero, suc}
+use Rattle.model.specs.Kit.{_+_, _-_, _*_, _/_, _%_, _^_, _≤_, _<_, arith, T, eqb, ltb, eqb→eq, length, drop, getD, ltb-true, ltb-false}
+use mathlib.Core.List.{Memᴰ·append-right}
+use Rattle.model.specs.{Lists.all, Lists.keep, Lists.flat, Lists.upFrom, Lists.below, Lists.at, ValueSets.has, ValueSets.members, Sheet.word, Sheet.words, Sheet.headerOf}
+use Rattle.model.specs.Sheet.{scopeAt, constraintsFrom, problemOf, verdictOf}
+use Rattle.model.proofs.{Lists.Sorted, Lists.sorted-keep, Lists.upFrom-e, Lists.keep-i, Lists.keep-e, Lists.flat-i, Lists.mem-getD, Lists.place-of, Accepted.accepted-is}
+use Rattle.sheet_small.specs.{Claims.IsSmall, Claims.Each-once, Claims.Nothing-else, Claims.Room-enough, Small.Shape, Small.shapes, Small.tables, Small.rowsOf, Small.frontOf}
+use Rattle.sheet_small.specs.{Small.sheetOf, Small.isSheet, Small.plainSheets, Small.symmetricSheets, Small.smallSheets, inner.Inner.shapeNo, inner.Inner.tableNo}
+use Rattle.sheet_small.specs.inner.Inner.{candidate}
+use Rattle.sheet_small.proofs.{Lists.tested, Order.order, Reading.accepts, Reading.shape, Reading.in-shapes, Reading.in-tables, Reading.is-sheet, Reading.short}
 
 -- ---- nothing else stands at a position
-accepts-of : (v : Verdict) → T (isAccepted v) → v ≡ accepted
-accepts-of accepted t = refl
-accepts-of (refused n i) t = absurd t
-
 plain-small : (s : Shape) → T (isSheet (sheetOf s [])) → IsSmall (sheetOf s [])
 unfolding isSheet problemOf headerOf word words at sheetOf frontOf flat constraintsFrom scopeAt below upFrom
-plain-small s t = record { accepts = accepts-of (verdictOf (sheetOf s [])) t; variables = refl; values = refl; constraint = refl; symmetry = omega arith }
+plain-small s t = record { accepts = accepted-is (verdictOf (sheetOf s [])) t; variables = refl; values = refl; constraint = refl; symmetry = omega arith }
 
 symmetric-small : (s : Shape) (g : List ℕ) → T (isSheet (sheetOf s (g ∷ []))) → IsSmall (sheetOf s (g ∷ []))
 unfolding isSheet problemOf headerOf word words at sheetOf frontOf flat constraintsFrom scopeAt below upFrom
-symmetric-small s g t = record { accepts = accepts-of (verdictOf (sheetOf s (g ∷ []))) t; variables = refl; values = refl; constraint = refl; symmetry = omega arith }
+symmetric-small s g t = record { accepts = accepted-is (verdictOf (sheetOf s (g ∷ []))) t; variables = refl; values = refl; constraint = refl; symmetry = omega arith }
 
 candidate-small : (n : ℕ) → T (isSheet (candidate n)) → IsSmall (candidate n)
 unfolding candidate
@@ -65,7 +52,8 @@ small-member b s = go (problemOf b .symmetries) refl (s .symmetry) (is-sheet b s
         (keep-i isSheet (map (λ s. sheetOf s []) shapes) b (subst (λ (x : List ℕ). List·Memᴰ x (map (λ s. sheetOf s []) shapes)) (sym i) (Memᴰ·map (λ s. sheetOf s []) (in-shapes b s))) (accepts b s))
     go (g ∷ []) e l i =
         let m : List·Memᴰ g (problemOf b .symmetries) = subst (List·Memᴰ g) (sym e) (List·Memᴰ·head refl) in
-        let f = flat-i (map withTables shapes) (withTables (shape b s)) (sheetOf (shape b s) (g ∷ [])) (Memᴰ·map withTables (in-shapes b s)) (Memᴰ·map (λ g. sheetOf (shape b s) (g ∷ [])) (in-tables b s g m)) in
+        let f = flat-i (map withTables shapes) (withTables (shape b s)) (sheetOf (shape b s) (g ∷ [])) (Memᴰ·map withTables (in-shapes b s))
+        (Memᴰ·map (λ g. sheetOf (shape b s) (g ∷ [])) (in-tables b s g m)) in
         Memᴰ·append-right plainSheets
         (keep-i isSheet (flat (map withTables shapes)) b (subst (λ (x : List ℕ). List·Memᴰ x (flat (map withTables shapes))) (sym i) f) (accepts b s))
     go (g ∷ h ∷ gs) e l i = absurd (omega arith)

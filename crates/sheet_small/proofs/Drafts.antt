@@ -1,23 +1,16 @@
 -- The bytes that the code makes are those of the candidate, computed for each shape with any table. Assumes nothing.
-use mathlib.Core.Path.{_≡_, refl, sym, ap, ap₂, _∙_}
-use mathlib.Core.Bool.{Bool, true, false}
-use mathlib.Core.List.{List, [], _∷_, _++_, map}
-use Prim.Native.Nat.{ℕ, _+_, _-_, _*_, _/_, _%_, _≤_, _<_}
-use native.Mathlib.Omega.{arith}
-use borrow.Author.Tests.{lt-ltb, le-ltb}
-use lib.ListN.{length, take, replicate, length-set}
-use Rattle.model.specs.Lists.{all, keep, flat, upFrom, below, same}
-use Rattle.model.specs.Bytes.{twoBytes}
-use Rattle.model.specs.ValueSets.{has, members}
+use Rattle.model.specs.Kit.{_≡_, refl, sym, ap, ap₂, _∙_, Bool, true, false, List, [], _∷_, _++_, map, ℕ, _+_, _-_, _*_, _/_, _%_, _≤_, _<_, arith, lt-ltb, le-ltb, length, take}
+use Rattle.model.specs.Kit.{replicate, length-set}
+use Rattle.model.specs.{Lists.all, Lists.keep, Lists.flat, Lists.upFrom, Lists.below, Lists.same, Bytes.twoBytes, ValueSets.has, ValueSets.members}
 use Rattle.model.proofs.Lists.{same-eq, map-append, flat-append}
-use Rattle.sheet_small.specs.Small.{rowsOf, frontOf, sheetOf}
-use Rattle.sheet_small.specs.Inner.{shapeNo, secondNo, thirdNo, fourthNo, tableNo, IsTable, candidate, endAt, withRows, withHead, withTable, draftBytes, Drafts}
-use Rattle.sheet_small.specs.declared.Draft.{Draft}
-use Rattle.sheet_small.specs.declared.Images.{Images}
+use Rattle.sheet_small.specs.{Small.rowsOf, Small.frontOf, Small.sheetOf, inner.Inner.shapeNo, inner.Inner.secondNo, inner.Inner.thirdNo, inner.Inner.fourthNo}
+use Rattle.sheet_small.specs.inner.Inner.{tableNo, IsTable, candidate, endAt, withRows, withHead, withTable, draftBytes, Drafts}
+use Rattle.sheet_small.specs.{declared.Draft.Draft, declared.Images.Images}
 use Rattle.sheet_small.proofs.Lists.{tested, same-below}
 
 -- one function after another
-pub made : (i tables j end : ℕ) (t : Images) (rows head table : List ℕ) → IsTable j t → end ≡ endAt i → rows ≡ withRows (replicate 52 0) i → head ≡ withHead rows i end tables → table ≡ withTable head end (t .a) (t .b) (t .c) (t .d) →
+pub made : (i tables j end : ℕ) (t : Images) (rows head table : List ℕ) → IsTable j t → end ≡ endAt i → rows ≡ withRows (replicate 52 0) i → head ≡ withHead rows i end tables
+    → table ≡ withTable head end (t .a) (t .b) (t .c) (t .d) →
     table ≡ draftBytes i tables (j / 6) (secondNo j) (thirdNo j) (fourthNo j)
 made i tables j end t rows head table k e p q r =
     r ∙ ap₂ (λ (b : List ℕ) (at : ℕ). withTable b at (t .a) (t .b) (t .c) (t .d)) (q ∙ ap₂ (λ (b : List ℕ) (at : ℕ). withHead b i at tables) p e) e
@@ -29,7 +22,8 @@ plain-bytes : (p q r s : ℕ) → map (λ i. take (endAt i + 8 * 0) (draftBytes 
 unfolding below upFrom members keep has flat rowsOf frontOf sheetOf shapeNo
 plain-bytes p q r s = refl
 
-table-bytes : (p q r s : ℕ) → map (λ i. take (endAt i + 8 * 1) (draftBytes i 1 p q r s)) (below 144) ≡ map (λ i. flat (map twoBytes (frontOf (shapeNo i) 1)) ++ (p ∷ 0 ∷ q ∷ 0 ∷ r ∷ 0 ∷ s ∷ 0 ∷ [])) (below 144)
+table-bytes : (p q r s : ℕ) → map (λ i. take (endAt i + 8 * 1) (draftBytes i 1 p q r s)) (below 144) ≡ map
+    (λ i. flat (map twoBytes (frontOf (shapeNo i) 1)) ++ (p ∷ 0 ∷ q ∷ 0 ∷ r ∷ 0 ∷ s ∷ 0 ∷ [])) (below 144)
 unfolding below upFrom members keep has flat rowsOf frontOf shapeNo
 table-bytes p q r s = refl
 
@@ -75,11 +69,13 @@ plain-draft n p q r s d h e z =
     drafts n 0 p q r s d (omega arith) e z (candidate n)
     (same-below (λ i. take (endAt i + 8 * 0) (draftBytes i 0 p q r s)) (λ i. sheetOf (shapeNo i) []) 144 (plain-bytes p q r s) n h ∙ sym (candidate-plain n h))
 
-pub table-draft : (n : ℕ) (d : Draft) → 144 ≤ n → n < 3600 → (let j = (n - 144) % 24 in d .bytes ≡ draftBytes ((n - 144) / 24) 1 (j / 6) (secondNo j) (thirdNo j) (fourthNo j)) → d .size ≡ endAt ((n - 144) / 24) + 8 * 1 → Drafts (candidate n) d
+pub table-draft : (n : ℕ) (d : Draft) → 144 ≤ n → n < 3600 → (let j = (n - 144) % 24 in d .bytes ≡ draftBytes ((n - 144) / 24) 1 (j / 6) (secondNo j) (thirdNo j) (fourthNo j)) → d .size ≡ endAt
+    ((n - 144) / 24) + 8 * 1 → Drafts (candidate n) d
 unfolding tableBytes
 table-draft n d l h e z =
     let i = (n - 144) / 24 in
     let j = (n - 144) % 24 in
     drafts i 1 (j / 6) (secondNo j) (thirdNo j) (fourthNo j) d (omega arith) e z (candidate n)
-    (same-below (λ i. take (endAt i + 8 * 1) (draftBytes i 1 (j / 6) (secondNo j) (thirdNo j) (fourthNo j))) (λ i. flat (map twoBytes (frontOf (shapeNo i) 1)) ++ tableBytes j) 144 (table-bytes (j / 6) (secondNo j) (thirdNo j) (fourthNo j)) i (omega arith)
+    (same-below (λ i. take (endAt i + 8 * 1) (draftBytes i 1 (j / 6) (secondNo j) (thirdNo j) (fourthNo j))) (λ i. flat (map twoBytes (frontOf (shapeNo i) 1)) ++ tableBytes j) 144
+    (table-bytes (j / 6) (secondNo j) (thirdNo j) (fourthNo j)) i (omega arith)
     ∙ with-table i j (omega arith) ∙ sym (candidate-table n l))

@@ -1,22 +1,18 @@
 -- The number of small sheets, computed. Assumes nothing.
-use mathlib.Core.Path.{_≡_, refl, ap, ap₂, _∙_}
-use mathlib.Core.List.{List, [], _∷_, map}
-use Prim.Native.Nat.{ℕ, _+_, _/_, _%_}
-use native.Mathlib.Omega.{arith}
-use lib.ListN.{length, length-append, length-map}
+use Rattle.model.specs.Kit.{_≡_, refl, ap, ap₂, _∙_, List, [], _∷_, map, ℕ, _+_, _/_, _%_, arith, length, length-append, length-map}
 use Rattle.model.specs.Lists.{all, any, keep, flat, upFrom, below, at, same, earlier, ascending, rowsAscend}
-use Rattle.model.specs.ValueSets.{has, members}
-use Rattle.model.specs.Problem.{assignments, pair, isPair, within, doubled, pairsAt, excluded, forbidden, respects}
-use Rattle.model.specs.Sheet.{word, words, headerOf, scopeAt, rowsAt, afterAt, constraintsFrom, tableAt, problemOf, setsVerdict, constraintsVerdict, distinct, permutesPairs, symmetriesVerdict, verdictOf, constraintVerdict, headerVerdict, formVerdict}
+use Rattle.model.specs.{ValueSets.has, ValueSets.members, Problem.assignments, Problem.pair, Problem.isPair, Problem.within, Problem.doubled, Problem.pairsAt, Problem.excluded}
+use Rattle.model.specs.{Problem.forbidden, Problem.respects, Sheet.word, Sheet.words, Sheet.headerOf, Sheet.scopeAt, Sheet.rowsAt, Sheet.afterAt, Sheet.constraintsFrom}
+use Rattle.model.specs.Sheet.{tableAt, problemOf, setsVerdict, constraintsVerdict, distinct, permutesPairs, symmetriesVerdict, verdictOf, constraintVerdict, headerVerdict}
+use Rattle.model.specs.Sheet.{formVerdict}
 use Rattle.model.proofs.Lists.{keep-ext, below-e}
-use Rattle.sheet_small.specs.Claims.{Figures}
-use Rattle.sheet_small.specs.Small.{shapes, tables, rowsOf, frontOf, sheetOf, isSheet, plainSheets, symmetricSheets, smallSheets}
-use Rattle.sheet_small.specs.Inner.{shapeNo, tableNo}
-use Rattle.sheet_small.proofs.Lists.{keep-map}
-use Rattle.sheet_small.proofs.Stating.{stated, tableVerdict, tableFits, table-fits}
+use Rattle.sheet_small.specs.{Claims.Figures, Small.shapes, Small.tables, Small.rowsOf, Small.frontOf, Small.sheetOf, Small.isSheet, Small.plainSheets, Small.symmetricSheets}
+use Rattle.sheet_small.specs.{Small.smallSheets, inner.Inner.shapeNo, inner.Inner.tableNo}
+use Rattle.sheet_small.proofs.{Lists.keep-map, Stating.stated, Stating.tableVerdict, Stating.tableFits, Stating.table-fits}
 
 plain : length plainSheets ≡ 144
-unfolding plainSheets shapes sheetOf frontOf rowsOf isSheet all keep flat upFrom below at earlier ascending rowsAscend has members word words headerOf scopeAt rowsAt afterAt constraintsFrom tableAt problemOf setsVerdict constraintVerdict constraintsVerdict symmetriesVerdict headerVerdict formVerdict verdictOf
+unfolding plainSheets shapes sheetOf frontOf rowsOf isSheet all keep flat upFrom below at earlier ascending rowsAscend has members word words headerOf scopeAt rowsAt afterAt constraintsFrom
+    tableAt problemOf setsVerdict constraintVerdict constraintsVerdict symmetriesVerdict headerVerdict formVerdict verdictOf
 plain = refl
 
 -- ---- with one table
@@ -28,7 +24,8 @@ unfolding tabled shapes tables shapeNo any keep flat upFrom below has members as
 numbered = refl
 
 fitting : length (keep (λ m. tableFits (m / 24) (m % 24)) (below 3456)) ≡ 400
-unfolding tableFits tableVerdict stated shapeNo rowsOf all any keep flat upFrom below at same has members assignments pair isPair within doubled pairsAt excluded forbidden respects distinct permutesPairs symmetriesVerdict
+unfolding tableFits tableVerdict stated shapeNo rowsOf all any keep flat upFrom below at same has members assignments pair isPair within doubled pairsAt excluded forbidden respects distinct
+    permutesPairs symmetriesVerdict
 fitting = refl
 
 symmetric : length symmetricSheets ≡ 400

@@ -1,12 +1,6 @@
 -- Laws of numbers in turn: a test of all of them, and lists that are mapped. Assumes nothing.
-use mathlib.Core.Path.{_≡_, refl, sym, ap, ap₂, _∙_}
-use mathlib.Core.Bool.{Bool, true, false}
-use mathlib.Core.List.{List, [], _∷_, map}
-use Prim.Native.Nat.{ℕ, zero, suc, _+_, _<_}
+use Rattle.model.specs.Kit.{_≡_, refl, sym, ap, ap₂, _∙_, Bool, true, false, List, [], _∷_, map, ℕ, zero, suc, _+_, _<_, arith, T, drop, getD}
 use native.Mathlib.Nat.{add-zero, zero-add}
-use native.Mathlib.Omega.{arith}
-use lib.Dec.{T}
-use lib.ListN.{drop, getD}
 use Rattle.model.specs.Lists.{all, keep, upFrom, below}
 use Rattle.model.proofs.Lists.{T-of, all-e, below-i}
 
@@ -40,6 +34,7 @@ module _ {A : Type 0} where
   keep-map p f [] = refl
   keep-map p f (x ∷ l) = go (p (f x)) (keep-map p f l)
     where
-      go : (t : Bool) → keep p (map f l) ≡ map f (keep (λ x. p (f x)) l) → elim t [ true ↦ f x ∷ keep p (map f l) | false ↦ keep p (map f l) ] ≡ map f (elim t [ true ↦ x ∷ keep (λ x. p (f x)) l | false ↦ keep (λ x. p (f x)) l ])
+      go : (t : Bool) → keep p (map f l) ≡ map f (keep (λ x. p (f x)) l) → elim t [ true ↦ f x ∷ keep p (map f l) | false ↦ keep p (map f l) ] ≡ map f
+          (elim t [ true ↦ x ∷ keep (λ x. p (f x)) l | false ↦ keep (λ x. p (f x)) l ])
       go true e = ap (λ (r : List A). f x ∷ r) e
       go false e = e

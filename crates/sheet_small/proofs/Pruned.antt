@@ -1,21 +1,12 @@
 -- A table that moves a number that is no pair is refused, by computation over all shapes and tables. Assumes nothing.
-use mathlib.Core.Path.{_≡_, refl, sym, ap, ap₂, _∙_, subst}
-use mathlib.Core.Bool.{Bool, true, false, not}
-use mathlib.Core.Logic.{⊎-elim}
-use Prim.Native.Nat.{ℕ, _+_, _-_, _/_, _%_, _≤_, _<_}
-use native.Mathlib.Omega.{arith}
-use lib.Dec.{T-not, eqb, eqb→eq}
-use Rattle.model.specs.Lists.{either, all, any, keep, flat, upFrom, below, at, same}
-use Rattle.model.specs.ValueSets.{has, members}
+use Rattle.model.specs.Kit.{_≡_, refl, sym, ap, ap₂, _∙_, subst, Bool, true, false, not, ⊎-elim, ℕ, _+_, _-_, _/_, _%_, _≤_, _<_, arith, T-not, eqb, eqb→eq}
+use Rattle.model.specs.{Lists.either, Lists.all, Lists.any, Lists.keep, Lists.flat, Lists.upFrom, Lists.below, Lists.at, Lists.same, ValueSets.has, ValueSets.members}
 use Rattle.model.specs.Problem.{assignments, pair, isPair, within, doubled, pairsAt, excluded, forbidden, respects}
 use Rattle.model.specs.Sheet.{distinct, permutesPairs, symmetriesVerdict}
 use Rattle.model.proofs.Lists.{of-T, not-of, either-e}
-use Rattle.sheet_small.specs.Small.{rowsOf, isSheet}
-use Rattle.sheet_small.specs.Inner.{skip, shapeNo, secondNo, thirdNo, fourthNo, IsTable, movedBy, candidate}
-use Rattle.sheet_small.specs.declared.Images.{Images}
-use Rattle.sheet_small.proofs.Lists.{tested}
-use Rattle.sheet_small.proofs.Drafts.{candidate-table}
-use Rattle.sheet_small.proofs.Stating.{stated, tableVerdict, tableFits, table-fits}
+use Rattle.sheet_small.specs.{Small.rowsOf, Small.isSheet, inner.Inner.skip, inner.Inner.shapeNo, inner.Inner.secondNo, inner.Inner.thirdNo, inner.Inner.fourthNo}
+use Rattle.sheet_small.specs.{inner.Inner.IsTable, inner.Inner.movedBy, inner.Inner.candidate, declared.Images.Images}
+use Rattle.sheet_small.proofs.{Lists.tested, Drafts.candidate-table, Stating.stated, Stating.tableVerdict, Stating.tableFits, Stating.table-fits}
 
 -- shape and table of a candidate
 pub parts : (n : ℕ) → n < 3600 → ((n - 144) / 24 < 144) × ((n - 144) % 24 < 24)
@@ -41,7 +32,8 @@ abbrev kept : ℕ → ℕ → Bool
 kept i j = either (eqb (movedNo i j) 0) (not (tableFits i j))
 
 refused-test : all (λ i. all (kept i) (below 24)) (below 144) ≡ true
-unfolding tableFits tableVerdict stated shapeNo rowsOf all any keep flat upFrom below at same has members assignments pair isPair within doubled pairsAt excluded forbidden respects distinct permutesPairs symmetriesVerdict
+unfolding tableFits tableVerdict stated shapeNo rowsOf all any keep flat upFrom below at same has members assignments pair isPair within doubled pairsAt excluded forbidden respects distinct
+    permutesPairs symmetriesVerdict
 refused-test = refl
 
 refused-moved : (i j : ℕ) → i < 144 → j < 24 → 0 < movedNo i j → tableFits i j ≡ false

@@ -1,29 +1,15 @@
 -- An accepted sheet of that kind is the sheet of its shape and its tables. Assumes nothing.
-use mathlib.Core.Path.{_≡_, refl, sym, ap, ap₂, _∙_, subst}
-use mathlib.Core.Bool.{Bool, true, false}
-use mathlib.Core.List.{List, [], _∷_, _++_, map, List·Memᴰ, Memᴰ·map}
-use Prim.Native.Nat.{ℕ, zero, suc, _+_, _-_, _*_, _/_, _%_, _^_, _≤_, _<_}
-use native.Mathlib.Omega.{arith}
-use lib.Dec.{T, leb, ltb, eqb, leb→le, eqb→eq, ltb→lt}
-use lib.ListN.{length, getD, length-map}
-use borrow.Author.Tests.{ltb-true, ltb-false}
-use Rattle.model.specs.Lists.{all, keep, flat, upFrom, below, at, both, ascending, rowsAscend}
-use Rattle.model.specs.Bytes.{twoBytes}
-use Rattle.model.specs.Problem.{Problem, Constraint, assignments, isPair}
-use Rattle.model.specs.ValueSets.{has, members}
-use Rattle.model.specs.Verdict.{Verdict, isAccepted}
-use Rattle.model.specs.Sheet.{word, words, Header, headerOf, scopeAt, rowsAt, afterAt, constraintsFrom, tableAt, problemOf, distinct, permutesPairs, constraintsVerdict, verdictOf, constraintVerdict}
-use Rattle.model.specs.WellFormed.{GoodSymmetry}
-use Rattle.model.proofs.Lists.{all-e, below-i, upFrom-i, length-below, flat-i, keep-i, both-l, both-r}
-use Rattle.model.proofs.Assignments.{assign-i}
-use Rattle.model.proofs.Accepted.{Passed, asked, length-words, at-words, passed}
-use Rattle.sheet.proofs.Passed.{is-accepted, length-constraints}
+use Rattle.model.specs.Kit.{_≡_, refl, sym, ap, ap₂, _∙_, subst, Bool, true, false, List, [], _∷_, _++_, map, List·Memᴰ, Memᴰ·map, ℕ, zero, suc, _+_, _-_, _*_, _/_, _%_, _^_, _≤_}
+use Rattle.model.specs.Kit.{_<_, arith, T, leb, ltb, eqb, leb→le, eqb→eq, ltb→lt, length, getD, length-map, ltb-true, ltb-false}
+use Rattle.model.specs.{Lists.all, Lists.keep, Lists.flat, Lists.upFrom, Lists.below, Lists.at, Lists.both, Lists.ascending, Lists.rowsAscend, Bytes.twoBytes, Problem.Problem}
+use Rattle.model.specs.{Problem.Constraint, Problem.assignments, Problem.isPair, ValueSets.has, ValueSets.members, Verdict.Verdict, Verdict.isAccepted, Sheet.word, Sheet.words}
+use Rattle.model.specs.Sheet.{Header, headerOf, scopeAt, rowsAt, afterAt, constraintsFrom, tableAt, problemOf, distinct, permutesPairs, constraintsVerdict, verdictOf}
+use Rattle.model.specs.{Sheet.constraintVerdict, WellFormed.GoodSymmetry}
+use Rattle.model.proofs.{Lists.all-e, Lists.below-i, Lists.upFrom-i, Lists.length-below, Lists.flat-i, Lists.keep-i, Lists.both-l, Lists.both-r, Assignments.assign-i}
+use Rattle.model.proofs.Accepted.{Passed, asked, length-words, at-words, passed, is-accepted, length-constraints}
 use Rattle.sheet.proofs.Words.{map-all-e, words-all-e}
-use Rattle.sheet_small.specs.Claims.{IsSmall}
-use Rattle.sheet_small.specs.Small.{Shape, shapes, tables, rowsOf, frontOf, sheetOf}
-use Rattle.sheet_small.proofs.Lists.{tested}
-use Rattle.sheet_small.proofs.Words.{words-append, flat-words, bytes-of}
-use Rattle.sheet_small.proofs.RowSets.{rowNo, rows-set}
+use Rattle.sheet_small.specs.{Claims.IsSmall, Small.Shape, Small.shapes, Small.tables, Small.rowsOf, Small.frontOf, Small.sheetOf}
+use Rattle.sheet_small.proofs.{Lists.tested, Words.words-append, Words.flat-words, Words.bytes-of, RowSets.rowNo, RowSets.rows-set}
 
 -- what the questions leave of the one constraint
 record Asked (b : List ℕ) (h : Header) : Type 0 where
@@ -49,7 +35,11 @@ inPlace p g q = elim (isPair p q) [ true ↦ isPair p (at g q) | false ↦ eqb (
 
 permuted : (p : Problem) (g : List ℕ) → T (permutesPairs p g) → ((q : ℕ) → q < p .variables * p .values → at g q < p .variables * p .values) × T (distinct g)
 unfolding permutesPairs isPair
-permuted p g t = (λ q h. go q h (isPair p q) (all-e (inPlace p g) (below (p .variables * p .values)) (both-l (all (inPlace p g) (below (p .variables * p .values))) (distinct g) t) q (below-i (p .variables * p .values) q h)), both-r (all (inPlace p g) (below (p .variables * p .values))) (distinct g) t)
+permuted p g t = (
+  λ q h. go q h (isPair p q) (all-e (inPlace p g) (below (p .variables * p .values)) (both-l (all (inPlace p g) (below (p .variables * p .values))) (distinct g) t) q
+      (below-i (p .variables * p .values) q h)),
+  both-r (all (inPlace p g) (below (p .variables * p .values))) (distinct g) t,
+)
   where
     go : (q : ℕ) → q < p .variables * p .values → (c : Bool) → T (elim c [ true ↦ isPair p (at g q) | false ↦ eqb (at g q) q ]) → at g q < p .variables * p .values
     go q h true u = ltb→lt (at g q) (p .variables * p .values) (both-l (ltb (at g q) (p .variables * p .values)) (has (at (p .initial) (at g q / p .values)) (at g q % p .values)) u)
@@ -130,7 +120,8 @@ module _ (b : List ℕ) (s : IsSmall b) where
   unfolding headerOf
   questions =
       let w = p .walked in
-      constraint-asked b (headerOf b) (w .0) (subst (λ (k : ℕ). T (isAccepted (constraintsVerdict b (headerOf b) k 0 20 (w .0)))) constraints (subst (λ (o : ℕ). T (isAccepted (constraintsVerdict b (headerOf b) (word b 4) 0 o (w .0)))) second (w .1)))
+      constraint-asked b (headerOf b) (w .0) (subst (λ (k : ℕ). T (isAccepted (constraintsVerdict b (headerOf b) k 0 20 (w .0)))) constraints
+      (subst (λ (o : ℕ). T (isAccepted (constraintsVerdict b (headerOf b) (word b 4) 0 o (w .0)))) second (w .1)))
 
   row : ℕ → List ℕ
   row i = words b (28 + 2 * (i * 2)) 2
@@ -208,7 +199,8 @@ module _ (b : List ℕ) (s : IsSmall b) where
       let g : word b 6 ≡ length gs = sym symmetries in
       let t : word b 12 ≡ 28 + 4 * length (rowsOf m) = omega (arith, third, r) in
       let z : word b 14 ≡ 28 + 4 * length (rowsOf m) + 8 * length gs = omega (arith, size, r, g) in
-      let known : words b 0 14 ≡ 2 ∷ 2 ∷ 1 ∷ length gs ∷ 16 ∷ 20 ∷ (28 + 4 * length (rowsOf m)) ∷ (28 + 4 * length (rowsOf m) + 8 * length gs) ∷ word b 16 ∷ word b 18 ∷ 2 ∷ length (rowsOf m) ∷ 0 ∷ 1 ∷ [] = cc (head-words, variables, values, constraints, first, second, arity, left, right) in
+      let known : words b 0 14 ≡ 2 ∷ 2 ∷ 1 ∷ length gs ∷ 16 ∷ 20 ∷ (28 + 4 * length (rowsOf m)) ∷ (28 + 4 * length (rowsOf m) + 8 * length gs) ∷ word b 16 ∷ word b 18 ∷ 2 ∷ length
+      (rowsOf m) ∷ 0 ∷ 1 ∷ [] = cc (head-words, variables, values, constraints, first, second, arity, left, right) in
       words-append b 0 14 (word b 22 * 2 + word b 6 * 4)
       ∙ ap₂ (λ (x y : List ℕ). x ++ y) known
       (words-append b 28 (word b 22 * 2) (word b 6 * 4) ∙ ap₂ (λ (x y : List ℕ). x ++ y) (sym (ap flat (set .2) ∙ flat-words b 28 2 (word b 22))) (sym tables-read))
@@ -242,8 +234,11 @@ module _ (b : List ℕ) (s : IsSmall b) where
   pub in-shapes : List·Memᴰ shape shapes
   unfolding shapes shape
   in-shapes =
-      flat-i _ _ _ (Memᴰ·map (λ s. flat (map (λ t. map (λ r. record { first = s; second = t; rows = r }) (below 16)) (upFrom 1 3))) (upFrom-i 1 3 (word b 16) (set-range 0 (omega arith) .0) (set-range 0 (omega arith) .1)))
-      (flat-i _ _ _ (Memᴰ·map (λ t. map (λ r. record { first = word b 16; second = t; rows = r }) (below 16)) (upFrom-i 1 3 (word b 18) (set-range 1 (omega arith) .0) (set-range 1 (omega arith) .1))) (Memᴰ·map (λ r. record { first = word b 16; second = word b 18; rows = r }) (below-i 16 (set .0) (set .1))))
+      flat-i _ _ _ (Memᴰ·map (λ s. flat (map (λ t. map (λ r. record { first = s; second = t; rows = r }) (below 16)) (upFrom 1 3)))
+      (upFrom-i 1 3 (word b 16) (set-range 0 (omega arith) .0) (set-range 0 (omega arith) .1)))
+      (flat-i _ _ _ (Memᴰ·map (λ t. map (λ r. record { first = word b 16; second = t; rows = r }) (below 16))
+      (upFrom-i 1 3 (word b 18) (set-range 1 (omega arith) .0) (set-range 1 (omega arith) .1)))
+      (Memᴰ·map (λ r. record { first = word b 16; second = word b 18; rows = r }) (below-i 16 (set .0) (set .1))))
 
   -- ---- every number is below 256
   few-rows : word b 22 ≤ 4

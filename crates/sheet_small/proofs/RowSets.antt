@@ -1,15 +1,9 @@
 -- Rows of two values below 2 that ascend are the rows of a set. Assumes nothing.
-use mathlib.Core.Path.{_≡_, sym, ap, _∙_, subst, subst₂}
-use mathlib.Core.Bool.{Bool}
-use mathlib.Core.Logic.{⊎-elim}
-use mathlib.Core.List.{List, [], _∷_, map, map-map, List·Memᴰ, Memᴰ·of-map}
-use Prim.Native.Nat.{ℕ, suc, _/_, _%_, _<_}
-use native.Mathlib.Omega.{arith}
-use lib.Dec.{T, eqb}
-use Rattle.model.specs.Lists.{any, below, earlier, ascending, rowsAscend}
-use Rattle.model.specs.ValueSets.{maskBelow, members}
-use Rattle.model.proofs.Lists.{among-i, among-e, below-e, earlier-e, map-ext, sorted-ext, ascending-sorted}
-use Rattle.model.proofs.Sets.{has-mask, mask-lt, has-lt, members-i, members-e, members-sorted}
+use Rattle.model.specs.Kit.{_≡_, sym, ap, _∙_, subst, subst₂, Bool, ⊎-elim, List, [], _∷_, map, List·Memᴰ, Memᴰ·of-map, ℕ, suc, _/_, _%_, _<_, arith, T, eqb}
+use mathlib.Core.List.{map-map}
+use Rattle.model.specs.{Lists.any, Lists.below, Lists.earlier, Lists.ascending, Lists.rowsAscend, ValueSets.maskBelow, ValueSets.members}
+use Rattle.model.proofs.{Lists.among-i, Lists.among-e, Lists.below-e, Lists.earlier-e, Lists.map-ext, Lists.sorted-ext, Lists.ascending-sorted, Sets.has-mask, Sets.mask-lt}
+use Rattle.model.proofs.Sets.{has-lt, members-i, members-e, members-sorted}
 use Rattle.sheet.proofs.Ascend.{ascending-i, rows-e}
 use Rattle.sheet_small.specs.Small.{rowsOf}
 
@@ -42,7 +36,8 @@ row-order v w t =
     (earlier-e (v / 2) (w / 2) (v % 2 ∷ []) (w % 2 ∷ []) t)
 
 -- k rows, given by their numbers
-pub rows-set : (row : ℕ → List ℕ) (code : ℕ → ℕ) (k : ℕ) → ((i : ℕ) → i < k → (code i < 4) × (rowNo (code i) ≡ row i)) → T (rowsAscend (map row (below k))) → (m : ℕ) × (m < 16) × (rowsOf m ≡ map row (below k))
+pub rows-set : (row : ℕ → List ℕ) (code : ℕ → ℕ) (k : ℕ) → ((i : ℕ) → i < k → (code i < 4) × (rowNo (code i) ≡ row i)) → T (rowsAscend (map row (below k))) → (m : ℕ) × (m < 16) ×
+    (rowsOf m ≡ map row (below k))
 unfolding rowsOf
 rows-set row code k is t =
     let s = set-of (map code (below k)) (ascending-i code k up) few in

@@ -1,16 +1,9 @@
 -- The verdict on a candidate with a table goes by what it states: its bytes are read once for each shape. Assumes nothing.
-use mathlib.Core.Path.{_≡_, refl, ap, ap₂, _∙_}
-use mathlib.Core.Bool.{Bool}
-use mathlib.Core.List.{List, [], _∷_, map}
-use Prim.Native.Nat.{ℕ, _+_, _*_, _/_, _%_, _<_}
-use native.Mathlib.Omega.{arith}
-use Rattle.model.specs.Lists.{all, keep, flat, upFrom, below, at, earlier, ascending, rowsAscend}
-use Rattle.model.specs.ValueSets.{has, members}
-use Rattle.model.specs.Problem.{Problem}
-use Rattle.model.specs.Verdict.{Verdict, isAccepted}
-use Rattle.model.specs.Sheet.{word, words, headerOf, scopeAt, rowsAt, afterAt, constraintsFrom, tableAt, problemOf, setsVerdict, constraintsVerdict, symmetriesVerdict, verdictOf, constraintVerdict, headerVerdict, formVerdict}
-use Rattle.sheet_small.specs.Small.{Shape, rowsOf, frontOf, sheetOf, isSheet}
-use Rattle.sheet_small.specs.Inner.{shapeNo, tableNo}
+use Rattle.model.specs.Kit.{_≡_, refl, ap, ap₂, _∙_, Bool, List, [], _∷_, map, ℕ, _+_, _*_, _/_, _%_, _<_, arith}
+use Rattle.model.specs.{Lists.all, Lists.keep, Lists.flat, Lists.upFrom, Lists.below, Lists.at, Lists.earlier, Lists.ascending, Lists.rowsAscend, ValueSets.has, ValueSets.members}
+use Rattle.model.specs.{Problem.Problem, Verdict.Verdict, Verdict.isAccepted, Sheet.word, Sheet.words, Sheet.headerOf, Sheet.scopeAt, Sheet.rowsAt, Sheet.afterAt}
+use Rattle.model.specs.Sheet.{constraintsFrom, tableAt, problemOf, setsVerdict, constraintsVerdict, symmetriesVerdict, verdictOf, constraintVerdict, headerVerdict, formVerdict}
+use Rattle.sheet_small.specs.{Small.Shape, Small.rowsOf, Small.frontOf, Small.sheetOf, Small.isSheet, inner.Inner.shapeNo, inner.Inner.tableNo}
 use Rattle.sheet_small.proofs.Lists.{same-below}
 
 -- a shape with one table
@@ -33,7 +26,8 @@ abbrev back : ℕ → ℕ
 back w = w % 256 + 256 * (w / 256)
 
 verdicts : (a b c d : ℕ) → map (λ i. verdictOf (sheetOf (shapeNo i) ((a ∷ b ∷ c ∷ d ∷ []) ∷ []))) (below 144) ≡ map (λ i. tableVerdict i (back a ∷ back b ∷ back c ∷ back d ∷ [])) (below 144)
-unfolding stated tableVerdict shapeNo sheetOf frontOf rowsOf all keep flat upFrom below at earlier ascending rowsAscend has members word words headerOf scopeAt rowsAt afterAt constraintsFrom tableAt problemOf setsVerdict constraintVerdict constraintsVerdict headerVerdict formVerdict verdictOf
+unfolding stated tableVerdict shapeNo sheetOf frontOf rowsOf all keep flat upFrom below at earlier ascending rowsAscend has members word words headerOf scopeAt rowsAt afterAt constraintsFrom
+    tableAt problemOf setsVerdict constraintVerdict constraintsVerdict headerVerdict formVerdict verdictOf
 verdicts a b c d = refl
 
 read-back : (i a b c d : ℕ) → i < 144 → verdictOf (sheetOf (shapeNo i) ((a ∷ b ∷ c ∷ d ∷ []) ∷ [])) ≡ tableVerdict i (a ∷ b ∷ c ∷ d ∷ [])

@@ -1,18 +1,9 @@
 -- How far the walk came: what is left of the list once `seen` sheets are passed, before candidate n. Assumes nothing.
-use mathlib.Core.Path.{_≡_, sym, ap, _∙_, subst}
-use mathlib.Core.Bool.{true, false}
-use mathlib.Core.List.{List, [], _∷_, map}
-use Prim.Native.Nat.{ℕ, suc, _+_, _-_, _≤_, _<_}
-use native.Mathlib.Numerals.{add-one}
-use native.Mathlib.Omega.{arith}
-use lib.ListN.{length, drop, getD, length-drop}
-use lib.Seq.{drop-drop, getD-drop}
+use Rattle.model.specs.Kit.{_≡_, sym, ap, _∙_, subst, true, false, List, [], _∷_, map, ℕ, suc, _+_, _-_, _≤_, _<_, add-one, arith, length, drop, getD, length-drop, getD-drop}
+use lib.Seq.{drop-drop}
 use Rattle.model.specs.Lists.{keep, upFrom, below}
 use Rattle.model.proofs.Lists.{keep-yes, keep-no}
-use Rattle.sheet_small.specs.Small.{isSheet, smallSheets}
-use Rattle.sheet_small.specs.Answers.{sheetAt}
-use Rattle.sheet_small.specs.Inner.{candidate, Drafts, At}
-use Rattle.sheet_small.specs.declared.Draft.{Draft}
+use Rattle.sheet_small.specs.{Small.isSheet, Small.smallSheets, Answers.sheetAt, inner.Inner.candidate, inner.Inner.Drafts, inner.Inner.At, declared.Draft.Draft}
 use Rattle.sheet_small.proofs.Order.{order}
 
 abbrev from : ℕ → List (List ℕ)

@@ -1,13 +1,7 @@
 -- Numbers that stand one after another, and the bytes that they are. Assumes nothing.
-use mathlib.Core.Path.{_≡_, refl, sym, ap, ap₂, _∙_}
-use mathlib.Core.List.{List, [], _∷_, _++_, map}
-use Prim.Native.Nat.{ℕ, zero, suc, _+_, _*_, _/_, _%_, _<_}
+use Rattle.model.specs.Kit.{_≡_, refl, sym, ap, ap₂, _∙_, List, [], _∷_, _++_, map, ℕ, zero, suc, _+_, _*_, _/_, _%_, _<_, arith, length, getD}
 use native.Mathlib.Nat.{zero-mul}
-use native.Mathlib.Omega.{arith}
-use lib.ListN.{length, getD}
-use Rattle.model.specs.Lists.{flat, upFrom, below, at}
-use Rattle.model.specs.Bytes.{twoBytes}
-use Rattle.model.specs.Sheet.{word, words}
+use Rattle.model.specs.{Lists.flat, Lists.upFrom, Lists.below, Lists.at, Bytes.twoBytes, Sheet.word, Sheet.words}
 use Rattle.model.proofs.Lists.{upFrom-add, map-append, map-ext, map-shift}
 use Rattle.sheet_small.proofs.Lists.{from-below}
 
@@ -28,7 +22,8 @@ flat-words b o a (suc k) =
     let e : o + 2 * (0 * a) ≡ o = omega arith in
     let f : suc k * a ≡ a + k * a = omega arith in
     ap₂ (λ (x y : List ℕ). x ++ y) (ap (λ (i : ℕ). words b i a) e)
-    (ap flat (map-shift (λ i. words b (o + 2 * (i * a)) a) 0 k ∙ map-ext (λ i. words b (o + 2 * (suc i * a)) a) (λ i. words b (o + 2 * a + 2 * (i * a)) a) (upFrom 0 k) (λ i m. let g : o + 2 * (suc i * a) ≡ o + 2 * a + 2 * (i * a) = omega arith in ap (λ (p : ℕ). words b p a) g))
+    (ap flat (map-shift (λ i. words b (o + 2 * (i * a)) a) 0 k ∙ map-ext (λ i. words b (o + 2 * (suc i * a)) a) (λ i. words b (o + 2 * a + 2 * (i * a)) a) (upFrom 0 k)
+    (λ i m. let g : o + 2 * (suc i * a) ≡ o + 2 * a + 2 * (i * a) = omega arith in ap (λ (p : ℕ). words b p a) g))
     ∙ flat-words b (o + 2 * a) a k)
     ∙ sym (ap (words b o) f ∙ words-append b o a (k * a))
 
@@ -46,7 +41,8 @@ bytes-of (suc n) (x ∷ y ∷ b) e h =
     let rest = bytes-of n b (omega arith) (λ i l. omega (arith, h (suc i) (omega arith), later i)) in
     ap₂ (λ (p : ℕ) (l : List ℕ). p ∷ l) low
     (ap₂ (λ (p : ℕ) (l : List ℕ). p ∷ l) high
-    (rest ∙ ap (λ (l : List ℕ). flat (map twoBytes l)) (sym (map-shift (λ i. word (x ∷ y ∷ b) (0 + 2 * i)) 0 n ∙ map-ext (λ i. word (x ∷ y ∷ b) (0 + 2 * suc i)) (λ i. word b (0 + 2 * i)) (upFrom 0 n) (λ i m. later i)))))
+    (rest ∙ ap (λ (l : List ℕ). flat (map twoBytes l)) (sym (map-shift (λ i. word (x ∷ y ∷ b) (0 + 2 * i)) 0 n ∙ map-ext (λ i. word (x ∷ y ∷ b) (0 + 2 * suc i)) (λ i. word b (0 + 2 * i))
+    (upFrom 0 n) (λ i m. later i)))))
   where
     later : (i : ℕ) → word (x ∷ y ∷ b) (0 + 2 * suc i) ≡ word b (0 + 2 * i)
     later i =

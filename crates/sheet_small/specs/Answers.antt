@@ -1,13 +1,7 @@
 -- What is answered about a position, and what the lent room holds afterwards.
-use mathlib.Core.List.{List, []}
-use Prim.Native.Nat.{ℕ}
-use lib.Dec.{ltb, leb}
-use lib.ListN.{length, getD}
-use Rattle.model.specs.Verdict.{Verdict, accepted, ask}
-use Rattle.model.specs.Room.{Outcome, wrote, refusal, outcomeOf, roomAfter}
-use Rattle.sheet_small.specs.Small.{smallSheets}
-use Rattle.sheet_small.specs.declared.Answer.{Answer}
-use Rattle.sheet_small.specs.declared.Answer.the-variants.{Written, Refused}
+use Rattle.model.specs.Kit.{List, [], ℕ, ltb, leb, length, getD}
+use Rattle.model.specs.{Verdict.Verdict, Verdict.accepted, Verdict.ask, Room.Outcome, Room.wrote, Room.refusal, Room.outcomeOf, Room.roomAfter}
+use Rattle.sheet_small.specs.{Small.smallSheets, declared.Answer.Answer, declared.Answer.the-variants.Written, declared.Answer.the-variants.Refused}
 
 abbrev pub means : Answer → Outcome
 means (Written bytes) = wrote bytes

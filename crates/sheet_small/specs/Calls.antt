@@ -1,13 +1,8 @@
 -- A call of `small_sheet`: the position, the room as it came, the answer, and the room at the end. It is the function's contract. And paper 02, #114, of
 -- what a caller holds. proofs/Calls has the theorem.
-use mathlib.Core.Path.{_≡_}
-use mathlib.Core.List.{List}
-use Prim.Native.Nat.{ℕ, _≤_, _<_}
-use lib.ListN.{length, take, drop}
-use Rattle.sheet_small.specs.Answers.{means, smallOutcome, smallRoom}
-use Rattle.sheet_small.specs.Claims.{IsSmall}
-use Rattle.sheet_small.specs.declared.Answer.{Answer}
-use Rattle.sheet_small.specs.declared.Answer.the-variants.{Written, Refused}
+use Rattle.model.specs.Kit.{_≡_, List, ℕ, _≤_, _<_, length, take, drop}
+use Rattle.sheet_small.specs.{Answers.means, Answers.smallOutcome, Answers.smallRoom, Claims.IsSmall, declared.Answer.Answer, declared.Answer.the-variants.Written}
+use Rattle.sheet_small.specs.declared.Answer.the-variants.{Refused}
 
 abbrev pub CallSmall : ℕ → List ℕ → Answer → List ℕ → Type 0
 CallSmall k room r after = (means r ≡ smallOutcome k room) × (after ≡ smallRoom k room)

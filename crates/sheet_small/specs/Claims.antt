@@ -1,11 +1,6 @@
 -- What is claimed of the small sheets (paper 02, #114).
-use mathlib.Core.Path.{_≡_}
-use mathlib.Core.List.{List, [], _∷_, map}
-use Prim.Native.Nat.{ℕ, _≤_, _<_}
-use lib.ListN.{length, getD}
-use Rattle.model.specs.Problem.{Constraint}
-use Rattle.model.specs.Verdict.{accepted}
-use Rattle.model.specs.Sheet.{problemOf, verdictOf}
+use Rattle.model.specs.Kit.{_≡_, List, [], _∷_, map, ℕ, _≤_, _<_, length, getD}
+use Rattle.model.specs.{Problem.Constraint, Verdict.accepted, Sheet.problemOf, Sheet.verdictOf}
 use Rattle.sheet_small.specs.Small.{plainSheets, symmetricSheets, smallSheets}
 
 -- an accepted sheet of two variables and two values with one constraint, on both, and at most one symmetry

@@ -3,4 +3,4 @@ pub mod Small
 pub mod Claims
 pub mod Answers
 pub mod Calls
-pub mod Inner
+pub mod inner

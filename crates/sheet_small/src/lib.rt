@@ -6,7 +6,8 @@ ghost use lib.ListN.{length};
 ghost use Rattle.model.specs.Written.{Fronted};
 ghost use Rattle.sheet_small.specs.Small.{isSheet};
 ghost use Rattle.sheet_small.specs.Calls.{CallSmall};
-ghost use Rattle.sheet_small.specs.Inner.{secondNo, thirdNo, fourthNo, IsTable, withRows, endAt, withHead, withTable, draftBytes, movedBy, candidate, Drafts, At};
+ghost use Rattle.sheet_small.specs.inner.Inner.{secondNo, thirdNo, fourthNo, IsTable, withRows, endAt, withHead, withTable, draftBytes, movedBy};
+ghost use Rattle.sheet_small.specs.inner.Inner.{candidate, Drafts, At};
 
 // The room that every small sheet fits.
 const SHEET_ROOM: usize = 52;

@@ -1,28 +1,12 @@
 -- The constraints that can refuse three pairs, asked one after another. Assumes nothing.
-use mathlib.Core.Path.{_≡_, refl, sym, ap, _∙_, subst}
-use mathlib.Core.Bool.{Bool, true, false}
-use mathlib.Core.List.{List, [], _∷_, List·Memᴰ·head, List·Memᴰ·tail}
-use mathlib.Core.Logic.{inl, inr, ⊎-elim}
-use Prim.Native.Nat.{ℕ, _-_, _/_, _^_, _≤_, _<_}
-use native.Mathlib.Nat.{lt-of-le-of-lt, lt-of-lt-of-le}
-use native.Mathlib.Omega.{arith}
-use lib.Dec.{T, eqb, eqb-refl}
-use lib.ListN.{length}
-use lib.Bits.{bitAnd, bitOr, and-le-l}
-use lib.Count.{trailingZeros}
+use Rattle.model.specs.Kit.{_≡_, refl, sym, ap, _∙_, subst, Bool, true, false, List, [], _∷_, List·Memᴰ·head, List·Memᴰ·tail, inl, inr, ⊎-elim, ℕ, _-_, _/_, _^_, _≤_, _<_}
+use Rattle.model.specs.Kit.{lt-of-le-of-lt, lt-of-lt-of-le, arith, T, eqb, eqb-refl, length, bitAnd, bitOr, and-le-l, trailingZeros}
 use lib.Pow.{pow-mono}
-use Rattle.model.specs.Lists.{any, at}
-use Rattle.model.specs.ValueSets.{has}
-use Rattle.model.specs.Problem.{Problem}
-use Rattle.model.proofs.Lists.{T-of, of-T, not-of, of-not, all-i, any-i}
-use Rattle.model.proofs.Sets.{has-lt, has-none}
-use Rattle.model.proofs.Members.{low-has, rest-i}
-use Rattle.arrays.specs.Layout.{constraintAt}
-use Rattle.sheet_symmetries.specs.Forbidden.{blocked, numberOf, clashes, valueIn, refusedBy, Refusing, Triple, Pending}
-use Rattle.sheet_symmetries.proofs.Codes.{variable-lt}
-use Rattle.sheet_symmetries.proofs.Blocks.{clash-blocked}
-use Rattle.sheet_symmetries.proofs.Scopes.{all-has}
-use Rattle.sheet_symmetries.proofs.Triples.{OneGives, found, refused-all, refused-blocked, blocked-refused}
+use Rattle.model.specs.{Lists.any, Lists.at, ValueSets.has, Problem.Problem, Problem.constraintAt}
+use Rattle.model.proofs.{Lists.T-of, Lists.of-T, Lists.not-of, Lists.of-not, Lists.all-i, Lists.any-i, Sets.has-lt, Sets.has-none, Members.low-has, Members.rest-i}
+use Rattle.sheet_symmetries.specs.inner.Forbidden.{blocked, numberOf, clashes, valueIn, refusedBy, Refusing, Triple, Pending}
+use Rattle.sheet_symmetries.proofs.{Codes.variable-lt, Blocks.clash-blocked, Scopes.all-has, Triples.OneGives, Triples.found, Triples.refused-all, Triples.refused-blocked}
+use Rattle.sheet_symmetries.proofs.Triples.{blocked-refused}
 
 module _ (p : Problem) (numbers supports : List ℕ) (a b e : ℕ) (t : Triple p numbers supports a b e) where
   -- ---- two of the pairs clash
@@ -30,10 +14,12 @@ module _ (p : Problem) (numbers supports : List ℕ) (a b e : ℕ) (t : Triple p
   first-clash h = sym (of-T _ (clash-blocked p (t .ready .framed .stated) a b _ (t .first) (t .second) (T-of (clashes a b) h) (List·Memᴰ·head refl) (List·Memᴰ·tail (List·Memᴰ·head refl))))
 
   pub second-clash : clashes a e ≡ true → true ≡ blocked p (numberOf p a ∷ numberOf p b ∷ numberOf p e ∷ [])
-  second-clash h = sym (of-T _ (clash-blocked p (t .ready .framed .stated) a e _ (t .first) (t .third) (T-of (clashes a e) h) (List·Memᴰ·head refl) (List·Memᴰ·tail (List·Memᴰ·tail (List·Memᴰ·head refl)))))
+  second-clash h = sym (of-T _ (clash-blocked p (t .ready .framed .stated) a e _ (t .first) (t .third) (T-of (clashes a e) h) (List·Memᴰ·head refl)
+      (List·Memᴰ·tail (List·Memᴰ·tail (List·Memᴰ·head refl)))))
 
   pub third-clash : clashes b e ≡ true → true ≡ blocked p (numberOf p a ∷ numberOf p b ∷ numberOf p e ∷ [])
-  third-clash h = sym (of-T _ (clash-blocked p (t .ready .framed .stated) b e _ (t .second) (t .third) (T-of (clashes b e) h) (List·Memᴰ·tail (List·Memᴰ·head refl)) (List·Memᴰ·tail (List·Memᴰ·tail (List·Memᴰ·head refl)))))
+  third-clash h = sym (of-T _ (clash-blocked p (t .ready .framed .stated) b e _ (t .second) (t .third) (T-of (clashes b e) h) (List·Memᴰ·tail (List·Memᴰ·head refl))
+      (List·Memᴰ·tail (List·Memᴰ·tail (List·Memᴰ·head refl)))))
 
   pub variables-small : (a / 16 < 16) × (b / 16 < 16) × (e / 16 < 16)
   variables-small =
@@ -82,7 +68,8 @@ module _ (p : Problem) (numbers supports : List ℕ) (a b e : ℕ) (t : Triple p
   asked-yes set r h q = sym (of-T _ (h .yes q))
 
   -- all constraints on the variables are asked
-  pub asked-all : (set : ℕ) (r : Bool) → set ≡ bitOr (bitOr (at numbers (a / 16)) (at numbers (b / 16))) (at numbers (e / 16)) → Refusing p a b e set r → clashes a b ≡ false → clashes a e ≡ false → clashes b e ≡ false →
+  pub asked-all : (set : ℕ) (r : Bool) → set ≡ bitOr (bitOr (at numbers (a / 16)) (at numbers (b / 16))) (at numbers (e / 16)) → Refusing p a b e set r → clashes a b ≡ false → clashes a e ≡ false
+      → clashes b e ≡ false →
       r ≡ blocked p (numberOf p a ∷ numberOf p b ∷ numberOf p e ∷ [])
   asked-all set r es h ab ae be = go r refl
     where

@@ -1,22 +1,10 @@
 -- Two pairs beside the pairs of a variable: one value further. Assumes nothing.
-use mathlib.Core.Path.{_≡_, refl, sym, ap, _∙_, subst}
-use mathlib.Core.Bool.{Bool, true, false}
-use mathlib.Core.List.{List, [], _∷_, List·Memᴰ·head, List·Memᴰ·tail}
-use mathlib.Core.Logic.{inr}
-use Prim.Native.Nat.{ℕ, _+_, _*_, _/_, _<_}
-use native.Mathlib.Omega.{arith}
-use lib.Dec.{T}
-use Rattle.model.specs.Lists.{at}
-use Rattle.model.specs.ValueSets.{has, members, lowestOf, withoutMask}
-use Rattle.model.specs.Problem.{Problem}
-use Rattle.model.proofs.Lists.{T-of, of-T, all-i}
-use Rattle.model.proofs.Sets.{mask-lt}
-use Rattle.model.proofs.Lowest.{lowest-in, without-e, without-less}
-use Rattle.sheet_symmetries.specs.Table.{Stated}
-use Rattle.sheet_symmetries.specs.Forbidden.{blocked, clashes, numberOf, PairCode, Triple, Beside, allBlocked}
-use Rattle.sheet_symmetries.proofs.Blocks.{clash-blocked}
-use Rattle.sheet_symmetries.proofs.Codes.{init-16}
-use Rattle.sheet_symmetries.proofs.Laws.{all-stop, all-rest, all-over}
+use Rattle.model.specs.Kit.{_≡_, refl, sym, ap, _∙_, subst, Bool, true, false, List, [], _∷_, List·Memᴰ·head, List·Memᴰ·tail, inr, ℕ, _+_, _*_, _/_, _<_, arith, T}
+use Rattle.model.specs.{Lists.at, ValueSets.has, ValueSets.members, ValueSets.lowestOf, ValueSets.withoutMask, Problem.Problem}
+use Rattle.model.proofs.{Lists.T-of, Lists.of-T, Lists.all-i, Sets.mask-lt, Lowest.lowest-in, Lowest.without-e, Lowest.without-less}
+use Rattle.sheet_symmetries.specs.{inner.Table.Stated, inner.Forbidden.blocked, inner.Forbidden.clashes, inner.Forbidden.numberOf, inner.Forbidden.PairCode}
+use Rattle.sheet_symmetries.specs.inner.Forbidden.{Triple, Beside, allBlocked}
+use Rattle.sheet_symmetries.proofs.{Blocks.clash-blocked, Codes.init-16, Laws.all-stop, Laws.all-rest, Laws.all-over}
 
 module _ (p : Problem) (numbers supports codes : List ℕ) (x set a b : ℕ) (s : Beside p numbers supports codes x set a b) where
   w : Stated p
@@ -56,7 +44,8 @@ module _ (p : Problem) (numbers supports codes : List ℕ) (x set a b : ℕ) (s 
     beside-stop r total q f t = all-stop _ set total t (s .small) n (answer r q ∙ f)
 
     -- `new` is the set without it
-    pub beside-rest : (new : ℕ) (r total : Bool) → new ≡ withoutMask set v → r ≡ blocked p (numberOf p a ∷ numberOf p b ∷ numberOf p e ∷ []) → r ≡ true → allBlocked p codes x a b (members set) ≡ total →
+    pub beside-rest : (new : ℕ) (r total : Bool) → new ≡ withoutMask set v → r ≡ blocked p (numberOf p a ∷ numberOf p b ∷ numberOf p e ∷ []) → r ≡ true → allBlocked p codes x a b
+        (members set) ≡ total →
         Beside p numbers supports codes x new a b × (allBlocked p codes x a b (members new) ≡ total)
     beside-rest new r total z q f t =
         subst (λ (m : ℕ). Beside p numbers supports codes x m a b × (allBlocked p codes x a b (members m) ≡ total)) (sym (z ∙ ap (withoutMask set) ev)) (

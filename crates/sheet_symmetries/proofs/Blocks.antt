@@ -1,22 +1,14 @@
 -- The forbidden sets among given pairs: what lies in them, and when three pairs hold one. Assumes nothing.
-use mathlib.Core.Path.{_≡_, refl, sym, ap, _∙_, subst}
-use mathlib.Core.Bool.{Bool, true, false, not}
-use mathlib.Core.List.{List, [], _∷_, map, List·Memᴰ, List·Memᴰ·head, List·Memᴰ·tail, List·Memᴰ·not-nil, List·Memᴰ·eq-of-singleton, Memᴰ·cast, Memᴰ·map, Memᴰ·of-map}
-use mathlib.Core.Logic.{_⊎_, inl, inr, ⊎-elim}
-use Prim.Native.Nat.{ℕ, suc, _*_, _/_, _%_, _≤_, _<_}
-use native.Mathlib.Omega.{arith}
-use lib.Dec.{T, T-not, not-T, eqb, ltb}
-use lib.ListN.{length, getD}
-use borrow.Author.Tests.{eqb-true, eq-eqb, ltb-true, ltb-false}
-use Rattle.model.specs.Lists.{any, keep, at, same}
-use Rattle.model.specs.ValueSets.{has, members}
-use Rattle.model.specs.Problem.{Problem, Constraint, pair, pairsAt, within, assignments, excluded, forbidden}
+use Rattle.model.specs.Kit.{_≡_, refl, sym, ap, _∙_, subst, Bool, true, false, not, List, [], _∷_, map, List·Memᴰ, List·Memᴰ·head, List·Memᴰ·tail, List·Memᴰ·not-nil, Memᴰ·cast}
+use Rattle.model.specs.Kit.{Memᴰ·map, Memᴰ·of-map, _⊎_, inl, inr, ⊎-elim, ℕ, suc, _*_, _/_, _%_, _≤_, _<_, arith, T, T-not, not-T, eqb, ltb, length, getD, eqb-true, eq-eqb}
+use Rattle.model.specs.Kit.{ltb-true, ltb-false}
+use mathlib.Core.List.{List·Memᴰ·eq-of-singleton}
+use Rattle.model.specs.{Lists.any, Lists.keep, Lists.at, Lists.same, ValueSets.has, ValueSets.members, Problem.Problem, Problem.Constraint, Problem.pair, Problem.pairsAt}
+use Rattle.model.specs.Problem.{within, assignments, excluded, forbidden, constraintAt}
 use Rattle.model.proofs.Lists.{T-of, T-ext, of-not, both-i, both-l, both-r, any-e, any-i, keep-e, keep-i, flat-i, flat-e}
-use Rattle.model.proofs.Sets.{members-i, members-e}
-use Rattle.model.proofs.Pairs.{within-i, within-e, doubled-e, doubled-i, forbidden-e, forbidden-doubled}
-use Rattle.arrays.specs.Layout.{constraintAt}
-use Rattle.sheet_symmetries.specs.Table.{Stated}
-use Rattle.sheet_symmetries.specs.Forbidden.{blocked, numberOf, PairCode, MaybePair, Begun, clashes}
+use Rattle.model.proofs.{Sets.members-i, Sets.members-e, Pairs.within-i, Pairs.within-e, Pairs.doubled-e, Pairs.doubled-i, Pairs.forbidden-e, Pairs.forbidden-doubled}
+use Rattle.sheet_symmetries.specs.{inner.Table.Stated, inner.Forbidden.blocked, inner.Forbidden.numberOf, inner.Forbidden.PairCode, inner.Forbidden.MaybePair}
+use Rattle.sheet_symmetries.specs.inner.Forbidden.{Begun, clashes}
 use Rattle.sheet_symmetries.proofs.Codes.{good, init-lt, init-16, pair-lt}
 
 -- ---- lists
@@ -117,7 +109,8 @@ module _ (p : Problem) where
         twice a b q (List·Memᴰ·tail n) = List·Memᴰ·tail (List·Memᴰ·tail n)
 
     -- only the pairs of a list count, and only which they are
-    pub blocked-ext : (l m : List ℕ) → ((q : ℕ) → q < p .variables * p .values → List·Memᴰ q l → List·Memᴰ q m) → ((q : ℕ) → q < p .variables * p .values → List·Memᴰ q m → List·Memᴰ q l) → blocked p l ≡ blocked p m
+    pub blocked-ext : (l m : List ℕ) → ((q : ℕ) → q < p .variables * p .values → List·Memᴰ q l → List·Memᴰ q m) → ((q : ℕ) → q < p .variables * p .values → List·Memᴰ q m → List·Memᴰ q l)
+        → blocked p l ≡ blocked p m
     blocked-ext l m f g =
         T-ext (blocked p l) (blocked p m)
         (λ t. let r = blocked-e l t in blocked-i m (r .0) (r .1) (λ q k. f q (forbidden-lt (r .0) (r .1) q k) (r .2 q k)))
@@ -135,7 +128,8 @@ module _ (p : Problem) where
       where
         go : (t : Bool) → eqb a b ≡ t → a ≡ b
         go true q = eqb-true a b q
-        go false q = absurd (of-not (clashes a b) e (both-i (eqb (a / 16) (b / 16)) (not (eqb a b)) (T-of (eqb (a / 16) (b / 16)) (eq-eqb (a / 16) (b / 16) h)) (subst (λ (t : Bool). T (not t)) (sym q) tt)))
+        go false q = absurd (of-not (clashes a b) e (both-i (eqb (a / 16) (b / 16)) (not (eqb a b)) (T-of (eqb (a / 16) (b / 16)) (eq-eqb (a / 16) (b / 16) h))
+            (subst (λ (t : Bool). T (not t)) (sym q) tt)))
 
     -- the first of two that clash is a pair
     real : (a b : ℕ) → MaybePair p a → MaybePair p b → a / 16 ≡ b / 16 → (a ≡ b → ⊥) → PairCode p a
@@ -159,7 +153,8 @@ module _ (p : Problem) where
         go true l e ca cb =
             let same-variable : pair p (a / 16) (b % 16) ≡ numberOf p b = ap (λ (x : ℕ). pair p x (b % 16)) (e .0) in
             blocked-i image (pair p (a / 16) (a % 16) ∷ pair p (a / 16) (b % 16) ∷ [])
-            (forbidden-doubled p (a / 16) _ (ca .0) (doubled-i p (a / 16) (a % 16) (b % 16) (ltb-true (a % 16) (b % 16) l) (omega arith) (ca .1) (subst (λ (x : ℕ). T (has (at (p .initial) x) (b % 16))) (sym (e .0)) (cb .1))))
+            (forbidden-doubled p (a / 16) _ (ca .0) (doubled-i p (a / 16) (a % 16) (b % 16) (ltb-true (a % 16) (b % 16) l) (omega arith) (ca .1)
+            (subst (λ (x : ℕ). T (has (at (p .initial) x) (b % 16))) (sym (e .0)) (cb .1))))
             (both-in (a / 16) (a % 16) (b % 16) refl same-variable)
         go false l e ca cb =
             let f = ltb-false (a % 16) (b % 16) l in

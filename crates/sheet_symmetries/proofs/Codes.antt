@@ -1,29 +1,14 @@
 -- Pairs, their numbers and their codes, in a problem that questions 1 to 14 passed. Assumes nothing.
-use mathlib.Core.Path.{_≡_, refl, sym, ap, ap₂, _∙_, subst}
-use mathlib.Core.Bool.{Bool, true, false}
-use mathlib.Core.List.{List, [], _∷_, List·Memᴰ, List·Memᴰ·head, List·Memᴰ·tail}
-use mathlib.Core.Logic.{inl, inr}
-use Prim.Native.Nat.{ℕ, zero, suc, _+_, _*_, _/_, _%_, _^_, _≤_, _<_}
-use native.Mathlib.Nat.{mul-add-div-right, mul-add-mod-self-right, mod-eq-of-lt, div-eq-of-lt, div-add-mod', div-lt-iff-lt-mul, mod-lt, mul-le-mul-right, add-zero, not-suc-le-zero, le-of-suc-le-suc, lt-of-lt-of-le}
-use native.Mathlib.Omega.{arith}
-use lib.Dec.{T, eqb, ltb, ltb→lt, lt→ltb}
-use lib.ListN.{length, getD}
+use Rattle.model.specs.Kit.{_≡_, refl, sym, ap, ap₂, _∙_, subst, Bool, true, false, List, [], List·Memᴰ, inl, inr, ℕ, _+_, _*_, _/_, _%_, _^_, _≤_, _<_, mod-eq-of-lt}
+use Rattle.model.specs.Kit.{mul-le-mul-right, lt-of-lt-of-le, arith, T, eqb, ltb, ltb→lt, lt→ltb, length}
+use native.Mathlib.Nat.{mul-add-div-right, mul-add-mod-self-right, div-eq-of-lt, div-add-mod', div-lt-iff-lt-mul, mod-lt, add-zero}
 use lib.Pow.{pow-mono}
-use Rattle.model.specs.Lists.{at, all, below}
-use Rattle.model.specs.ValueSets.{has}
-use Rattle.model.specs.Problem.{Problem, pair, isPair}
-use Rattle.model.specs.Sheet.{permutesPairs, distinct}
-use Rattle.model.proofs.Lists.{both-i, both-l, both-r, all-e, below-i}
-use Rattle.model.proofs.Sets.{has-lt}
+use Rattle.model.specs.{Lists.at, Lists.all, Lists.below, ValueSets.has, Problem.Problem, Problem.pair, Problem.isPair, Problem.constraintAt, Sheet.permutesPairs, Sheet.distinct}
 use Rattle.model.specs.WellFormed.{GoodConstraint}
-use Rattle.arrays.specs.Layout.{constraintAt, pairCode}
-use Rattle.sheet_symmetries.specs.Table.{Stated}
-use Rattle.sheet_symmetries.specs.Forbidden.{numberOf, PairCode, MaybePair, Decoded, Coded}
-
-mem-getD : {A : Type 0} (l : List A) (i : ℕ) (d : A) → i < length l → List·Memᴰ (getD l i d) l
-mem-getD [] i d h = absurd (not-suc-le-zero h)
-mem-getD (x ∷ l) zero d h = List·Memᴰ·head refl
-mem-getD (x ∷ l) (suc i) d h = List·Memᴰ·tail (mem-getD l i d (le-of-suc-le-suc h))
+use Rattle.model.proofs.{Lists.both-i, Lists.both-l, Lists.both-r, Lists.all-e, Lists.below-i, Lists.mem-getD, Sets.has-lt}
+use Rattle.arrays.specs.inner.Layout.{pairCode}
+use Rattle.sheet_symmetries.specs.{inner.Table.Stated, inner.Forbidden.numberOf, inner.Forbidden.PairCode, inner.Forbidden.MaybePair, inner.Forbidden.Decoded}
+use Rattle.sheet_symmetries.specs.inner.Forbidden.{Coded}
 
 -- ---- the code of a pair number
 pub code-small : (q d : ℕ) → 1 ≤ d → d ≤ 16 → q < 12 * d → pairCode d q < 192
@@ -138,7 +123,8 @@ module _ (p : Problem) (w : Stated p) where
     image-pair q h =
         stays (isPair p q) q h
         (all-e (λ q. elim (isPair p q) [ true ↦ isPair p (at g q) | false ↦ eqb (at g q) q ]) (below (p .variables * p .values))
-        (both-l (all (λ q. elim (isPair p q) [ true ↦ isPair p (at g q) | false ↦ eqb (at g q) q ]) (below (p .variables * p .values))) (distinct g) t) q (below-i (p .variables * p .values) q (isPair-lt q h)))
+        (both-l (all (λ q. elim (isPair p q) [ true ↦ isPair p (at g q) | false ↦ eqb (at g q) q ]) (below (p .variables * p .values))) (distinct g) t) q
+        (below-i (p .variables * p .values) q (isPair-lt q h)))
 
     -- the decoded images number the images
     module _ (codes : List ℕ) (d : Decoded p g codes) where

@@ -1,33 +1,14 @@
 -- Two pairs that a constraint on their variables refuses. Assumes nothing.
-use mathlib.Core.Path.{_≡_, sym, ap, _∙_, subst}
-use mathlib.Core.Bool.{true, false}
-use mathlib.Core.List.{List, [], _∷_, List·Memᴰ, List·Memᴰ·head, List·Memᴰ·tail, List·Memᴰ·not-nil}
-use Prim.Native.Nat.{ℕ, zero, suc, _+_, _*_, _/_, _%_, _^_, _≤_, _<_}
-use native.Mathlib.Nat.{lt-of-le-of-lt, lt-of-lt-of-le, not-suc-le-zero, le-of-suc-le-suc}
-use native.Mathlib.Omega.{arith}
-use lib.Dec.{T, eqb, ltb, ltb→lt}
-use lib.ListN.{length}
-use lib.Bits.{bitAnd, and-le-l}
-use lib.Count.{trailingZeros}
+use Rattle.model.specs.Kit.{_≡_, sym, ap, _∙_, subst, true, false, List, [], _∷_, List·Memᴰ, List·Memᴰ·head, List·Memᴰ·tail, List·Memᴰ·not-nil, ℕ, zero, suc, _+_, _*_, _/_, _%_}
+use Rattle.model.specs.Kit.{_^_, _≤_, _<_, lt-of-le-of-lt, lt-of-lt-of-le, not-suc-le-zero, le-of-suc-le-suc, arith, T, eqb, ltb, ltb→lt, length, bitAnd, and-le-l, trailingZeros}
 use lib.Pow.{pow-mono}
-use Rattle.model.specs.Lists.{any, at, same, ascending}
-use Rattle.model.specs.ValueSets.{has}
-use Rattle.model.specs.Problem.{Problem, pairsAt}
-use Rattle.model.proofs.Lists.{of-not, both-l, both-r}
-use Rattle.model.proofs.Sets.{has-lt}
-use Rattle.model.proofs.Masks.{has-and}
-use Rattle.model.proofs.Members.{low-has}
-use Rattle.model.proofs.Pairs.{forbidden-excluded}
-use Rattle.model.specs.WellFormed.{GoodConstraint}
-use Rattle.arrays.specs.Layout.{constraintAt}
-use Rattle.arrays.specs.Places.{SUPPORTS}
-use Rattle.sheet_symmetries.specs.Table.{Stated}
-use Rattle.sheet_symmetries.specs.Forbidden.{blocked, numberOf, PairCode, MaybePair, Begun, Triple, packed, packedOn}
-use Rattle.sheet_symmetries.proofs.Codes.{good, init-16, constraint-in, variable-lt}
-use Rattle.sheet_symmetries.proofs.Keys.{Digits, row-test}
-use Rattle.sheet_symmetries.proofs.Blocks.{excluded-i, blocked-i, blocked-more}
-use Rattle.sheet_symmetries.proofs.Scopes.{first-two}
-use Rattle.sheet_symmetries.proofs.Surely.{member, real}
+use Rattle.model.specs.{Lists.any, Lists.at, Lists.same, Lists.ascending, ValueSets.has, Problem.Problem, Problem.pairsAt, Problem.constraintAt, WellFormed.GoodConstraint}
+use Rattle.model.proofs.{Lists.of-not, Lists.both-l, Lists.both-r, Lists.among-e, Sets.has-lt, Masks.has-and, Members.low-has, Pairs.forbidden-excluded}
+use Rattle.arrays.specs.inner.Places.{SUPPORTS}
+use Rattle.sheet_symmetries.specs.{inner.Table.Stated, inner.Forbidden.blocked, inner.Forbidden.numberOf, inner.Forbidden.PairCode, inner.Forbidden.MaybePair}
+use Rattle.sheet_symmetries.specs.inner.Forbidden.{Begun, Triple, packed, packedOn}
+use Rattle.sheet_symmetries.proofs.{Codes.good, Codes.init-16, Codes.constraint-in, Codes.variable-lt, Keys.Digits, Keys.row-test, Blocks.excluded-i, Blocks.blocked-i}
+use Rattle.sheet_symmetries.proofs.{Blocks.blocked-more, Scopes.first-two, Surely.real}
 
 -- a scope of two that has two variables
 whole-two : (x y : ℕ) (scope : List ℕ) → length scope ≡ 2 → T (ascending scope) → x < y → T (any (eqb x) scope) → T (any (eqb y) scope) → scope ≡ x ∷ y ∷ []
@@ -35,7 +16,7 @@ unfolding ascending
 whole-two x y [] l o h a b = absurd (omega arith)
 whole-two x y (u ∷ []) l o h a b = absurd (omega arith)
 whole-two x y (u ∷ v ∷ w ∷ r) l o h a b = absurd (omega arith)
-whole-two x y (u ∷ v ∷ []) l o h a b = go (member x _ a) (member y _ b)
+whole-two x y (u ∷ v ∷ []) l o h a b = go (among-e x _ a) (among-e y _ b)
   where
     less : u < v
     less = ltb→lt u v (first-two (ltb u v) true o .0)
@@ -60,7 +41,8 @@ module _ (p : Problem) (numbers supports : List ℕ) (a b : ℕ) (t : Triple p n
   w = t .ready .framed .stated
 
   few : set < 2 ^ length (p .constraints)
-  few = subst (λ (s : ℕ). s < 2 ^ length (p .constraints)) (sym es) (lt-of-le-of-lt (and-le-l _ (at numbers (b / 16))) (t .ready .framed .numbered .touching-few (a / 16) (variable-lt p w a (t .second))))
+  few = subst (λ (s : ℕ). s < 2 ^ length (p .constraints)) (sym es) (lt-of-le-of-lt (and-le-l _ (at numbers (b / 16)))
+      (t .ready .framed .numbered .touching-few (a / 16) (variable-lt p w a (t .second))))
 
   low-in : T (has set (trailingZeros 64 set))
   low-in = low-has 64 set (omega arith) (lt-of-lt-of-le few (pow-mono (let h : length (p .constraints) ≤ 64 = omega (arith, w .most) in h))) .0
@@ -71,7 +53,8 @@ module _ (p : Problem) (numbers supports : List ℕ) (a b : ℕ) (t : Triple p n
   pub couple-row : 256 * trailingZeros 64 set + a % 16 < SUPPORTS
   couple-row = omega (arith, couple-lt, w .most)
 
-  module _ (h : a / 16 < b / 16) (two : length (constraintAt p (trailingZeros 64 set) .scope) ≡ 2) (s : ℕ) (e : s ≡ at supports (256 * trailingZeros 64 set + a % 16)) (no : has s (b % 16) ≡ false) where
+  module _ (h : a / 16 < b / 16) (two : length (constraintAt p (trailingZeros 64 set) .scope) ≡ 2) (s : ℕ) (e : s ≡ at supports (256 * trailingZeros 64 set + a % 16))
+      (no : has s (b % 16) ≡ false) where
     abbrev k : ℕ
     k = trailingZeros 64 set
 
@@ -87,7 +70,7 @@ module _ (p : Problem) (numbers supports : List ℕ) (a b : ℕ) (t : Triple p n
     on c m i = subst T (t .ready .framed .numbered .touching (c / 16) k (variable-lt p w c m) couple-lt) i
 
     pair-of : (c : ℕ) → MaybePair p c → T (has (at numbers (c / 16)) k) → PairCode p c
-    pair-of c m i = real p w c m (g .inside (c / 16) (member (c / 16) (constraintAt p k .scope) (on c m i)))
+    pair-of c m i = real p w c m (g .inside (c / 16) (among-e (c / 16) (constraintAt p k .scope) (on c m i)))
 
     scope-is : constraintAt p k .scope ≡ a / 16 ∷ b / 16 ∷ []
     scope-is = whole-two (a / 16) (b / 16) (constraintAt p k .scope) two (g .ordered) h (on a (t .second) (parts .0)) (on b (t .third) (parts .1))
@@ -107,7 +90,8 @@ module _ (p : Problem) (numbers supports : List ℕ) (a b : ℕ) (t : Triple p n
         let vs = a % 16 ∷ b % 16 ∷ [] in
         blocked-i p _ (pairsAt p (c .scope) vs)
         (forbidden-excluded p c _ (constraint-in p w k couple-lt)
-        (excluded-i p c vs (λ x v m i. init-16 p w x v (g .inside x m) i) (sym (ap length scope-is)) (subst (λ (xs : List ℕ). Begun p xs vs) (sym scope-is) (pair-of a (t .second) (parts .0) .1, (pair-of b (t .third) (parts .1) .1, tt))) row-no))
+        (excluded-i p c vs (λ x v m i. init-16 p w x v (g .inside x m) i) (sym (ap length scope-is))
+        (subst (λ (xs : List ℕ). Begun p xs vs) (sym scope-is) (pair-of a (t .second) (parts .0) .1, (pair-of b (t .third) (parts .1) .1, tt))) row-no))
         (λ q m. subst (λ (xs : List ℕ). List·Memᴰ q (pairsAt p xs vs)) scope-is m)
 
 -- with 255 before them, in either order

@@ -1,23 +1,11 @@
 -- The walk of a variable's forbidden sets: one pair further. Assumes nothing.
-use mathlib.Core.Path.{_≡_, refl, sym, ap, ap₂, _∙_, subst}
-use mathlib.Core.Bool.{Bool, true, false}
-use mathlib.Core.List.{List, [], _∷_, List·Memᴰ, List·Memᴰ·head, List·Memᴰ·tail}
-use mathlib.Core.Logic.{inl, inr}
-use Prim.Native.Nat.{ℕ, _+_, _*_, _/_, _^_, _<_}
-use native.Mathlib.Omega.{arith}
-use lib.Dec.{T, eqb, eqb→eq, not-T}
-use borrow.Author.Tests.{eq-eqb}
-use Rattle.model.specs.Lists.{at, both}
-use Rattle.model.specs.ValueSets.{has, members, lowestOf, withoutMask}
-use Rattle.model.specs.Problem.{Problem}
-use Rattle.model.proofs.Lists.{Sorted, T-of, of-T, both-i, all-i}
-use Rattle.model.proofs.Sets.{mask-lt, members-of-none, members-e, members-sorted}
-use Rattle.model.proofs.Lowest.{lowest-in, without-e, without-less, members-lowest}
-use Rattle.sheet_symmetries.specs.Forbidden.{blocked, clashes, numberOf, PairCode, Lent, Beside, Doubling, allBlocked, besides, doublings}
-use Rattle.sheet_symmetries.proofs.Blocks.{clash-blocked}
-use Rattle.sheet_symmetries.proofs.Codes.{init-16, init-small}
-use Rattle.sheet_symmetries.proofs.Laws.{all-ext}
-use Rattle.sheet_symmetries.proofs.Walks.{none-before}
+use Rattle.model.specs.Kit.{_≡_, refl, sym, ap, ap₂, _∙_, subst, Bool, true, false, List, [], _∷_, List·Memᴰ, List·Memᴰ·head, List·Memᴰ·tail, inl, inr, ℕ, _+_, _*_, _/_, _^_, _<_}
+use Rattle.model.specs.Kit.{arith, T, eqb, eqb→eq, not-T, eq-eqb}
+use Rattle.model.specs.{Lists.at, Lists.both, ValueSets.has, ValueSets.members, ValueSets.lowestOf, ValueSets.withoutMask, Problem.Problem}
+use Rattle.model.proofs.{Lists.Sorted, Lists.T-of, Lists.of-T, Lists.both-i, Lists.all-i, Sets.mask-lt, Sets.members-of-none, Sets.members-e, Sets.members-sorted, Lowest.lowest-in}
+use Rattle.model.proofs.Lowest.{without-e, without-less, members-lowest}
+use Rattle.sheet_symmetries.specs.inner.Forbidden.{blocked, clashes, numberOf, PairCode, Lent, Beside, Doubling, allBlocked, besides, doublings}
+use Rattle.sheet_symmetries.proofs.{Blocks.clash-blocked, Codes.init-16, Codes.init-small, Laws.all-ext, Walks.none-before}
 
 -- where all pairs of a variable go to one variable, the images of any two are two pairs of it
 module _ (p : Problem) (numbers supports codes moves : List ℕ) (x : ℕ) (l : Lent p numbers supports codes moves) (h : x < p .variables) (n : at moves (192 + x) ≡ 15 → ⊥) where
@@ -35,7 +23,8 @@ module _ (p : Problem) (numbers supports codes moves : List ℕ) (x : ℕ) (l : 
       both-i (besides p codes x v vs) (doublings p codes x vs)
       (all-i _ vs (λ u m.
       let iu = i u (List·Memᴰ·tail m) in
-      clash-blocked p (l .ready .framed .stated) (at codes (16 * x + v)) (at codes (16 * x + u)) _ (inr (l .coded x v h iv)) (inr (l .coded x u h iu)) (apart v u (s .0 u m) iv iu) (List·Memᴰ·head refl) (List·Memᴰ·tail (List·Memᴰ·head refl))))
+      clash-blocked p (l .ready .framed .stated) (at codes (16 * x + v)) (at codes (16 * x + u)) _ (inr (l .coded x v h iv)) (inr (l .coded x u h iu)) (apart v u (s .0 u m) iv iu)
+      (List·Memᴰ·head refl) (List·Memᴰ·tail (List·Memᴰ·head refl))))
       (all-apart vs (s .1) (λ u m. i u (List·Memᴰ·tail m)))
 
   pub doubled-together : true ≡ doublings p codes x (members (at (p .initial) x))
@@ -46,7 +35,8 @@ doubling-start p numbers supports codes moves x set l h e =
     subst (Doubling p codes x) (sym e) (record { small = init-small p (l .ready .framed .stated) x h; allowed = λ u t. t; whole = refl })
 
 -- v is the lowest member, `new` the set without it
-module _ (p : Problem) (numbers supports codes moves : List ℕ) (x set : ℕ) (l : Lent p numbers supports codes moves) (h : x < p .variables) (s : Doubling p codes x set) (n : set ≡ 0 → ⊥) (v new : ℕ) (ev : v ≡ lowestOf set) (en : new ≡ withoutMask set v) where
+module _ (p : Problem) (numbers supports codes moves : List ℕ) (x set : ℕ) (l : Lent p numbers supports codes moves) (h : x < p .variables) (s : Doubling p codes x set) (n : set ≡ 0 → ⊥)
+    (v new : ℕ) (ev : v ≡ lowestOf set) (en : new ≡ withoutMask set v) where
   value : T (has (at (p .initial) x) v)
   value = subst (λ (u : ℕ). T (has (at (p .initial) x) u)) (sym ev) (s .allowed (lowestOf set) (lowest-in set (s .small) n))
 

@@ -1,18 +1,9 @@
 -- What the numbers hold: scopes and pairs. Assumes nothing.
-use mathlib.Core.Path.{_≡_, refl, sym, ap, ap₂, _∙_, subst}
-use mathlib.Core.Bool.{Bool, false}
-use mathlib.Core.List.{List}
-use Prim.Native.Nat.{ℕ, zero, suc, _+_, _*_, _/_, _%_, _^_, _≤_, _<_}
-use native.Mathlib.Nat.{pow-suc, mul-le-mul}
-use native.Mathlib.Omega.{arith}
-use lib.ListN.{length}
+use Rattle.model.specs.Kit.{_≡_, refl, sym, ap, ap₂, _∙_, subst, Bool, false, List, ℕ, zero, suc, _+_, _*_, _/_, _%_, _^_, _≤_, _<_, mul-le-mul, arith, length, lt-ltb, le-ltb}
+use native.Mathlib.Nat.{pow-suc}
 use lib.Pow.{pow-add}
-use borrow.Author.Tests.{lt-ltb, le-ltb}
-use Rattle.model.specs.Lists.{at, both}
-use Rattle.model.specs.ValueSets.{has}
-use Rattle.model.specs.Problem.{Problem, isPair}
-use Rattle.arrays.specs.Layout.{constraintAt}
-use Rattle.sheet_symmetries.specs.Table.{Framed}
+use Rattle.model.specs.{Lists.at, Lists.both, ValueSets.has, Problem.Problem, Problem.isPair, Problem.constraintAt}
+use Rattle.sheet_symmetries.specs.inner.Table.{Framed}
 use Rattle.sheet_symmetries.proofs.Codes.{good, div-small, mod-small, init-small}
 
 pow-256 : (i : ℕ) → 256 ^ suc i ≡ 2 ^ (8 * i + 8)

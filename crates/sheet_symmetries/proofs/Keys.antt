@@ -1,17 +1,10 @@
 -- Values of a row as the digits of a number, and where their set of last values stands. Assumes nothing.
-use mathlib.Core.Path.{_≡_, refl, sym, ap, _∙_}
-use mathlib.Core.List.{List, [], _∷_, _++_, List·Memᴰ, List·Memᴰ·head, List·Memᴰ·tail}
-use Prim.Native.Nat.{ℕ, zero, suc, _+_, _*_, _≤_, _<_}
-use native.Mathlib.Nat.{not-suc-le-zero, le-of-suc-le-suc}
-use native.Mathlib.Omega.{arith}
-use lib.ListN.{length}
-use Rattle.model.specs.Lists.{any, at, same}
-use Rattle.model.specs.ValueSets.{has}
-use Rattle.model.specs.Problem.{Problem}
+use Rattle.model.specs.Kit.{_≡_, refl, sym, ap, _∙_, List, [], _∷_, _++_, List·Memᴰ, List·Memᴰ·head, List·Memᴰ·tail, ℕ, zero, suc, _+_, _*_, _≤_, _<_, not-suc-le-zero}
+use Rattle.model.specs.Kit.{le-of-suc-le-suc, arith, length}
+use Rattle.model.specs.{Lists.any, Lists.at, Lists.same, ValueSets.has, Problem.Problem, Problem.constraintAt}
 use Rattle.model.proofs.Sets.{has-mask}
-use Rattle.arrays.specs.Layout.{constraintAt, place, Supports}
-use Rattle.sheet_symmetries.specs.Table.{Stated}
-use Rattle.sheet_symmetries.specs.Forbidden.{Begun, packed, packedOn}
+use Rattle.arrays.specs.inner.Layout.{place, Supports}
+use Rattle.sheet_symmetries.specs.{inner.Table.Stated, inner.Forbidden.Begun, inner.Forbidden.packed, inner.Forbidden.packedOn}
 use Rattle.sheet_symmetries.proofs.Codes.{init-16}
 
 -- every digit is one

@@ -1,24 +1,14 @@
 -- The forbidden sets that the code walks are all of them, so what it finds is whether a table respects the sheet. Assumes nothing.
-use mathlib.Core.Path.{_≡_, refl, sym, ap, ap₂, _∙_}
-use mathlib.Core.Bool.{Bool, true, not}
-use mathlib.Core.List.{List, [], _∷_, _++_, map, append-nil, List·Memᴰ, List·Memᴰ·head, List·Memᴰ·tail}
-use Prim.Native.Nat.{ℕ, _+_, _*_, _<_}
-use native.Mathlib.Omega.{arith}
-use lib.Dec.{T, ltb}
+use Rattle.model.specs.Kit.{_≡_, refl, sym, ap, ap₂, _∙_, Bool, true, not, List, [], _∷_, _++_, map, append-nil, List·Memᴰ, List·Memᴰ·head, List·Memᴰ·tail, ℕ, _+_, _*_, _<_, arith}
+use Rattle.model.specs.Kit.{T, ltb, lt-ltb, le-ltb}
 use lib.Seq.{append-snoc}
-use borrow.Author.Tests.{lt-ltb, le-ltb}
-use Rattle.model.specs.Lists.{all, any, keep, flat, below, at, same, both, either}
-use Rattle.model.specs.ValueSets.{members}
-use Rattle.model.specs.Problem.{Problem, Constraint, pair, pairsAt, assignments, doubled, excluded, forbidden, respects}
+use Rattle.model.specs.{Lists.all, Lists.any, Lists.keep, Lists.flat, Lists.below, Lists.at, Lists.same, Lists.both, Lists.either, ValueSets.members, Problem.Problem}
+use Rattle.model.specs.Problem.{Constraint, pair, pairsAt, assignments, doubled, excluded, forbidden, respects}
 use Rattle.model.specs.Sheet.{permutesPairs}
-use Rattle.model.proofs.Lists.{all-cons, keep-yes, keep-no, keep-e, Sorted, below-e}
-use Rattle.model.proofs.Sets.{members-e, members-sorted}
-use Rattle.model.proofs.Members.{both-yes}
-use Rattle.sheet_symmetries.specs.Table.{Stated}
-use Rattle.sheet_symmetries.specs.Forbidden.{blocked, numberOf, Decoded, Begun, codesAt, keeps, besides, doublings}
-use Rattle.sheet_symmetries.proofs.Codes.{decoded-number}
-use Rattle.sheet_symmetries.proofs.Blocks.{choices-e}
-use Rattle.sheet_symmetries.proofs.Laws.{all-ext, all-append, all-flat, all-keep, all-map}
+use Rattle.model.proofs.{Lists.all-cons, Lists.keep-yes, Lists.keep-no, Lists.keep-e, Lists.Sorted, Lists.below-e, Lists.both-true, Sets.members-e, Sets.members-sorted}
+use Rattle.sheet_symmetries.specs.{inner.Table.Stated, inner.Forbidden.blocked, inner.Forbidden.numberOf, inner.Forbidden.Decoded, inner.Forbidden.Begun}
+use Rattle.sheet_symmetries.specs.inner.Forbidden.{codesAt, keeps, besides, doublings}
+use Rattle.sheet_symmetries.proofs.{Codes.decoded-number, Blocks.choices-e, Laws.all-ext, Laws.all-append, Laws.all-flat, Laws.all-keep, Laws.all-map}
 
 -- ---- the two pairs of a variable
 keep-all : (f : ℕ → Bool) (l : List ℕ) → ((x : ℕ) → List·Memᴰ x l → f x ≡ true) → keep f l ≡ l
@@ -44,13 +34,14 @@ module _ (p : Problem) (codes : List ℕ) (c : Constraint) where
 
   keeps-all : (xs vs : List ℕ) → keeps p codes c xs vs ≡ all (λ us. leaf (vs ++ us)) (assignments (map (at (p .initial)) xs))
   unfolding keeps assignments all
-  keeps-all [] vs = ap leaf (sym (append-nil vs)) ∙ sym (all-cons (λ us. leaf (vs ++ us)) [] [] ∙ both-yes (leaf (vs ++ [])))
+  keeps-all [] vs = ap leaf (sym (append-nil vs)) ∙ sym (all-cons (λ us. leaf (vs ++ us)) [] [] ∙ both-true (leaf (vs ++ [])))
   keeps-all (x ∷ xs) vs =
       let rest = assignments (map (at (p .initial)) xs) in
       let L : List ℕ → Bool = λ us. leaf (vs ++ us) in
       let F : ℕ → List (List ℕ) = λ v. map (λ (a : List ℕ). v ∷ a) rest in
       all-ext (λ v. keeps p codes c xs (vs ++ (v ∷ []))) (λ v. all L (F v)) (members (at (p .initial) x))
-      (λ v m. keeps-all xs (vs ++ (v ∷ [])) ∙ all-ext (λ us. leaf ((vs ++ (v ∷ [])) ++ us)) (λ us. L (v ∷ us)) rest (λ us k. ap leaf (append-snoc vs v us)) ∙ sym (all-map L (λ (a : List ℕ). v ∷ a) rest))
+      (λ v m. keeps-all xs (vs ++ (v ∷ [])) ∙ all-ext (λ us. leaf ((vs ++ (v ∷ [])) ++ us)) (λ us. L (v ∷ us)) rest (λ us k. ap leaf (append-snoc vs v us)) ∙ sym
+      (all-map L (λ (a : List ℕ). v ∷ a) rest))
       ∙ sym (all-flat L (map F (members (at (p .initial) x))) ∙ all-map (all L) F (members (at (p .initial) x)))
 
 -- ---- a table whose images are decoded

@@ -1,25 +1,12 @@
 -- Whether a constraint refuses three pairs: their values for its scope, one after another, and the test of the row. Assumes nothing.
-use mathlib.Core.Path.{_≡_, refl, sym, ap, ap₂, _∙_, subst}
-use mathlib.Core.Bool.{Bool, true, false, not}
-use mathlib.Core.List.{List, [], _∷_, _++_, map, List·Memᴰ}
-use Prim.Native.Nat.{ℕ, zero, suc, _+_, _*_, _/_, _%_, _≤_, _<_}
-use native.Mathlib.Nat.{not-suc-le-zero}
-use native.Mathlib.Numerals.{add-one}
-use native.Mathlib.Omega.{arith}
-use lib.Dec.{T, eqb, ltb, ltb→lt, lt→ltb}
-use lib.ListN.{length, take, length-map}
-use lib.Seq.{take-suc, take-length, length-take-le, getD-take}
-use Rattle.model.specs.Lists.{all, any, at, same, both}
-use Rattle.model.specs.ValueSets.{has}
-use Rattle.model.specs.Problem.{Problem, Constraint}
+use Rattle.model.specs.Kit.{_≡_, refl, sym, ap, ap₂, _∙_, subst, Bool, true, false, not, List, [], _∷_, _++_, map, List·Memᴰ, ℕ, zero, suc, _+_, _*_, _/_, _%_, _≤_, _<_}
+use Rattle.model.specs.Kit.{not-suc-le-zero, add-one, arith, T, eqb, ltb, ltb→lt, lt→ltb, length, take, length-map, length-take-le, getD-take}
+use lib.Seq.{take-suc, take-length}
+use Rattle.model.specs.{Lists.all, Lists.any, Lists.at, Lists.same, Lists.both, ValueSets.has, Problem.Problem, Problem.Constraint, Problem.constraintAt, WellFormed.GoodConstraint}
 use Rattle.model.proofs.Lists.{of-T, not-of, both-l, all-i, all-e, at-mem, mem-at, at-map, map-append}
-use Rattle.model.specs.WellFormed.{GoodConstraint}
-use Rattle.arrays.specs.Layout.{constraintAt}
-use Rattle.arrays.specs.Places.{SUPPORTS}
-use Rattle.sheet_symmetries.specs.Table.{Ready}
-use Rattle.sheet_symmetries.specs.Forbidden.{packed, valueIn, refusedBy, LookedUp}
-use Rattle.sheet_symmetries.proofs.Codes.{good}
-use Rattle.sheet_symmetries.proofs.Keys.{Digits, packed-snoc, packed-none, packed-lt, row-test}
+use Rattle.arrays.specs.inner.Places.{SUPPORTS}
+use Rattle.sheet_symmetries.specs.{inner.Table.Ready, inner.Forbidden.packed, inner.Forbidden.valueIn, inner.Forbidden.refusedBy, inner.Forbidden.LookedUp}
+use Rattle.sheet_symmetries.proofs.{Codes.good, Keys.Digits, Keys.packed-snoc, Keys.packed-none, Keys.packed-lt, Keys.row-test}
 
 -- one variable more
 snoc : (f : ℕ → ℕ) (l : List ℕ) (i : ℕ) → i < length l → map f (take (suc i) l) ≡ map f (take i l) ++ (f (at l i) ∷ [])
@@ -36,7 +23,8 @@ module _ (c : Constraint) (a b e : ℕ) where
     digits j h =
         let n : length (map (valueIn a b e) (take i (c .scope))) ≡ i = length-map (take i (c .scope)) (valueIn a b e) ∙ length-take-le i (c .scope) (l .within) in
         let k : j < i = omega arith in
-        subst (λ (v : ℕ). v < 16) (sym (at-map (valueIn a b e) (take i (c .scope)) j (subst (λ (m : ℕ). j < m) (sym (length-take-le i (c .scope) (l .within))) k) ∙ ap (valueIn a b e) (getD-take i (c .scope) j 0 k))) (l .small j k)
+        subst (λ (v : ℕ). v < 16) (sym (at-map (valueIn a b e) (take i (c .scope)) j (subst (λ (m : ℕ). j < m) (sym (length-take-le i (c .scope) (l .within))) k) ∙ ap (valueIn a b e)
+        (getD-take i (c .scope) j 0 k))) (l .small j k)
 
     pub looked-lt : i < length (c .scope) → length (c .scope) ≤ 3 → key < 256
     looked-lt h f =
@@ -48,7 +36,8 @@ module _ (c : Constraint) (a b e : ℕ) where
         let z : v ≡ valueIn a b e (at (c .scope) i) = q ∙ ap (valueIn a b e) y in
         record {
           within = omega arith;
-          keyed = ap₂ (λ (n u : ℕ). 16 * n + u) (l .keyed) z ∙ sym (packed-snoc (map (valueIn a b e) (take i (c .scope))) (valueIn a b e (at (c .scope) i))) ∙ sym (ap packed (snoc (valueIn a b e) (c .scope) i h)) ∙ ap (λ (n : ℕ). packed (map (valueIn a b e) (take n (c .scope)))) (sym (add-one i));
+          keyed = ap₂ (λ (n u : ℕ). 16 * n + u) (l .keyed) z ∙ sym (packed-snoc (map (valueIn a b e) (take i (c .scope))) (valueIn a b e (at (c .scope) i))) ∙ sym
+              (ap packed (snoc (valueIn a b e) (c .scope) i h)) ∙ ap (λ (n : ℕ). packed (map (valueIn a b e) (take n (c .scope)))) (sym (add-one i));
           small = λ j k. go j k z (eqb j i) refl;
         }
       where
@@ -61,17 +50,21 @@ module _ (c : Constraint) (a b e : ℕ) where
     unfolding refusedBy
     looked-stop x v h y q s =
         sym (not-of (refusedBy c a b e)
-        (λ t. let k = ltb→lt (valueIn a b e (at (c .scope) i)) 16 (all-e (λ x. ltb (valueIn a b e x) 16) (c .scope) (both-l (all (λ x. ltb (valueIn a b e x) 16) (c .scope)) _ t) (at (c .scope) i) (mem-at (c .scope) i h)) in
+        (λ t. let k = ltb→lt (valueIn a b e (at (c .scope) i)) 16 (all-e (λ x. ltb (valueIn a b e x) 16) (c .scope) (both-l (all (λ x. ltb (valueIn a b e x) 16) (c .scope)) _ t) (at (c .scope) i)
+        (mem-at (c .scope) i h)) in
         omega (arith, k, q ∙ ap (valueIn a b e) y)))
 
 -- the test of the row
-module _ (p : Problem) (numbers supports : List ℕ) (r : Ready p numbers supports) (k : ℕ) (h : k < length (p .constraints)) (a b e i key : ℕ) (l : LookedUp (constraintAt p k) a b e i key) (o : length (constraintAt p k .scope) ≤ i) where
+module _ (p : Problem) (numbers supports : List ℕ) (r : Ready p numbers supports) (k : ℕ) (h : k < length (p .constraints)) (a b e i key : ℕ) (l : LookedUp (constraintAt p k) a b e i key)
+    (o : length (constraintAt p k .scope) ≤ i) where
   g : GoodConstraint p (constraintAt p k)
   g = good p (r .framed .stated) k h
 
   -- all values but the last, and the last
-  split : (m : ℕ) → suc m ≡ length (constraintAt p k .scope) → map (valueIn a b e) (constraintAt p k .scope) ≡ map (valueIn a b e) (take m (constraintAt p k .scope)) ++ (valueIn a b e (at (constraintAt p k .scope) m) ∷ [])
-  split m n = ap (map (valueIn a b e)) (sym (take-length (constraintAt p k .scope)) ∙ ap (λ (j : ℕ). take j (constraintAt p k .scope)) (sym n)) ∙ snoc (valueIn a b e) (constraintAt p k .scope) m (omega arith)
+  split : (m : ℕ) → suc m ≡ length (constraintAt p k .scope) → map (valueIn a b e) (constraintAt p k .scope) ≡ map (valueIn a b e) (take m (constraintAt p k .scope)) ++
+      (valueIn a b e (at (constraintAt p k .scope) m) ∷ [])
+  split m n = ap (map (valueIn a b e)) (sym (take-length (constraintAt p k .scope)) ∙ ap (λ (j : ℕ). take j (constraintAt p k .scope)) (sym n)) ∙ snoc (valueIn a b e) (constraintAt p k .scope) m
+      (omega arith)
 
   before : (m : ℕ) → suc m ≡ length (constraintAt p k .scope) → LookedUp (constraintAt p k) a b e m (packed (map (valueIn a b e) (take m (constraintAt p k .scope))))
   before m n = record { within = omega arith; keyed = refl; small = λ j q. l .small j (omega arith) }
@@ -80,10 +73,12 @@ module _ (p : Problem) (numbers supports : List ℕ) (r : Ready p numbers suppor
   key-is m n =
       let w = l .within in
       let q : i ≡ length (constraintAt p k .scope) = omega arith in
-      l .keyed ∙ ap (λ (j : ℕ). packed (map (valueIn a b e) (take j (constraintAt p k .scope)))) q ∙ ap (λ (s : List ℕ). packed (map (valueIn a b e) s)) (take-length (constraintAt p k .scope)) ∙ ap packed (split m n) ∙ packed-snoc _ _
+      l .keyed ∙ ap (λ (j : ℕ). packed (map (valueIn a b e) (take j (constraintAt p k .scope)))) q ∙ ap (λ (s : List ℕ). packed (map (valueIn a b e) s)) (take-length (constraintAt p k .scope))
+      ∙ ap packed (split m n) ∙ packed-snoc _ _
 
   -- the digits of the key
-  key-parts : (m : ℕ) → suc m ≡ length (constraintAt p k .scope) → (key / 16 ≡ packed (map (valueIn a b e) (take m (constraintAt p k .scope)))) × (key % 16 ≡ valueIn a b e (at (constraintAt p k .scope) m))
+  key-parts : (m : ℕ) → suc m ≡ length (constraintAt p k .scope) → (key / 16 ≡ packed (map (valueIn a b e) (take m (constraintAt p k .scope)))) ×
+      (key % 16 ≡ valueIn a b e (at (constraintAt p k .scope) m))
   key-parts m n = let s = l .small m (omega arith) in let q = key-is m n in (omega arith, omega arith)
 
   -- the last place of the scope
@@ -104,7 +99,8 @@ module _ (p : Problem) (numbers supports : List ℕ) (r : Ready p numbers suppor
   looked-all s q =
       let n = last in
       let d = key-parts (n .0) (n .1) in
-      let t : (x : ℕ) → List·Memᴰ x (constraintAt p k .scope) → T (ltb (valueIn a b e x) 16) = λ x m. (let z = at-mem (constraintAt p k .scope) x m in lt→ltb (valueIn a b e x) 16 (subst (λ (y : ℕ). valueIn a b e y < 16) (z .2) (l .small (z .0) (omega (arith, z .1))))) in
+      let t : (x : ℕ) → List·Memᴰ x (constraintAt p k .scope) → T (ltb (valueIn a b e x) 16) = λ x m.
+      (let z = at-mem (constraintAt p k .scope) x m in lt→ltb (valueIn a b e x) 16 (subst (λ (y : ℕ). valueIn a b e y < 16) (z .2) (l .small (z .0) (omega (arith, z .1))))) in
       ap not
       (ap (λ (u : ℕ). has u (key % 16)) q
       ∙ ap₂ (λ (u v : ℕ). has (at supports (256 * k + u)) v) (d .0) (d .1)
@@ -113,4 +109,5 @@ module _ (p : Problem) (numbers supports : List ℕ) (r : Ready p numbers suppor
       (omega (arith, length-map (take (n .0) (constraintAt p k .scope)) (valueIn a b e), length-take-le (n .0) (constraintAt p k .scope) (omega (arith, n .1)), n .1, g .few))
       (digits (constraintAt p k) a b e (n .0) _ (before (n .0) (n .1))) (l .small (n .0) (omega (arith, n .1)))
       ∙ ap (λ (us : List ℕ). any (same us) (constraintAt p k .rows)) (sym (split (n .0) (n .1))))
-      ∙ sym (ap (λ (z : Bool). both z (not (any (same (map (valueIn a b e) (constraintAt p k .scope))) (constraintAt p k .rows)))) (of-T (all (λ x. ltb (valueIn a b e x) 16) (constraintAt p k .scope)) (all-i (λ x. ltb (valueIn a b e x) 16) (constraintAt p k .scope) t)))
+      ∙ sym (ap (λ (z : Bool). both z (not (any (same (map (valueIn a b e) (constraintAt p k .scope))) (constraintAt p k .rows))))
+      (of-T (all (λ x. ltb (valueIn a b e x) 16) (constraintAt p k .scope)) (all-i (λ x. ltb (valueIn a b e x) 16) (constraintAt p k .scope) t)))

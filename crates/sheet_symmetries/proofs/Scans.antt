@@ -1,26 +1,13 @@
 -- The loops over a table, one number further: whether it permutes the pairs, and the codes of its images. Assumes nothing.
-use mathlib.Core.Path.{_≡_, refl, sym, ap, ap₂, _∙_, subst}
-use mathlib.Core.Bool.{Bool, true, false}
-use mathlib.Core.List.{List}
-use Prim.Native.Nat.{ℕ, _+_, _*_, _%_, _≤_, _<_}
-use native.Mathlib.Nat.{not-suc-le-zero, mul-le-mul, mul-le-mul-right, lt-of-lt-of-le}
-use native.Mathlib.Omega.{arith}
-use lib.Dec.{T, eqb, eqb→eq}
-use lib.ListN.{length, set}
-use borrow.Author.Tests.{eqb-true, eqb-false, eq-eqb, ne-eqb}
-use Rattle.model.specs.Lists.{all, below, at}
-use Rattle.model.specs.ValueSets.{has}
-use Rattle.model.specs.Problem.{Problem, isPair, pair}
-use Rattle.model.specs.Sheet.{word, permutesPairs, distinct}
+use Rattle.model.specs.Kit.{_≡_, refl, sym, ap, ap₂, _∙_, subst, Bool, true, false, List, ℕ, _+_, _*_, _%_, _≤_, _<_, not-suc-le-zero, mul-le-mul, mul-le-mul-right, lt-of-lt-of-le}
+use Rattle.model.specs.Kit.{arith, T, eqb, eqb→eq, length, set, eqb-true, eqb-false, eq-eqb, ne-eqb}
+use Rattle.model.specs.{Lists.all, Lists.below, Lists.at, ValueSets.has, Problem.Problem, Problem.isPair, Problem.pair, Sheet.word, Sheet.permutesPairs, Sheet.distinct}
 use Rattle.model.proofs.Lists.{T-of, of-T, not-of, of-not, both-i, both-l, both-r, all-i, all-e, below-i, below-e, at-set, at-set-other}
-use Rattle.model.proofs.Counting.{distinct-at}
-use Rattle.model.proofs.Accepted.{length-words, at-words}
-use Rattle.arrays.specs.Layout.{imageCode, pairCode}
-use Rattle.sheet_symmetries.specs.Table.{Stated, tableOf}
-use Rattle.sheet_symmetries.specs.Forbidden.{Decoded, Back, Blank, Drawn}
-use Rattle.sheet_symmetries.specs.Scan.{fits, Seen, DrawnAt, DrawnTo}
-use Rattle.sheet_symmetries.proofs.Codes.{code-inj, init-lt, isPair-i, pair-div, pair-mod, pair-lt}
-use Rattle.sheet_symmetries.proofs.Laws.{distinct-of}
+use Rattle.model.proofs.{Counting.distinct-at, Accepted.length-words, Accepted.at-words}
+use Rattle.arrays.specs.inner.Layout.{imageCode, pairCode}
+use Rattle.sheet_symmetries.specs.{inner.Table.Stated, inner.Table.tableOf, inner.Forbidden.Decoded, inner.Forbidden.Back, inner.Forbidden.Blank, inner.Forbidden.Drawn}
+use Rattle.sheet_symmetries.specs.inner.Scan.{fits, Seen, DrawnAt, DrawnTo}
+use Rattle.sheet_symmetries.proofs.{Codes.code-inj, Codes.init-lt, Codes.isPair-i, Codes.pair-div, Codes.pair-mod, Codes.pair-lt, Laws.distinct-of}
 
 -- ---- the words of a table
 pub table-at : (p : Problem) (sheet : List ℕ) (offset q : ℕ) → q < p .variables * p .values → at (tableOf p sheet offset) q ≡ word sheet (offset + 2 * q)
@@ -94,7 +81,8 @@ module _ (p : Problem) (g seen : List ℕ) (q : ℕ) (s : Seen p g seen q) where
     unfolding permutesPairs
     unfit e =
         sym (not-of (permutesPairs p g)
-        (λ t. of-not (fits p g q) e (all-e (fits p g) (below (p .variables * p .values)) (both-l (all (fits p g) (below (p .variables * p .values))) (distinct g) t) q (below-i (p .variables * p .values) q h))))
+        (λ t. of-not (fits p g q) e (all-e (fits p g) (below (p .variables * p .values)) (both-l (all (fits p g) (below (p .variables * p .values))) (distinct g) t) q
+        (below-i (p .variables * p .values) q h))))
 
     pub seen-moved : isPair p q ≡ false → (at g q ≡ q → ⊥) → false ≡ permutesPairs p g
     seen-moved e n = unfit (case-false (isPair p q) (isPair p (at g q)) (eqb (at g q) q) e ∙ ne-eqb (at g q) q n)
@@ -130,7 +118,8 @@ seen-all p g seen s z =
     two i j l h e false b false c = let f : i ≡ j = sym (same-to i (omega arith) b) ∙ e ∙ same-to j h c in omega arith
 
 -- as the code reads a table: y is the number at q
-module _ (p : Problem) (sheet : List ℕ) (offset : ℕ) (seen : List ℕ) (q y : ℕ) (s : Seen p (tableOf p sheet offset) seen q) (h : q < p .variables * p .values) (e : y ≡ word sheet (offset + 2 * q)) where
+module _ (p : Problem) (sheet : List ℕ) (offset : ℕ) (seen : List ℕ) (q y : ℕ) (s : Seen p (tableOf p sheet offset) seen q) (h : q < p .variables * p .values)
+    (e : y ≡ word sheet (offset + 2 * q)) where
   is : at (tableOf p sheet offset) q ≡ y
   is = table-at p sheet offset q h ∙ sym e
 

@@ -1,23 +1,10 @@
 -- Which constraints can lie among three variables. Assumes nothing.
-use mathlib.Core.Path.{_≡_, refl, sym, ap₂, _∙_, subst}
-use mathlib.Core.Bool.{Bool, true, false}
-use mathlib.Core.List.{List, [], _∷_, List·Memᴰ, List·Memᴰ·head, Memᴰ·cast}
-use mathlib.Core.Logic.{_⊎_, inl, inr}
-use Prim.Native.Nat.{ℕ, _^_, _≤_, _<_}
-use native.Mathlib.Nat.{lt-of-le-of-lt}
-use native.Mathlib.Omega.{arith}
-use lib.Dec.{T, eqb, ltb, eqb-refl, eqb→eq, ltb→lt}
-use lib.ListN.{length}
-use lib.Bits.{bitAnd, bitOr, and-le-l, or-lt}
-use Rattle.model.specs.Lists.{all, any, at, either, ascending}
-use Rattle.model.specs.ValueSets.{has}
-use Rattle.model.specs.Problem.{Problem}
-use Rattle.model.proofs.Lists.{either-l, either-r, all-e, any-e, any-i}
-use Rattle.model.proofs.Masks.{has-or}
-use Rattle.arrays.specs.Layout.{constraintAt}
-use Rattle.sheet_symmetries.specs.Table.{Framed}
-use Rattle.sheet_symmetries.proofs.Codes.{good}
-use Rattle.sheet_symmetries.proofs.Blocks.{three}
+use Rattle.model.specs.Kit.{_≡_, refl, sym, ap₂, _∙_, subst, Bool, true, false, List, [], _∷_, List·Memᴰ, List·Memᴰ·head, Memᴰ·cast, _⊎_, inl, inr, ℕ, _^_, _≤_, _<_}
+use Rattle.model.specs.Kit.{lt-of-le-of-lt, arith, T, eqb, ltb, eqb-refl, eqb→eq, ltb→lt, length, bitAnd, bitOr, and-le-l, or-lt}
+use Rattle.model.specs.{Lists.all, Lists.any, Lists.at, Lists.either, Lists.ascending, ValueSets.has, Problem.Problem, Problem.constraintAt}
+use Rattle.model.proofs.{Lists.either-l, Lists.either-r, Lists.all-e, Lists.any-e, Lists.any-i, Masks.has-or}
+use Rattle.sheet_symmetries.specs.inner.Table.{Framed}
+use Rattle.sheet_symmetries.proofs.{Codes.good, Blocks.three}
 
 abbrev pub Among : ℕ → ℕ → ℕ → ℕ → Type 0
 Among x y z u = (u ≡ x) ⊎ ((u ≡ y) ⊎ (u ≡ z))
@@ -60,12 +47,14 @@ module _ (p : Problem) (numbers : List ℕ) (f : Framed p numbers) (x y z : ℕ)
   pub two-few : bitOr (bitOr (bitAnd (at numbers x) (at numbers y)) (bitAnd (at numbers x) (at numbers z))) (bitAnd (at numbers y) (at numbers z)) < 2 ^ length (p .constraints)
   two-few =
       let common : (s t : ℕ) → s < 2 ^ length (p .constraints) → bitAnd s t < 2 ^ length (p .constraints) = λ s t h. lt-of-le-of-lt (and-le-l s t) h in
-      or-lt (length (p .constraints)) _ (bitAnd (at numbers y) (at numbers z)) (or-lt (length (p .constraints)) (bitAnd (at numbers x) (at numbers y)) (bitAnd (at numbers x) (at numbers z)) (common _ _ (few x hx)) (common _ _ (few x hx))) (common _ _ (few y hy))
+      or-lt (length (p .constraints)) _ (bitAnd (at numbers y) (at numbers z)) (or-lt (length (p .constraints)) (bitAnd (at numbers x) (at numbers y)) (bitAnd (at numbers x) (at numbers z))
+      (common _ _ (few x hx)) (common _ _ (few x hx))) (common _ _ (few y hy))
 
   -- every constraint whose scope lies among the three is one of them
   pub all-has : (k : ℕ) → k < length (p .constraints) → T (all (λ u. any (eqb u) (x ∷ y ∷ z ∷ [])) (constraintAt p k .scope)) → T (has (bitOr (bitOr (at numbers x) (at numbers y)) (at numbers z)) k)
   all-has k h a =
       let scope = constraintAt p k .scope in
       let touched : (v : ℕ) → v < 16 → any (eqb v) scope ≡ has (at numbers v) k = λ v l. sym (f .numbered .touching v k l h) in
-      subst T (ap₂ either (ap₂ either (touched x hx) (touched y hy) ∙ sym (has-or (at numbers x) (at numbers y) k)) (touched z hz) ∙ sym (has-or (bitOr (at numbers x) (at numbers y)) (at numbers z) k))
+      subst T (ap₂ either (ap₂ either (touched x hx) (touched y hy) ∙ sym (has-or (at numbers x) (at numbers y) k)) (touched z hz) ∙ sym
+      (has-or (bitOr (at numbers x) (at numbers y)) (at numbers z) k))
       (some-in x y z scope (good p (f .stated) k h .some) (λ v m. among x y z v (all-e (λ u. any (eqb u) (x ∷ y ∷ z ∷ [])) scope a v m)))

@@ -1,35 +1,19 @@
 -- Values of a variable that a constraint on it and the variables of two pairs refuses with them. Assumes nothing.
-use mathlib.Core.Path.{_≡_, refl, sym, ap, _∙_, subst}
-use mathlib.Core.Bool.{Bool, true, false, not}
-use mathlib.Core.List.{List, [], _∷_, List·Memᴰ, List·Memᴰ·head, List·Memᴰ·tail, List·Memᴰ·not-nil, Memᴰ·cast}
-use mathlib.Core.Logic.{inl, inr}
-use Prim.Native.Nat.{ℕ, zero, suc, _+_, _*_, _/_, _%_, _^_, _≤_, _<_}
-use native.Mathlib.Nat.{mul-comm, mul-le-mul-right, lt-of-le-of-lt, lt-of-lt-of-le, not-suc-le-zero, le-of-suc-le-suc}
-use native.Mathlib.Omega.{arith}
-use lib.Dec.{T, T-not, eqb, ltb, eqb→eq, ltb→lt}
-use lib.ListN.{length}
-use lib.Bits.{bitAnd, and-le-l, or-zero-r}
-use lib.Count.{trailingZeros}
+use Rattle.model.specs.Kit.{_≡_, refl, sym, ap, _∙_, subst, Bool, true, false, not, List, [], _∷_, List·Memᴰ, List·Memᴰ·head, List·Memᴰ·tail, List·Memᴰ·not-nil, inl, inr, ℕ, zero}
+use Rattle.model.specs.Kit.{suc, _+_, _*_, _/_, _%_, _^_, _≤_, _<_, mul-le-mul-right, lt-of-le-of-lt, lt-of-lt-of-le, not-suc-le-zero, le-of-suc-le-suc, arith, T, T-not, eqb, ltb}
+use Rattle.model.specs.Kit.{ltb→lt, length, bitAnd, and-le-l, trailingZeros}
+use native.Mathlib.Nat.{mul-comm}
+use lib.Bits.{or-zero-r}
 use lib.Pow.{pow-mono}
-use Rattle.model.specs.Lists.{any, at, same, both, ascending}
-use Rattle.model.specs.ValueSets.{has, maskOf, fullMask, onlyMask, unionMask}
-use Rattle.model.specs.Problem.{Problem, pairsAt}
-use Rattle.model.proofs.Lists.{T-of, of-T, both-l, both-r, any-e}
-use Rattle.model.proofs.Sets.{has-lt, has-none, mask-e}
-use Rattle.model.proofs.Masks.{has-and, has-one}
-use Rattle.model.proofs.Members.{low-has}
-use Rattle.model.proofs.Lowest.{with-one}
-use Rattle.model.proofs.Filling.{gathered-begin, gathered-more}
-use Rattle.model.proofs.Pairs.{forbidden-excluded}
-use Rattle.model.specs.WellFormed.{GoodConstraint}
-use Rattle.arrays.specs.Layout.{constraintAt}
-use Rattle.arrays.specs.Places.{SUPPORTS}
-use Rattle.sheet_symmetries.specs.Table.{Stated, Ready}
-use Rattle.sheet_symmetries.specs.Forbidden.{blocked, numberOf, PairCode, MaybePair, Begun, Lacking, On, Sure, packed, packedOn}
-use Rattle.sheet_symmetries.proofs.Codes.{good, init-16, constraint-in, variable-lt}
-use Rattle.sheet_symmetries.proofs.Keys.{Digits, row-test}
-use Rattle.sheet_symmetries.proofs.Blocks.{three, excluded-i, blocked-i, blocked-more}
-use Rattle.sheet_symmetries.proofs.Scopes.{Among, first-two, ascends}
+use Rattle.model.specs.{Lists.any, Lists.at, Lists.same, Lists.both, Lists.ascending, ValueSets.has, ValueSets.maskOf, ValueSets.fullMask, ValueSets.onlyMask, ValueSets.unionMask}
+use Rattle.model.specs.{Problem.Problem, Problem.pairsAt, Problem.constraintAt, WellFormed.GoodConstraint}
+use Rattle.model.proofs.{Lists.T-of, Lists.of-T, Lists.both-l, Lists.both-r, Lists.among-e, Sets.has-lt, Sets.has-none, Sets.mask-e, Masks.has-and, Masks.has-one, Members.low-has}
+use Rattle.model.proofs.{Lowest.with-one, Filling.gathered-begin, Filling.gathered-more, Pairs.forbidden-excluded}
+use Rattle.arrays.specs.inner.Places.{SUPPORTS}
+use Rattle.sheet_symmetries.specs.{inner.Table.Stated, inner.Table.Ready, inner.Forbidden.blocked, inner.Forbidden.numberOf, inner.Forbidden.PairCode}
+use Rattle.sheet_symmetries.specs.inner.Forbidden.{MaybePair, Begun, Lacking, On, Sure, packed, packedOn}
+use Rattle.sheet_symmetries.proofs.{Codes.good, Codes.init-16, Codes.constraint-in, Codes.variable-lt, Keys.Digits, Keys.row-test, Blocks.three, Blocks.excluded-i}
+use Rattle.sheet_symmetries.proofs.{Blocks.blocked-i, Blocks.blocked-more, Scopes.Among, Scopes.first-two, Scopes.ascends}
 
 -- ---- a scope that has three variables
 -- three ascending numbers among three that do not fall are these
@@ -66,9 +50,6 @@ module _ (u v w x y z : ℕ) (l : u ≤ v) (m : v ≤ w) (h : x < y) (k : y < z)
       let e = second b i j in
       (first a e j, e, third c e i)
 
-pub member : (x : ℕ) (l : List ℕ) → T (any (eqb x) l) → List·Memᴰ x l
-member x l t = let r = any-e (eqb x) l t in Memᴰ·cast (eqb→eq x (r .0) (r .2)) (r .1)
-
 one : (u q : ℕ) → List·Memᴰ q (u ∷ []) → Among u u u q
 one u q (List·Memᴰ·head e) = inl e
 one u q (List·Memᴰ·tail m) = absurd (List·Memᴰ·not-nil m)
@@ -81,17 +62,17 @@ two u v q (List·Memᴰ·tail (List·Memᴰ·tail m)) = absurd (List·Memᴰ·no
 pub whole-scope : (x y z : ℕ) (scope : List ℕ) → length scope ≤ 3 → T (ascending scope) → x < y → y < z →
     T (any (eqb x) scope) → T (any (eqb y) scope) → T (any (eqb z) scope) → scope ≡ x ∷ y ∷ z ∷ []
 unfolding ascending
-whole-scope x y z [] l o h k a b c = absurd (List·Memᴰ·not-nil (member x [] a))
+whole-scope x y z [] l o h k a b c = absurd (List·Memᴰ·not-nil (among-e x [] a))
 whole-scope x y z (u ∷ []) l o h k a b c =
-    let r = all-three u u u x y z (omega arith) (omega arith) h k (one u x (member x _ a)) (one u y (member y _ b)) (one u z (member z _ c)) in
+    let r = all-three u u u x y z (omega arith) (omega arith) h k (one u x (among-e x _ a)) (one u y (among-e y _ b)) (one u z (among-e z _ c)) in
     absurd (omega (arith, r .0, r .1))
 whole-scope x y z (u ∷ v ∷ []) l o h k a b c =
     let i : u < v = ltb→lt u v (first-two (ltb u v) true o .0) in
-    let r = all-three u v v x y z (omega arith) (omega arith) h k (two u v x (member x _ a)) (two u v y (member y _ b)) (two u v z (member z _ c)) in
+    let r = all-three u v v x y z (omega arith) (omega arith) h k (two u v x (among-e x _ a)) (two u v y (among-e y _ b)) (two u v z (among-e z _ c)) in
     absurd (omega (arith, r .1, r .2))
 whole-scope x y z (u ∷ v ∷ w ∷ []) l o h k a b c =
     let i = ascends u v w o in
-    let r = all-three u v w x y z (omega (arith, i .0)) (omega (arith, i .1)) h k (three u v w x (member x _ a)) (three u v w y (member y _ b)) (three u v w z (member z _ c)) in
+    let r = all-three u v w x y z (omega (arith, i .0)) (omega (arith, i .1)) h k (three u v w x (among-e x _ a)) (three u v w y (among-e y _ b)) (three u v w z (among-e z _ c)) in
     cc
 whole-scope x y z (u ∷ v ∷ w ∷ s ∷ r) l o h k a b c = absurd (omega arith)
 
@@ -189,12 +170,13 @@ module _ (p : Problem) (numbers supports : List ℕ) (k a b y : ℕ) (o : On p n
       let place : 16 * (c % 16) + d % 16 ≡ packed (c % 16 ∷ d % 16 ∷ []) = omega arith in
       let row : has (at supports (256 * k + (16 * (c % 16) + d % 16))) (e % 16) ≡ any (same (c % 16 ∷ d % 16 ∷ e % 16 ∷ [])) (constraintAt p k .rows) =
       ap (λ (m : ℕ). has (at supports (256 * k + m)) (e % 16)) place
-      ∙ row-test p supports (o .ready .supported) k (o .inside) (c % 16 ∷ d % 16 ∷ []) (e % 16) (sym (ap length s)) (omega arith) (two-digits (c % 16) (d % 16) (omega arith) (omega arith)) (omega arith) in
+      ∙ row-test p supports (o .ready .supported) k (o .inside) (c % 16 ∷ d % 16 ∷ []) (e % 16) (sym (ap length s)) (omega arith) (two-digits (c % 16) (d % 16) (omega arith) (omega arith))
+      (omega arith) in
       no-row p w k c d e (o .inside) s cc cd ce (λ t. n (subst T (sym row) t))
 
   -- the two pairs are pairs
   variable-in : (x : ℕ) → T (any (eqb x) (constraintAt p k .scope)) → x < p .variables
-  variable-in x t = g .inside x (member x (constraintAt p k .scope) t)
+  variable-in x t = g .inside x (among-e x (constraintAt p k .scope) t)
 
   pair-a : PairCode p a
   pair-a = real p w a (o .first) (variable-in (a / 16) (o .has-first))
@@ -226,7 +208,8 @@ module _ (p : Problem) (numbers supports : List ℕ) (k a b y : ℕ) (o : On p n
   pub sure-after : b / 16 < y → (s : ℕ) → s ≡ maskOf (λ v. not (has (at supports (256 * k + 16 * (a % 16) + b % 16)) v)) → Sure p a b y s
   sure-after i s q e f c t =
       let place : 256 * k + 16 * (a % 16) + b % 16 ≡ 256 * k + (16 * (a % 16) + b % 16) = omega arith in
-      after e f c i (λ z. T-not (has (at supports (256 * k + 16 * (a % 16) + b % 16)) (e % 16)) (mask-e _ (e % 16) (subst (λ (n : ℕ). T (has n (e % 16))) q t) .1) (subst (λ (n : ℕ). T (has (at supports n) (e % 16))) (sym place) z))
+      after e f c i (λ z. T-not (has (at supports (256 * k + 16 * (a % 16) + b % 16)) (e % 16)) (mask-e _ (e % 16) (subst (λ (n : ℕ). T (has n (e % 16))) q t) .1)
+      (subst (λ (n : ℕ). T (has (at supports n) (e % 16))) (sym place) z))
 
   pub sure-before : y < a / 16 → (set : ℕ) → Lacking supports (256 * k + a % 16) 16 (b % 16) 16 set → Sure p a b y set
   sure-before i set l e f c t =
@@ -239,7 +222,8 @@ module _ (p : Problem) (numbers supports : List ℕ) (k a b y : ℕ) (o : On p n
       between e f c i j (λ z. lacking-e supports _ _ _ set (e % 16) l t (subst (λ (n : ℕ). T (has (at supports n) (b % 16))) place z))
 
 -- the constraints on three variables
-module _ (p : Problem) (numbers supports : List ℕ) (r : Ready p numbers supports) (x y z : ℕ) (lx : x < 16) (ly : y < 16) (lz : z < 16) (set : ℕ) (es : set ≡ bitAnd (bitAnd (at numbers x) (at numbers y)) (at numbers z)) where
+module _ (p : Problem) (numbers supports : List ℕ) (r : Ready p numbers supports) (x y z : ℕ) (lx : x < 16) (ly : y < 16) (lz : z < 16) (set : ℕ)
+    (es : set ≡ bitAnd (bitAnd (at numbers x) (at numbers y)) (at numbers z)) where
   few : set < 2 ^ length (p .constraints)
   few = subst (λ (s : ℕ). s < 2 ^ length (p .constraints)) (sym es) (lt-of-le-of-lt (and-le-l _ (at numbers z)) (lt-of-le-of-lt (and-le-l _ (at numbers y)) (r .framed .numbered .touching-few x lx)))
 
@@ -260,14 +244,24 @@ module _ (p : Problem) (numbers supports : List ℕ) (r : Ready p numbers suppor
         )
 
 -- the lowest of those on the variables of two pairs and a third
-module _ (p : Problem) (numbers supports : List ℕ) (r : Ready p numbers supports) (a b y : ℕ) (ma : MaybePair p a) (mb : MaybePair p b) (l : y < 16) (set : ℕ) (es : set ≡ bitAnd (bitAnd (at numbers (a / 16)) (at numbers (b / 16))) (at numbers y)) (n : set ≡ 0 → ⊥) where
+module _ (p : Problem) (numbers supports : List ℕ) (r : Ready p numbers supports) (a b y : ℕ) (ma : MaybePair p a) (mb : MaybePair p b) (l : y < 16) (set : ℕ)
+    (es : set ≡ bitAnd (bitAnd (at numbers (a / 16)) (at numbers (b / 16))) (at numbers y)) (n : set ≡ 0 → ⊥) where
   pub on-lowest : On p numbers supports (trailingZeros 64 set) a b y
   on-lowest =
       let la = variable-lt p (r .framed .stated) a ma in
       let lb = variable-lt p (r .framed .stated) b mb in
       let i = low-in p numbers supports r (a / 16) (b / 16) y la lb l set es n in
       let h = on-three p numbers supports r (a / 16) (b / 16) y la lb l set es (trailingZeros 64 set) i in
-      record { ready = r; inside = on-three-lt p numbers supports r (a / 16) (b / 16) y la lb l set es (trailingZeros 64 set) i; first = ma; second = mb; has-first = h .0; has-second = h .1; has-third = h .2 }
+      record {
+        ready = r;
+        inside = on-three-lt p numbers supports r (a / 16) (b / 16) y la lb l set es
+            (trailingZeros 64 set) i;
+        first = ma;
+        second = mb;
+        has-first = h .0;
+        has-second = h .1;
+        has-third = h .2;
+      }
 
   pub on-small : trailingZeros 64 set < 32
   on-small = omega (arith, on-lowest .inside, r .framed .stated .most)

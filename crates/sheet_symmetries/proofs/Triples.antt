@@ -1,23 +1,13 @@
 -- When three pairs hold a forbidden set: two of them clash, or a constraint refuses them. Assumes nothing.
-use mathlib.Core.Path.{_≡_, refl, sym, ap, ap₂, _∙_, subst}
-use mathlib.Core.Bool.{Bool, true, false, not}
-use mathlib.Core.List.{List, [], _∷_, map, List·Memᴰ, List·Memᴰ·head, List·Memᴰ·tail, List·Memᴰ·not-nil, Memᴰ·cast}
-use mathlib.Core.Logic.{_⊎_, inl, inr, ⊎-elim}
-use Prim.Native.Nat.{ℕ, _/_, _%_, _<_}
-use native.Mathlib.Omega.{arith}
-use lib.Dec.{T, T-not, not-T, eqb, ltb, ltb→lt, lt→ltb}
-use lib.ListN.{length}
-use borrow.Author.Tests.{eqb-true, eqb-false}
-use Rattle.model.specs.Lists.{all, any, at, same, choose}
-use Rattle.model.specs.ValueSets.{has}
-use Rattle.model.specs.Problem.{Problem, Constraint, pair, pairsAt}
-use Rattle.model.proofs.Lists.{both-i, both-l, both-r, all-e, all-i}
-use Rattle.model.proofs.Pairs.{doubled-e, forbidden-e, forbidden-excluded}
-use Rattle.arrays.specs.Layout.{constraintAt}
-use Rattle.sheet_symmetries.specs.Table.{Stated}
-use Rattle.sheet_symmetries.specs.Forbidden.{blocked, numberOf, MaybePair, Begun, clashes, valueIn, refusedBy}
-use Rattle.sheet_symmetries.proofs.Codes.{good, init-lt, init-16, code-is, constraint-in}
-use Rattle.sheet_symmetries.proofs.Blocks.{mem-index, three, excluded-e, excluded-i, blocked-i, blocked-e, clash-no}
+use Rattle.model.specs.Kit.{_≡_, refl, sym, ap, ap₂, _∙_, subst, Bool, true, false, not, List, [], _∷_, map, List·Memᴰ, List·Memᴰ·head, List·Memᴰ·tail, List·Memᴰ·not-nil}
+use Rattle.model.specs.Kit.{Memᴰ·cast, _⊎_, inl, inr, ⊎-elim, ℕ, _/_, _%_, _<_, arith, T, T-not, not-T, eqb, ltb, ltb→lt, lt→ltb, length, eqb-true, eqb-false}
+use Rattle.model.specs.{Lists.all, Lists.any, Lists.at, Lists.same, Lists.choose, ValueSets.has, Problem.Problem, Problem.Constraint, Problem.pair, Problem.pairsAt}
+use Rattle.model.specs.Problem.{constraintAt}
+use Rattle.model.proofs.{Lists.both-i, Lists.both-l, Lists.both-r, Lists.all-e, Lists.all-i, Pairs.doubled-e, Pairs.forbidden-e, Pairs.forbidden-excluded}
+use Rattle.sheet_symmetries.specs.{inner.Table.Stated, inner.Forbidden.blocked, inner.Forbidden.numberOf, inner.Forbidden.MaybePair, inner.Forbidden.Begun}
+use Rattle.sheet_symmetries.specs.inner.Forbidden.{clashes, valueIn, refusedBy}
+use Rattle.sheet_symmetries.proofs.{Codes.good, Codes.init-lt, Codes.init-16, Codes.code-is, Codes.constraint-in, Blocks.mem-index, Blocks.three, Blocks.excluded-e}
+use Rattle.sheet_symmetries.proofs.Blocks.{excluded-i, blocked-i, blocked-e, clash-no}
 
 -- ---- the value that three codes give to a variable
 -- one of the codes has the variable x and the value v
@@ -81,7 +71,8 @@ module _ (p : Problem) (w : Stated p) (a b e : ℕ) (ma : MaybePair p a) (mb : M
   values-begun (x ∷ xs) i f =
       (found-has x (valueIn a b e x) (i x (List·Memᴰ·head refl)) (found a b e x (f x (List·Memᴰ·head refl))), values-begun xs (λ y m. i y (List·Memᴰ·tail m)) (λ y m. f y (List·Memᴰ·tail m)))
 
-  values-in : (xs : List ℕ) → ((x : ℕ) → List·Memᴰ x xs → valueIn a b e x < 16) → (q : ℕ) → List·Memᴰ q (pairsAt p xs (map (valueIn a b e) xs)) → List·Memᴰ q (numberOf p a ∷ numberOf p b ∷ numberOf p e ∷ [])
+  values-in : (xs : List ℕ) → ((x : ℕ) → List·Memᴰ x xs → valueIn a b e x < 16) → (q : ℕ) → List·Memᴰ q (pairsAt p xs (map (valueIn a b e) xs)) → List·Memᴰ q
+      (numberOf p a ∷ numberOf p b ∷ numberOf p e ∷ [])
   unfolding pairsAt
   values-in [] f q m = absurd (List·Memᴰ·not-nil m)
   values-in (x ∷ xs) f q (List·Memᴰ·head h) = Memᴰ·cast h (found-in x (valueIn a b e x) (found a b e x (f x (List·Memᴰ·head refl))))
@@ -95,7 +86,8 @@ module _ (p : Problem) (w : Stated p) (a b e : ℕ) (ma : MaybePair p a) (mb : M
 
   refused-row : (c : Constraint) → T (refusedBy c a b e) → T (any (same (map (valueIn a b e) (c .scope))) (c .rows)) → ⊥
   unfolding refusedBy
-  refused-row c t = T-not (any (same (map (valueIn a b e) (c .scope))) (c .rows)) (both-r (all (λ x. ltb (valueIn a b e x) 16) (c .scope)) (not (any (same (map (valueIn a b e) (c .scope))) (c .rows))) t)
+  refused-row c t = T-not (any (same (map (valueIn a b e) (c .scope))) (c .rows)) (both-r (all (λ x. ltb (valueIn a b e x) 16) (c .scope))
+      (not (any (same (map (valueIn a b e) (c .scope))) (c .rows))) t)
 
   pub refused-blocked : (k : ℕ) → k < length (p .constraints) → T (refusedBy (constraintAt p k) a b e) → T (blocked p (numberOf p a ∷ numberOf p b ∷ numberOf p e ∷ []))
   refused-blocked k h t =
@@ -125,10 +117,12 @@ module _ (p : Problem) (w : Stated p) (a b e : ℕ) (ma : MaybePair p a) (mb : M
 
     all-small : (xs : List ℕ) → ((x : ℕ) → List·Memᴰ x xs → x < p .variables) → Begun p xs (map (valueIn a b e) xs) → (x : ℕ) → List·Memᴰ x xs → T (ltb (valueIn a b e x) 16)
     all-small [] i d x m = absurd (List·Memᴰ·not-nil m)
-    all-small (y ∷ xs) i d x (List·Memᴰ·head h) = subst (λ (z : ℕ). T (ltb (valueIn a b e z) 16)) (sym h) (lt→ltb (valueIn a b e y) 16 (init-16 p w y (valueIn a b e y) (i y (List·Memᴰ·head refl)) (d .0)))
+    all-small (y ∷ xs) i d x (List·Memᴰ·head h) = subst (λ (z : ℕ). T (ltb (valueIn a b e z) 16)) (sym h)
+        (lt→ltb (valueIn a b e y) 16 (init-16 p w y (valueIn a b e y) (i y (List·Memᴰ·head refl)) (d .0)))
     all-small (y ∷ xs) i d x (List·Memᴰ·tail m) = all-small xs (λ z k. i z (List·Memᴰ·tail k)) (d .1) x m
 
-    refuses : (c : Constraint) (vs : List ℕ) → ((x : ℕ) → List·Memᴰ x (c .scope) → x < p .variables) → Begun p (c .scope) vs → (T (any (same vs) (c .rows)) → ⊥) → map (valueIn a b e) (c .scope) ≡ vs → T (refusedBy c a b e)
+    refuses : (c : Constraint) (vs : List ℕ) → ((x : ℕ) → List·Memᴰ x (c .scope) → x < p .variables) → Begun p (c .scope) vs → (T (any (same vs) (c .rows)) → ⊥) → map (valueIn a b e)
+        (c .scope) ≡ vs → T (refusedBy c a b e)
     unfolding refusedBy
     refuses c vs i d n q =
         both-i (all (λ x. ltb (valueIn a b e x) 16) (c .scope)) (not (any (same (map (valueIn a b e) (c .scope))) (c .rows)))
@@ -148,7 +142,8 @@ module _ (p : Problem) (w : Stated p) (a b e : ℕ) (ma : MaybePair p a) (mb : M
         let i = r .2 in
         ⊎-elim {C = (k : ℕ) × (k < length (p .constraints)) × T (refusedBy (constraintAt p k) a b e)}
         (λ d. let q = doubled-e p (d .0) (r .0) (d .2) in
-        absurd (no-doubled (d .0) (q .0) (q .1) (d .1) (q .2) (q .3) (q .4) (i _ (subst (List·Memᴰ (pair p (d .0) (q .0))) (sym (q .5)) (List·Memᴰ·head refl))) (i _ (subst (List·Memᴰ (pair p (d .0) (q .1))) (sym (q .5)) (List·Memᴰ·tail (List·Memᴰ·head refl))))))
+        absurd (no-doubled (d .0) (q .0) (q .1) (d .1) (q .2) (q .3) (q .4) (i _ (subst (List·Memᴰ (pair p (d .0) (q .0))) (sym (q .5)) (List·Memᴰ·head refl)))
+        (i _ (subst (List·Memᴰ (pair p (d .0) (q .1))) (sym (q .5)) (List·Memᴰ·tail (List·Memᴰ·head refl))))))
         (λ d. let q = excluded-e p (d .0) (r .0) (d .2) in
         let s = mem-index (p .constraints) (record { scope = []; rows = [] }) (d .0) (d .1) in
         let j = w .constrained (d .0) (d .1) .inside in (

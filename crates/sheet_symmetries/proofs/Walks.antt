@@ -1,29 +1,16 @@
 -- The walk of a constraint's forbidden sets: one variable further, at its end, and at its start. Assumes nothing.
-use mathlib.Core.Path.{_≡_, refl, sym, ap, ap₂, _∙_, subst}
-use mathlib.Core.Bool.{Bool, true, false, not}
-use mathlib.Core.List.{List, [], _∷_, _++_, map, List·Memᴰ, List·Memᴰ·head, List·Memᴰ·tail, List·Memᴰ·not-nil}
-use mathlib.Core.Logic.{_⊎_, inl, inr, ⊎-elim}
-use Prim.Native.Nat.{ℕ, suc, _+_, _-_, _*_, _≤_, _<_}
-use native.Mathlib.Nat.{not-suc-le-zero, le-of-suc-le-suc}
-use native.Mathlib.Omega.{arith}
-use lib.Dec.{T, not-T, T-not}
-use lib.ListN.{length, drop}
+use Rattle.model.specs.Kit.{_≡_, refl, sym, ap, ap₂, _∙_, subst, Bool, true, false, not, List, [], _∷_, _++_, map, List·Memᴰ, List·Memᴰ·head, List·Memᴰ·tail, List·Memᴰ·not-nil}
+use Rattle.model.specs.Kit.{_⊎_, inl, inr, ⊎-elim, ℕ, suc, _+_, _-_, _*_, _≤_, _<_, not-suc-le-zero, le-of-suc-le-suc, arith, T, not-T, T-not, length, drop}
 use lib.Seq.{drop-cons, drop-length}
-use Rattle.model.specs.Lists.{all, any, at, same, both, either}
-use Rattle.model.specs.ValueSets.{has, maskOf, commonMask, withoutMask, members, lowestOf}
-use Rattle.model.specs.Problem.{Problem}
-use Rattle.model.proofs.Lists.{T-ext, of-T, T-of, not-of, both-i, both-l, both-r, all-e, all-i, mem-at, either-l, T-dec}
-use Rattle.model.proofs.Sets.{has-mask, mask-lt, mask-e, members-i, members-e}
-use Rattle.model.proofs.Lowest.{lowest-in, without-e, without-less}
-use Rattle.model.specs.WellFormed.{GoodConstraint}
-use Rattle.arrays.specs.Layout.{constraintAt}
-use Rattle.arrays.specs.Places.{SUPPORTS}
-use Rattle.sheet_symmetries.specs.Table.{Stated, Ready}
-use Rattle.sheet_symmetries.specs.Forbidden.{blocked, numberOf, PairCode, MaybePair, Coded, Begun, codesAt, keeps, lastThree, Lent, Chosen, Walking, Choices, Triple, Beside, allBlocked}
-use Rattle.sheet_symmetries.proofs.Codes.{good, init-16, init-small, none-out}
-use Rattle.sheet_symmetries.proofs.Keys.{begun-digits, packed-snoc, packed-none, packed-lt, row-test}
-use Rattle.sheet_symmetries.proofs.Blocks.{blocked-ext}
-use Rattle.sheet_symmetries.proofs.Laws.{all-ext, all-stop, all-rest, all-over}
+use Rattle.model.specs.{Lists.all, Lists.any, Lists.at, Lists.same, Lists.both, Lists.either, ValueSets.has, ValueSets.maskOf, ValueSets.commonMask, ValueSets.withoutMask}
+use Rattle.model.specs.{ValueSets.members, ValueSets.lowestOf, Problem.Problem, Problem.constraintAt, WellFormed.GoodConstraint}
+use Rattle.model.proofs.Lists.{T-ext, of-T, T-of, not-of, both-i, both-l, both-r, all-e, all-i, mem-at, either-l, T-dec, length-snoc}
+use Rattle.model.proofs.{Sets.has-mask, Sets.mask-lt, Sets.mask-e, Sets.members-i, Sets.members-e, Lowest.lowest-in, Lowest.without-e, Lowest.without-less}
+use Rattle.arrays.specs.inner.Places.{SUPPORTS}
+use Rattle.sheet_symmetries.specs.{inner.Table.Stated, inner.Table.Ready, inner.Forbidden.blocked, inner.Forbidden.numberOf, inner.Forbidden.PairCode}
+use Rattle.sheet_symmetries.specs.inner.Forbidden.{MaybePair, Coded, Begun, codesAt, keeps, lastThree, Lent, Chosen, Walking, Choices, Triple, Beside, allBlocked}
+use Rattle.sheet_symmetries.proofs.{Codes.good, Codes.init-16, Codes.init-small, Codes.none-out, Keys.begun-digits, Keys.packed-snoc, Keys.packed-none, Keys.packed-lt}
+use Rattle.sheet_symmetries.proofs.{Keys.row-test, Blocks.blocked-ext, Laws.all-ext, Laws.all-stop, Laws.all-rest, Laws.all-over}
 
 -- ---- one value more
 begun-snoc : (p : Problem) (xs vs : List ℕ) (v : ℕ) → length vs < length xs → Begun p xs vs → T (has (at (p .initial) (at xs (length vs))) v) → Begun p xs (vs ++ (v ∷ []))
@@ -49,10 +36,6 @@ three-snoc a b e c [] h q = cc
 three-snoc a b e c (x ∷ []) h q = cc
 three-snoc a b e c (x ∷ y ∷ []) h q = cc
 three-snoc a b e c (x ∷ y ∷ z ∷ r) h q = absurd (omega arith)
-
-length-snoc : (vs : List ℕ) (v : ℕ) → length (vs ++ (v ∷ [])) ≡ suc (length vs)
-length-snoc [] v = refl
-length-snoc (u ∷ vs) v = ap suc (length-snoc vs v)
 
 -- ---- the codes of a walk are codes of pairs
 codes-pairs : (p : Problem) (codes xs vs : List ℕ) → Coded p codes → ((x : ℕ) → List·Memᴰ x xs → x < p .variables) → Begun p xs vs → (y : ℕ) → List·Memᴰ y (codesAt codes xs vs) → PairCode p y
@@ -104,7 +87,8 @@ module _ (p : Problem) (vs numbers supports codes moves : List ℕ) (k ahead key
   -- its last step: the three codes are those of the image
   pub walked-triple : Triple p numbers supports a b e
   walked-triple =
-      let m : (y : ℕ) → List·Memᴰ y (a ∷ b ∷ e ∷ []) → MaybePair p y = λ y i. three-pairs p _ (codes-pairs p codes (constraintAt p k .scope) vs (s .lent .coded) (g .inside) (s .chosen .begun)) y (subst (List·Memᴰ y) (s .shown) i) in
+      let m : (y : ℕ) → List·Memᴰ y (a ∷ b ∷ e ∷ []) → MaybePair p y = λ y i. three-pairs p _ (codes-pairs p codes (constraintAt p k .scope) vs (s .lent .coded) (g .inside) (s .chosen .begun)) y
+      (subst (List·Memᴰ y) (s .shown) i) in
       record {
         ready = s .lent .ready;
         first = m a (List·Memᴰ·head refl);
@@ -192,7 +176,8 @@ module _ (p : Problem) (vs codes numbers supports : List ℕ) (k ahead key : ℕ
         (has-mask 16 (λ u. not (has (at supports (256 * k + key)) u)) v h
         ∙ ap not
         (ap (λ (i : ℕ). has (at supports (256 * k + i)) v) (c .keyed)
-        ∙ row-test p supports (r .supported) k (c .inside) vs v (omega (arith, c .split)) (omega (arith, c .split, gc .few)) (begun-digits p st (constraintAt p k .scope) vs (gc .inside) (c .begun)) h))
+        ∙ row-test p supports (r .supported) k (c .inside) vs v (omega (arith, c .split)) (omega (arith, c .split, gc .few))
+        (begun-digits p st (constraintAt p k .scope) vs (gc .inside) (c .begun)) h))
 
     few-in : (v : ℕ) → T (has few v) → T (has (at (p .initial) x) v)
     unfolding few x
@@ -226,7 +211,8 @@ module _ (p : Problem) (vs codes numbers supports : List ℕ) (k ahead key : ℕ
         }
 
 -- as the code makes them
-module _ (p : Problem) (vs codes numbers supports : List ℕ) (k ahead key x : ℕ) (r : Ready p numbers supports) (c : Chosen p vs k ahead key) (n : ahead ≡ 0 → ⊥) (e : x ≡ at (constraintAt p k .scope) (length vs)) where
+module _ (p : Problem) (vs codes numbers supports : List ℕ) (k ahead key x : ℕ) (r : Ready p numbers supports) (c : Chosen p vs k ahead key) (n : ahead ≡ 0 → ⊥)
+    (e : x ≡ at (constraintAt p k .scope) (length vs)) where
   pub next-in : x < p .variables
   next-in = subst (λ (y : ℕ). y < p .variables) (sym e) (chosen-var p vs codes numbers supports k ahead key r c n)
 
@@ -245,7 +231,8 @@ module _ (p : Problem) (vs codes numbers supports : List ℕ) (k ahead key x : �
     made-last s new i q m = subst (Choices p vs codes k ahead) (sym (q ∙ ap₂ commonMask initial-is i)) (choices-last p vs codes numbers supports k ahead key r c n m)
 
 -- ---- one turn of the walk's loop
-pub choices-over : (p : Problem) (vs codes : List ℕ) (k ahead set : ℕ) → Choices p vs codes k ahead set → set ≡ 0 → true ≡ keeps p codes (constraintAt p k) (drop (length vs) (constraintAt p k .scope)) vs
+pub choices-over : (p : Problem) (vs codes : List ℕ) (k ahead set : ℕ) → Choices p vs codes k ahead set → set ≡ 0 → true ≡ keeps p codes (constraintAt p k)
+    (drop (length vs) (constraintAt p k .scope)) vs
 choices-over p vs codes k ahead set c z = all-over _ set _ (c .whole) z
 
 -- as the code takes it: the variable x is next, v is the lowest of the values left, `new` the set without it
@@ -253,7 +240,8 @@ module _ (p : Problem) (vs numbers supports codes moves : List ℕ) (k ahead key
   pub next-place : (i : ℕ) → i ≡ length (constraintAt p k .scope) → (ahead ≤ i) × (i - ahead ≡ length vs) × (i - ahead < length (constraintAt p k .scope))
   next-place i h = (omega (arith, s .chosen .split), omega (arith, s .chosen .split), omega (arith, s .chosen .split))
 
-  module _ (x set : ℕ) (ex : x ≡ at (constraintAt p k .scope) (length vs)) (c : Choices p vs codes k ahead set) (m : set ≡ 0 → ⊥) (v new : ℕ) (ev : v ≡ lowestOf set) (en : new ≡ withoutMask set v) where
+  module _ (x set : ℕ) (ex : x ≡ at (constraintAt p k .scope) (length vs)) (c : Choices p vs codes k ahead set) (m : set ≡ 0 → ⊥) (v new : ℕ) (ev : v ≡ lowestOf set)
+      (en : new ≡ withoutMask set v) where
     low-in : T (has set v)
     low-in = subst (λ (u : ℕ). T (has set u)) (sym ev) (lowest-in set (c .small) m)
 
@@ -292,7 +280,8 @@ module _ (p : Problem) (vs numbers supports codes moves : List ℕ) (k ahead key
           })
 
 -- at the last variable: the two codes last chosen beside the images of its pairs
-module _ (p : Problem) (vs numbers supports codes moves : List ℕ) (k ahead key a b e x set : ℕ) (s : Walking p vs numbers supports codes moves k ahead key a b e) (one : ahead ≡ 1) (ex : x ≡ at (constraintAt p k .scope) (length vs)) (c : Choices p vs codes k ahead set) where
+module _ (p : Problem) (vs numbers supports codes moves : List ℕ) (k ahead key a b e x set : ℕ) (s : Walking p vs numbers supports codes moves k ahead key a b e) (one : ahead ≡ 1)
+    (ex : x ≡ at (constraintAt p k .scope) (length vs)) (c : Choices p vs codes k ahead set) where
   some : ahead ≡ 0 → ⊥
   some z = omega arith
 
@@ -333,7 +322,8 @@ module _ (p : Problem) (vs numbers supports codes moves : List ℕ) (k ahead key
       ⊎ T (has (at supports (256 * k + (16 * key + v))) u)) →
       true ≡ keeps p codes (constraintAt p k) (drop (length vs) (constraintAt p k .scope)) vs
   carried-kept h =
-      sym (of-T _ (all-i (λ v. keeps p codes (constraintAt p k) (drop (suc (length vs)) (constraintAt p k .scope)) (vs ++ (v ∷ []))) (members (at (p .initial) (at (constraintAt p k .scope) (length vs))))
+      sym (of-T _ (all-i (λ v. keeps p codes (constraintAt p k) (drop (suc (length vs)) (constraintAt p k .scope)) (vs ++ (v ∷ [])))
+      (members (at (p .initial) (at (constraintAt p k .scope) (length vs))))
       (λ v m. one v (members-e _ v m .1))))
       ∙ sym (keeps-here p vs codes numbers supports k ahead key (s .lent .ready) (s .chosen) two-some)
     where
@@ -352,7 +342,8 @@ module _ (p : Problem) (vs numbers supports codes moves : List ℕ) (k ahead key
           (sym ((last-all p (vs ++ (v ∷ [])) numbers supports codes moves k (ahead - 1) (16 * key + v) b e _ x set z o ex left true
           (sym (of-T _ (all-i _ (members set) (λ u m.
           let q = mask-e _ u (members-e set u m .1) .1 in
-          ⊎-elim (λ y. y) (λ y. absurd (T-not (has (at supports (256 * k + (16 * key + v))) u) (mask-e lacks u (both-r (has (at (p .initial) x) u) _ q) .1) y)) (h v u t (both-l (has (at (p .initial) x) u) _ q)))))))
+          ⊎-elim (λ y. y) (λ y. absurd (T-not (has (at supports (256 * k + (16 * key + v))) u) (mask-e lacks u (both-r (has (at (p .initial) x) u) _ q) .1) y))
+          (h v u t (both-l (has (at (p .initial) x) u) _ q)))))))
           ∙ ap (λ (i : ℕ). keeps p codes c (drop i (c .scope)) (vs ++ (v ∷ []))) (length-snoc vs v)))
 
 -- before the first variable

@@ -1,25 +1,11 @@
 -- Rows of a constraint on the images that come from rows: for the values of all three variables at once. Assumes nothing.
-use mathlib.Core.Path.{_≡_, refl, sym, ap, ap₂, _∙_, subst}
-use mathlib.Core.Bool.{true}
-use mathlib.Core.List.{List, [], _∷_}
-use mathlib.Core.Logic.{_⊎_, inl, inr, ⊎-elim}
-use Prim.Native.Nat.{ℕ, _+_, _*_, _/_, _%_, _<_}
-use native.Mathlib.Omega.{arith}
-use lib.Bits.{bitAnd}
-use lib.Dec.{T, eqb}
-use lib.ListN.{length, drop}
-use Rattle.model.specs.Lists.{any, at, both}
-use Rattle.model.specs.ValueSets.{has, members, commonMask}
-use Rattle.model.specs.Problem.{Problem}
-use Rattle.model.proofs.Lists.{T-dec, T-of, of-T, all-i, both-i, mem-at}
-use Rattle.model.proofs.Sets.{mask-i, members-e}
-use Rattle.arrays.specs.Layout.{constraintAt}
-use Rattle.sheet_symmetries.specs.Table.{Stated, Ready}
-use Rattle.sheet_symmetries.specs.Forbidden.{On, Across, Three, Walking, FromRow, FromRows, FirstsFrom, SecondsFrom, Whole, WholeFrom, keeps}
-use Rattle.sheet_symmetries.proofs.Codes.{good, init-16, code-16, code-pair}
-use Rattle.sheet_symmetries.proofs.Surely.{member, on-three-lt, on-three, on-turned, after, first-two-turned, last-two-turned}
-use Rattle.sheet_symmetries.proofs.Walks.{walk-start, further, keeps-here}
-use Rattle.sheet_symmetries.proofs.Across.{carried-all}
+use Rattle.model.specs.Kit.{_≡_, refl, sym, ap, ap₂, _∙_, subst, true, List, [], _∷_, _⊎_, inl, inr, ⊎-elim, ℕ, _+_, _*_, _/_, _%_, _<_, arith, bitAnd, T, eqb, length, drop}
+use Rattle.model.specs.{Lists.any, Lists.at, Lists.both, ValueSets.has, ValueSets.members, ValueSets.commonMask, Problem.Problem, Problem.constraintAt}
+use Rattle.model.proofs.{Lists.T-dec, Lists.T-of, Lists.of-T, Lists.all-i, Lists.both-i, Lists.mem-at, Lists.among-e, Sets.mask-i, Sets.members-e}
+use Rattle.sheet_symmetries.specs.{inner.Table.Stated, inner.Table.Ready, inner.Forbidden.On, inner.Forbidden.Across, inner.Forbidden.Three, inner.Forbidden.Walking}
+use Rattle.sheet_symmetries.specs.inner.Forbidden.{FromRow, FromRows, FirstsFrom, SecondsFrom, Whole, WholeFrom, keeps}
+use Rattle.sheet_symmetries.proofs.{Codes.good, Codes.init-16, Codes.code-16, Codes.code-pair, Surely.on-three-lt, Surely.on-three, Surely.on-turned, Surely.after}
+use Rattle.sheet_symmetries.proofs.{Surely.first-two-turned, Surely.last-two-turned, Walks.walk-start, Walks.further, Walks.keeps-here, Across.carried-all}
 
 -- as the code finds them: the values of x in the set at i
 pub firsts-from : (p : Problem) → Stated p → (supports moves : List ℕ) (from i x w : ℕ) → x < p .variables →
@@ -44,7 +30,7 @@ module _ (p : Problem) (numbers supports moves : List ℕ) (m k x y z : ℕ) (h 
   w = h .ready .framed .stated
 
   scope-lt : (u : ℕ) → T (any (eqb u) (constraintAt p m .scope)) → u < p .variables
-  scope-lt u t = good p w m (h .inside) .inside u (member u (constraintAt p m .scope) t)
+  scope-lt u t = good p w m (h .inside) .inside u (among-e u (constraintAt p m .scope) t)
 
   pub three-in : (x < p .variables) × (y < p .variables) × (z < p .variables)
   three-in = (scope-lt x (h .has-first), scope-lt y (h .has-second), scope-lt z (h .has-third))

@@ -1,3 +1,1 @@
-pub mod Table
-pub mod Forbidden
-pub mod Scan
+pub mod inner

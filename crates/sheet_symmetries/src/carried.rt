@@ -9,10 +9,10 @@ ghost use lib.Dec.{T};
 ghost use Rattle.model.specs.Lists.{at};
 ghost use Rattle.model.specs.ValueSets.{has};
 ghost use Rattle.model.specs.Problem.{Problem};
-ghost use Rattle.arrays.specs.Layout.{constraintAt};
-ghost use Rattle.arrays.specs.Places.{SUPPORTS};
-ghost use Rattle.sheet_symmetries.specs.Table.{Framed};
-ghost use Rattle.sheet_symmetries.specs.Forbidden.{Across, FromRows, SetFrom, Walking, keeps};
+ghost use Rattle.model.specs.Problem.{constraintAt};
+ghost use Rattle.arrays.specs.inner.Places.{SUPPORTS};
+ghost use Rattle.sheet_symmetries.specs.inner.Table.{Framed};
+ghost use Rattle.sheet_symmetries.specs.inner.Forbidden.{Across, FromRows, SetFrom, Walking, keeps};
 use super::forbidden::arity;
 use super::forbidden::complement;
 use super::forbidden::scope_at;
@@ -55,7 +55,8 @@ fn from_rows(
     z: usize,
 ) -> bool
     requires { ⌜ ((p : Problem) × Across p (now numbers) (now supports) m a y z) × (from + 15 < SUPPORTS) × ((i : ℕ) → at (now moves) i < 16) ⌝ }
-    ensures { λ r. ⌜ (r ≡ true → (p : Problem) → Across p (now (numbers .entry)) (now (supports .entry)) m a y z → (v : ℕ) → T (has (at (p .initial) y) v) → FromRows p (now (supports .entry)) (now (moves .entry)) from a (16 * y + v) z) ⌝ }
+    ensures { λ r. ⌜ (r ≡ true → (p : Problem) → Across p (now (numbers .entry)) (now (supports .entry)) m a y z → (v : ℕ) → T (has (at (p .initial) y) v)
+        → FromRows p (now (supports .entry)) (now (moves .entry)) from a (16 * y + v) z) ⌝ }
 {
     let last = initial(numbers, z);
     let mut rest = initial(numbers, y);
@@ -81,8 +82,10 @@ fn sets_from(
     y: usize,
     z: usize,
 ) -> bool
-    requires { ⌜ ((p : Problem) × Framed p (now numbers) × (y < p .variables) × (z < p .variables)) × (from + 15 < SUPPORTS) × (base + 15 * step < SUPPORTS) × ((i : ℕ) → at (now moves) i < 16) ⌝ }
-    ensures { λ r. ⌜ (r ≡ true → (p : Problem) → Framed p (now (numbers .entry)) → y < p .variables → z < p .variables → (v : ℕ) → T (has (at (p .initial) y) v) → SetFrom p (now (supports .entry)) (now (moves .entry)) from (base + step * v) (16 * y + v) z) ⌝ }
+    requires { ⌜ ((p : Problem) × Framed p (now numbers) × (y < p .variables) × (z < p .variables)) × (from + 15 < SUPPORTS) × (base + 15 * step < SUPPORTS)
+        × ((i : ℕ) → at (now moves) i < 16) ⌝ }
+    ensures { λ r. ⌜ (r ≡ true → (p : Problem) → Framed p (now (numbers .entry)) → y < p .variables → z < p .variables → (v : ℕ) → T
+        (has (at (p .initial) y) v) → SetFrom p (now (supports .entry)) (now (moves .entry)) from (base + step * v) (16 * y + v) z) ⌝ }
 {
     let last = initial(numbers, z);
     let mut rest = initial(numbers, y);
@@ -110,7 +113,8 @@ fn rows_from(
     z: usize,
 ) -> bool
     requires { ⌜ ((p : Problem) × Across p (now numbers) (now supports) m a y z) × (from + 15 < SUPPORTS) × ((i : ℕ) → at (now moves) i < 16) ⌝ }
-    ensures { λ r. ⌜ (r ≡ true → (p : Problem) → Across p (now (numbers .entry)) (now (supports .entry)) m a y z → (v : ℕ) → T (has (at (p .initial) y) v) → FromRows p (now (supports .entry)) (now (moves .entry)) from a (16 * y + v) z) ⌝ }
+    ensures { λ r. ⌜ (r ≡ true → (p : Problem) → Across p (now (numbers .entry)) (now (supports .entry)) m a y z → (v : ℕ) → T (has (at (p .initial) y) v)
+        → FromRows p (now (supports .entry)) (now (moves .entry)) from a (16 * y + v) z) ⌝ }
 {
     if z <= y {
         return from_rows(numbers, supports, moves, from, m, a, y, z);
@@ -152,7 +156,8 @@ pub fn carried(
     a: usize,
 ) -> bool
     requires { ⌜ ((p : Problem) × (vs codes : List ℕ) × (z w : ℕ) × Walking p vs (now numbers) (now supports) codes (now moves) k ahead key z w a) ⌝ }
-    ensures { λ r. ⌜ (r ≡ true → (p : Problem) (vs codes : List ℕ) (z w : ℕ) → Walking p vs (now (numbers .entry)) (now (supports .entry)) codes (now (moves .entry)) k ahead key z w a → true ≡ keeps p codes (constraintAt p k) (drop (length vs) (constraintAt p k .scope)) vs) ⌝ }
+    ensures { λ r. ⌜ (r ≡ true → (p : Problem) (vs codes : List ℕ) (z w : ℕ) → Walking p vs (now (numbers .entry)) (now (supports .entry)) codes
+        (now (moves .entry)) k ahead key z w a → true ≡ keeps p codes (constraintAt p k) (drop (length vs) (constraintAt p k .scope)) vs) ⌝ }
 {
     if ahead == 3 {
         return turned(numbers, supports, moves, k);

@@ -7,10 +7,10 @@ ghost use lib.ListN.{length};
 ghost use Rattle.model.specs.Lists.{at};
 ghost use Rattle.model.specs.ValueSets.{has, maskOf};
 ghost use Rattle.model.specs.Problem.{Problem};
-ghost use Rattle.arrays.specs.Layout.{constraintAt};
-ghost use Rattle.arrays.specs.Places.{SUPPORTS};
-ghost use Rattle.sheet_symmetries.specs.Table.{Framed, Ready};
-ghost use Rattle.sheet_symmetries.specs.Forbidden.{Refusing, Triple, clashes, valueIn, refusedBy, blocked as blockedBy, numberOf};
+ghost use Rattle.model.specs.Problem.{constraintAt};
+ghost use Rattle.arrays.specs.inner.Places.{SUPPORTS};
+ghost use Rattle.sheet_symmetries.specs.inner.Table.{Framed, Ready};
+ghost use Rattle.sheet_symmetries.specs.inner.Forbidden.{Refusing, Triple, clashes, valueIn, refusedBy, blocked as blockedBy, numberOf};
 use super::table::number;
 use arrays::Numbers;
 use arrays::SCOPES;
@@ -44,7 +44,8 @@ pub fn arity(numbers: &Numbers, k: usize) -> usize
 
 pub fn scope_at(numbers: &Numbers, k: usize, i: usize) -> usize
     requires { ⌜ ((p : Problem) × Framed p (now numbers) × (k < length (p .constraints)) × (i < length (constraintAt p k .scope))) ⌝ }
-    ensures { λ r. ⌜ ((p : Problem) → Framed p (now (numbers .entry)) → k < length (p .constraints) → i < length (constraintAt p k .scope) → r ≡ at (constraintAt p k .scope) i) ⌝ }
+    ensures { λ r. ⌜ ((p : Problem) → Framed p (now (numbers .entry)) → k < length (p .constraints) → i < length (constraintAt p k .scope) → r ≡ at
+        (constraintAt p k .scope) i) ⌝ }
 {
     (number(numbers, SCOPES + k) >> (8 * i + 8)) % 256
 }
@@ -75,7 +76,8 @@ fn value_in(a: usize, b: usize, e: usize, x: usize) -> usize
 // Whether a constraint's scope lies among the variables of three pairs, whose values are no row of it.
 fn refused(numbers: &Numbers, supports: &Supports, k: usize, a: usize, b: usize, e: usize) -> bool
     requires { ⌜ ((p : Problem) × Ready p (now numbers) (now supports) × (k < length (p .constraints))) ⌝ }
-    ensures { λ r. ⌜ ((p : Problem) → Ready p (now (numbers .entry)) (now (supports .entry)) → k < length (p .constraints) → r ≡ refusedBy (constraintAt p k) a b e) ⌝ }
+    ensures { λ r. ⌜ ((p : Problem) → Ready p (now (numbers .entry)) (now (supports .entry)) → k < length (p .constraints) → r ≡ refusedBy
+        (constraintAt p k) a b e) ⌝ }
 {
     let count = arity(numbers, k);
     let mut key = 0usize;
@@ -101,7 +103,8 @@ fn any_refuses(
     e: usize,
 ) -> bool
     requires { ⌜ ((p : Problem) × Triple p (now numbers) (now supports) a b e × (set < 2 ^ length (p .constraints))) ⌝ }
-    ensures { λ r. ⌜ ((p : Problem) → Triple p (now (numbers .entry)) (now (supports .entry)) a b e → set < 2 ^ length (p .constraints) → Refusing p a b e set r) ⌝ }
+    ensures { λ r. ⌜ ((p : Problem) → Triple p (now (numbers .entry)) (now (supports .entry)) a b e → set < 2 ^ length (p .constraints)
+        → Refusing p a b e set r) ⌝ }
 {
     let mut pending = set;
     while pending != 0 {
@@ -118,7 +121,8 @@ fn any_refuses(
 // these refuses.
 pub fn blocked(numbers: &Numbers, supports: &Supports, a: usize, b: usize, e: usize) -> bool
     requires { ⌜ ((p : Problem) × Triple p (now numbers) (now supports) a b e) ⌝ }
-    ensures { λ r. ⌜ ((p : Problem) → Triple p (now (numbers .entry)) (now (supports .entry)) a b e → r ≡ blockedBy p (numberOf p a ∷ numberOf p b ∷ numberOf p e ∷ [])) ⌝ }
+    ensures { λ r. ⌜ ((p : Problem) → Triple p (now (numbers .entry)) (now (supports .entry)) a b e → r ≡ blockedBy p
+        (numberOf p a ∷ numberOf p b ∷ numberOf p e ∷ [])) ⌝ }
 {
     if clash(a, b) {
         return true;

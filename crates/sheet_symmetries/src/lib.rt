@@ -14,8 +14,8 @@ ghost use mathlib.Core.Path.{_≡_};
 ghost use Prim.Native.Nat.{_+_, _*_, _≤_, _<_};
 ghost use Rattle.model.specs.Problem.{Problem, isPair};
 ghost use Rattle.model.specs.Sheet.{permutesPairs};
-ghost use Rattle.arrays.specs.Layout.{pairCode};
-ghost use Rattle.sheet_symmetries.specs.Table.{Framed, TableAt, Asked, tableOf, tableAnswer};
+ghost use Rattle.arrays.specs.inner.Layout.{pairCode};
+ghost use Rattle.sheet_symmetries.specs.inner.Table.{Framed, TableAt, Asked, tableOf, tableAnswer};
 
 // The code of a pair number among d values: 16 times its variable plus its value.
 pub fn pair_code(q: usize, d: usize) -> usize
@@ -36,7 +36,8 @@ pub fn is_pair(numbers: &Numbers, q: usize) -> bool
 // Question 15 to the table at an offset.
 pub fn permutes(sheet: &[u8], offset: usize, numbers: &Numbers) -> bool
     requires { ⌜ ((p : Problem) × TableAt p (now sheet) offset (now numbers)) ⌝ }
-    ensures { λ r. ⌜ ((p : Problem) → TableAt p (now (sheet .entry)) offset (now (numbers .entry)) → r ≡ permutesPairs p (tableOf p (now (sheet .entry)) offset)) ⌝ }
+    ensures { λ r. ⌜ ((p : Problem) → TableAt p (now (sheet .entry)) offset (now (numbers .entry)) → r ≡ permutesPairs p
+        (tableOf p (now (sheet .entry)) offset)) ⌝ }
 {
     let mut codes = [0u8; 256];
     let mut moves = [0u8; 256];
@@ -46,7 +47,8 @@ pub fn permutes(sheet: &[u8], offset: usize, numbers: &Numbers) -> bool
 // 0 where the table at an offset passes both questions, else the number of the first whose answer is no.
 pub fn table_question(sheet: &[u8], offset: usize, numbers: &Numbers, supports: &Supports) -> u8
     requires { ⌜ ((p : Problem) × Asked p (now sheet) offset (now numbers) (now supports)) ⌝ }
-    ensures { λ r. ⌜ ((p : Problem) → Asked p (now (sheet .entry)) offset (now (numbers .entry)) (now (supports .entry)) → r ≡ tableAnswer p (now (sheet .entry)) offset) ⌝ }
+    ensures { λ r. ⌜ ((p : Problem) → Asked p (now (sheet .entry)) offset (now (numbers .entry)) (now (supports .entry)) → r ≡ tableAnswer p
+        (now (sheet .entry)) offset) ⌝ }
 {
     let mut codes = [0u8; 256];
     let mut moves = [0u8; 256];

@@ -1,10 +1,10 @@
 // Where a table takes the variables, and which values its images come from.
 ghost use mathlib.Core.Path.{_≡_};
-ghost use Prim.Native.Nat.{ℕ, _+_, _*_, _<_};
+ghost use Prim.Native.Nat.{_+_, _*_, _<_};
 ghost use Rattle.model.specs.Lists.{at};
 ghost use Rattle.model.specs.Problem.{Problem};
-ghost use Rattle.sheet_symmetries.specs.Table.{Framed};
-ghost use Rattle.sheet_symmetries.specs.Forbidden.{Blank, Target, Targets};
+ghost use Rattle.sheet_symmetries.specs.inner.Table.{Framed};
+ghost use Rattle.sheet_symmetries.specs.inner.Forbidden.{Blank, Target, Targets};
 use super::table::initial;
 use super::table::number;
 use super::table::wide;

@@ -10,9 +10,9 @@ ghost use mathlib.Core.Path.{_≡_};
 ghost use mathlib.Core.List.{List, [], _∷_};
 ghost use Prim.Native.Nat.{ℕ, _+_, _*_, _/_, _<_};
 ghost use Rattle.model.specs.Problem.{Problem};
-ghost use Rattle.arrays.specs.Places.{SUPPORTS};
-ghost use Rattle.sheet_symmetries.specs.Table.{Ready};
-ghost use Rattle.sheet_symmetries.specs.Forbidden.{PairCode, MaybePair, Triple, Lacking, On, Sure, blocked as blockedBy, numberOf};
+ghost use Rattle.arrays.specs.inner.Places.{SUPPORTS};
+ghost use Rattle.sheet_symmetries.specs.inner.Table.{Ready};
+ghost use Rattle.sheet_symmetries.specs.inner.Forbidden.{PairCode, MaybePair, Triple, Lacking, On, Sure, blocked as blockedBy, numberOf};
 
 // The values v for which the set at base + step * v lacks a value w.
 fn lacking(supports: &Supports, base: usize, step: usize, w: u16) -> ValueSet
@@ -87,7 +87,8 @@ pub fn surely_after(
     known: ValueSet,
 ) -> ValueSet
     requires { ⌜ ((p : Problem) × Ready p (now numbers) (now supports) × MaybePair p a × MaybePair p b × (y < 16)) ⌝ }
-    ensures { λ r. ⌜ ((p : Problem) → Ready p (now (numbers .entry)) (now (supports .entry)) → MaybePair p a → MaybePair p b → Sure p a b z (known .bits) → Sure p a b y (r .bits)) ⌝ }
+    ensures { λ r. ⌜ ((p : Problem) → Ready p (now (numbers .entry)) (now (supports .entry)) → MaybePair p a → MaybePair p b → Sure p a b z (known .bits)
+        → Sure p a b y (r .bits)) ⌝ }
 {
     if y == z {
         known
@@ -106,7 +107,8 @@ pub fn third_blocked(
     sure: ValueSet,
 ) -> bool
     requires { ⌜ ((p : Problem) × Triple p (now numbers) (now supports) a b e) ⌝ }
-    ensures { λ r. ⌜ ((p : Problem) → Triple p (now (numbers .entry)) (now (supports .entry)) a b e → PairCode p e → Sure p a b (e / 16) (sure .bits) → r ≡ blockedBy p (numberOf p a ∷ numberOf p b ∷ numberOf p e ∷ [])) ⌝ }
+    ensures { λ r. ⌜ ((p : Problem) → Triple p (now (numbers .entry)) (now (supports .entry)) a b e → PairCode p e → Sure p a b (e / 16) (sure .bits)
+        → r ≡ blockedBy p (numberOf p a ∷ numberOf p b ∷ numberOf p e ∷ [])) ⌝ }
 {
     if sure.contains((e % 16) as u16) {
         return true;

@@ -6,7 +6,7 @@ ghost use Prim.Native.Nat.{_/_, _<_};
 ghost use lib.Dec.{T};
 ghost use Rattle.model.specs.ValueSets.{members};
 ghost use Rattle.model.specs.Problem.{Problem};
-ghost use Rattle.sheet_symmetries.specs.Forbidden.{Triple, Beside, blocked as blockedBy, numberOf, allBlocked};
+ghost use Rattle.sheet_symmetries.specs.inner.Forbidden.{Triple, Beside, blocked as blockedBy, numberOf, allBlocked};
 use super::forbidden::arity;
 use super::forbidden::blocked;
 use super::forbidden::support;
@@ -19,7 +19,8 @@ use model::ValueSet;
 // True only where a constraint on two variables refuses the pairs a and b, of which a has the lower.
 fn refused_two(numbers: &Numbers, supports: &Supports, a: usize, b: usize) -> bool
     requires { ⌜ ((p : Problem) × Triple p (now numbers) (now supports) 255 a b) × (a / 16 < b / 16) ⌝ }
-    ensures { λ r. ⌜ (r ≡ true → (p : Problem) → Triple p (now (numbers .entry)) (now (supports .entry)) 255 a b → T (blockedBy p (numberOf p a ∷ numberOf p b ∷ []))) ⌝ }
+    ensures { λ r. ⌜ (r ≡ true → (p : Problem) → Triple p (now (numbers .entry)) (now (supports .entry)) 255 a b → T
+        (blockedBy p (numberOf p a ∷ numberOf p b ∷ []))) ⌝ }
 {
     let set = number(numbers, a / 16) & number(numbers, b / 16);
     if set == 0 {
@@ -35,7 +36,8 @@ fn refused_two(numbers: &Numbers, supports: &Supports, a: usize, b: usize) -> bo
 // Whether some forbidden set lies among two pairs.
 fn pair_blocked(numbers: &Numbers, supports: &Supports, a: usize, b: usize) -> bool
     requires { ⌜ ((p : Problem) × Triple p (now numbers) (now supports) 255 a b) ⌝ }
-    ensures { λ r. ⌜ ((p : Problem) → Triple p (now (numbers .entry)) (now (supports .entry)) 255 a b → r ≡ blockedBy p (numberOf p 255 ∷ numberOf p a ∷ numberOf p b ∷ [])) ⌝ }
+    ensures { λ r. ⌜ ((p : Problem) → Triple p (now (numbers .entry)) (now (supports .entry)) 255 a b → r ≡ blockedBy p
+        (numberOf p 255 ∷ numberOf p a ∷ numberOf p b ∷ [])) ⌝ }
 {
     if a / 16 < b / 16 {
         if refused_two(numbers, supports, a, b) {
@@ -60,7 +62,8 @@ pub fn pairs_blocked(
     b: usize,
 ) -> bool
     requires { ⌜ ((p : Problem) × Beside p (now numbers) (now supports) (now codes) x (set .bits) 255 b) ⌝ }
-    ensures { λ r. ⌜ ((p : Problem) → Beside p (now (numbers .entry)) (now (supports .entry)) (now (codes .entry)) x (set .bits) 255 b → r ≡ allBlocked p (now (codes .entry)) x 255 b (members (set .bits))) ⌝ }
+    ensures { λ r. ⌜ ((p : Problem) → Beside p (now (numbers .entry)) (now (supports .entry)) (now (codes .entry)) x (set .bits) 255 b → r ≡ allBlocked p
+        (now (codes .entry)) x 255 b (members (set .bits))) ⌝ }
 {
     let mut rest = set;
     while !rest.is_empty() {

@@ -1,14 +1,15 @@
 // Question 16: the forbidden sets one after another, and whether the image of each is blocked.
 ghost use mathlib.Core.Path.{_≡_};
+ghost use mathlib.Core.Bool.{true};
 ghost use mathlib.Core.List.{List, []};
 ghost use Prim.Native.Nat.{ℕ, _+_, _*_, _<_};
 ghost use lib.ListN.{length, drop};
 ghost use Rattle.model.specs.Lists.{at, all, below};
 ghost use Rattle.model.specs.ValueSets.{members};
 ghost use Rattle.model.specs.Problem.{Problem};
-ghost use Rattle.arrays.specs.Layout.{constraintAt};
-ghost use Rattle.sheet_symmetries.specs.Table.{Ready};
-ghost use Rattle.sheet_symmetries.specs.Forbidden.{Lent, Chosen, Walking, Choices, Beside, keeps, allBlocked, doublings};
+ghost use Rattle.model.specs.Problem.{constraintAt};
+ghost use Rattle.sheet_symmetries.specs.inner.Table.{Ready};
+ghost use Rattle.sheet_symmetries.specs.inner.Forbidden.{Lent, Chosen, Walking, Choices, Beside, Held, keeps, allBlocked, doublings};
 use super::carried::carried;
 use super::forbidden::arity;
 use super::forbidden::clash;
@@ -37,8 +38,10 @@ fn choices(
     key: usize,
     x: usize,
 ) -> ValueSet
-    requires { ⌜ ((p : Problem) × (vs : List ℕ) × Ready p (now numbers) (now supports) × Chosen p vs k ahead key × (ahead ≡ 0 → ⊥) × (x ≡ at (constraintAt p k .scope) (length vs))) ⌝ }
-    ensures { λ r. ⌜ ((p : Problem) (vs codes : List ℕ) → Ready p (now (numbers .entry)) (now (supports .entry)) → Chosen p vs k ahead key → (ahead ≡ 0 → ⊥) → x ≡ at (constraintAt p k .scope) (length vs) → Choices p vs codes k ahead (r .bits)) ⌝ }
+    requires { ⌜ ((p : Problem) × (vs : List ℕ) × Ready p (now numbers) (now supports) × Chosen p vs k ahead key × (ahead ≡ 0 → ⊥) ×
+        (x ≡ at (constraintAt p k .scope) (length vs))) ⌝ }
+    ensures { λ r. ⌜ ((p : Problem) (vs codes : List ℕ) → Ready p (now (numbers .entry)) (now (supports .entry)) → Chosen p vs k ahead key → (ahead ≡ 0 → ⊥)
+        → x ≡ at (constraintAt p k .scope) (length vs) → Choices p vs codes k ahead (r .bits)) ⌝ }
 {
     let set = initial(numbers, x);
     if ahead == 1 {
@@ -46,6 +49,18 @@ fn choices(
     } else {
         set
     }
+}
+
+// True only where one variable of constraint k is ahead and each of its values makes a row: there is no choice to walk.
+fn all_rows(numbers: &Numbers, supports: &Supports, k: usize, ahead: usize, key: usize) -> bool
+    requires { ⌜ ((p : Problem) × (vs : List ℕ) × Ready p (now numbers) (now supports) × Chosen p vs k ahead key) ⌝ }
+    ensures { λ r. ⌜ (r ≡ true → Held (now (numbers .entry)) (now (supports .entry)) k ahead key) ⌝ }
+{
+    if ahead != 1 {
+        return false;
+    }
+    let x = scope_at(numbers, k, arity(numbers, k) - 1);
+    choices(numbers, supports, k, 1, key, x).is_empty()
 }
 
 // Whether the pairs a and b are blocked with the image of (x, v) for each v of a set.
@@ -60,7 +75,8 @@ fn all_blocked(
     b: usize,
 ) -> bool
     requires { ⌜ ((p : Problem) × Beside p (now numbers) (now supports) (now codes) x (set .bits) a b) ⌝ }
-    ensures { λ r. ⌜ ((p : Problem) → Beside p (now (numbers .entry)) (now (supports .entry)) (now (codes .entry)) x (set .bits) a b → r ≡ allBlocked p (now (codes .entry)) x a b (members (set .bits))) ⌝ }
+    ensures { λ r. ⌜ ((p : Problem) → Beside p (now (numbers .entry)) (now (supports .entry)) (now (codes .entry)) x (set .bits) a b → r ≡ allBlocked p
+        (now (codes .entry)) x a b (members (set .bits))) ⌝ }
 {
     if a == 255 {
         return pairs_blocked(numbers, supports, codes, x, set, b);
@@ -98,8 +114,11 @@ fn walk(
     a: usize,
     b: usize,
 ) -> bool
-    requires { ⌜ ((p : Problem) × (vs : List ℕ) × (z : ℕ) × Walking p vs (now numbers) (now supports) (now codes) (now moves) k ahead key z a b × (ahead ≡ 0 → ⊥)) ⌝ }
-    ensures { λ r. ⌜ ((p : Problem) (vs : List ℕ) (z : ℕ) → Walking p vs (now (numbers .entry)) (now (supports .entry)) (now (codes .entry)) (now (moves .entry)) k ahead key z a b → (ahead ≡ 0 → ⊥) → r ≡ keeps p (now (codes .entry)) (constraintAt p k) (drop (length vs) (constraintAt p k .scope)) vs) ⌝ }
+    requires { ⌜ ((p : Problem) × (vs : List ℕ) × (z : ℕ) × Walking p vs (now numbers) (now supports) (now codes) (now moves) k ahead key z a b ×
+        (ahead ≡ 0 → ⊥)) ⌝ }
+    ensures { λ r. ⌜ ((p : Problem) (vs : List ℕ) (z : ℕ) → Walking p vs (now (numbers .entry)) (now (supports .entry)) (now (codes .entry))
+        (now (moves .entry)) k ahead key z a b → (ahead ≡ 0 → ⊥) → r ≡ keeps p (now (codes .entry)) (constraintAt p k)
+        (drop (length vs) (constraintAt p k .scope)) vs) ⌝ }
 {
     let x = scope_at(numbers, k, arity(numbers, k) - ahead);
     let mut set = choices(numbers, supports, k, ahead, key, x);
@@ -112,18 +131,21 @@ fn walk(
     while !set.is_empty() {
         let v = set.lowest();
         set = set.without(v as u16);
-        if !walk(
-            numbers,
-            supports,
-            codes,
-            moves,
-            k,
-            ahead - 1,
-            16 * key + v as usize,
-            b,
-            place(codes, 16 * x + v as usize),
-        ) {
-            return false;
+        let row = 16 * key + v as usize;
+        if !all_rows(numbers, supports, k, ahead - 1, row) {
+            if !walk(
+                numbers,
+                supports,
+                codes,
+                moves,
+                k,
+                ahead - 1,
+                row,
+                b,
+                place(codes, 16 * x + v as usize),
+            ) {
+                return false;
+            }
         }
     }
     true
@@ -137,7 +159,8 @@ pub fn constraints(
     moves: &[u8; 256],
 ) -> bool
     requires { ⌜ ((p : Problem) × Lent p (now numbers) (now supports) (now codes) (now moves)) ⌝ }
-    ensures { λ r. ⌜ ((p : Problem) → Lent p (now (numbers .entry)) (now (supports .entry)) (now (codes .entry)) (now (moves .entry)) → r ≡ all (λ c. keeps p (now (codes .entry)) c (c .scope) []) (p .constraints)) ⌝ }
+    ensures { λ r. ⌜ ((p : Problem) → Lent p (now (numbers .entry)) (now (supports .entry)) (now (codes .entry)) (now (moves .entry)) → r ≡ all
+        (λ c. keeps p (now (codes .entry)) c (c .scope) []) (p .constraints)) ⌝ }
 {
     let c = number(numbers, CONSTRAINTS);
     let mut k = 0;
@@ -169,7 +192,8 @@ fn doubles(
     x: usize,
 ) -> bool
     requires { ⌜ ((p : Problem) × Lent p (now numbers) (now supports) (now codes) (now moves) × (x < p .variables)) ⌝ }
-    ensures { λ r. ⌜ ((p : Problem) → Lent p (now (numbers .entry)) (now (supports .entry)) (now (codes .entry)) (now (moves .entry)) → x < p .variables → r ≡ doublings p (now (codes .entry)) x (members (at (p .initial) x))) ⌝ }
+    ensures { λ r. ⌜ ((p : Problem) → Lent p (now (numbers .entry)) (now (supports .entry)) (now (codes .entry)) (now (moves .entry)) → x < p .variables
+        → r ≡ doublings p (now (codes .entry)) x (members (at (p .initial) x))) ⌝ }
 {
     if place(moves, TO + x) != 15 {
         return true;
@@ -200,7 +224,8 @@ pub fn variables(
     moves: &[u8; 256],
 ) -> bool
     requires { ⌜ ((p : Problem) × Lent p (now numbers) (now supports) (now codes) (now moves)) ⌝ }
-    ensures { λ r. ⌜ ((p : Problem) → Lent p (now (numbers .entry)) (now (supports .entry)) (now (codes .entry)) (now (moves .entry)) → r ≡ all (λ x. doublings p (now (codes .entry)) x (members (at (p .initial) x))) (below (p .variables))) ⌝ }
+    ensures { λ r. ⌜ ((p : Problem) → Lent p (now (numbers .entry)) (now (supports .entry)) (now (codes .entry)) (now (moves .entry)) → r ≡ all
+        (λ x. doublings p (now (codes .entry)) x (members (at (p .initial) x))) (below (p .variables))) ⌝ }
 {
     let n = number(numbers, VARIABLES);
     let mut x = 0;

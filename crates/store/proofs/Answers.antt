@@ -1,24 +1,11 @@
 -- What the code's answers come to, case by case. Assumes nothing.
-use mathlib.Core.Path.{_≡_, sym, ap, ap₂, _∙_}
-use mathlib.Core.Bool.{Bool}
-use mathlib.Core.List.{List, _++_}
-use Prim.Native.Nat.{ℕ, _+_, _-_, _≤_, _<_, min}
+use Rattle.model.specs.Kit.{_≡_, sym, ap, ap₂, _∙_, Bool, List, _++_, ℕ, _+_, _-_, _≤_, _<_, min, arith, leb, ltb, length, take, drop, length-drop, length-take-le, lt-ltb, le-ltb}
+use Rattle.model.specs.Kit.{le-leb, lt-leb}
 use native.Mathlib.Nat.{zero-add}
-use native.Mathlib.Omega.{arith}
-use lib.Dec.{leb, ltb}
-use lib.ListN.{length, take, drop, length-drop}
-use lib.Seq.{length-take-le}
-use borrow.Author.Tests.{lt-ltb, le-ltb, le-leb, lt-leb}
-use Rattle.model.specs.Lists.{at}
-use Rattle.model.specs.Verdict.{Verdict, accepted, refused, ask}
-use Rattle.model.specs.Sheet.{«word»}
-use Rattle.model.specs.Written.{placed}
-use Rattle.model.specs.Room.{Outcome, wrote, refusal}
+use Rattle.model.specs.{Lists.at, Verdict.Verdict, Verdict.accepted, Verdict.refused, Verdict.ask, Sheet.«word», Written.placed, Room.Outcome, Room.wrote, Room.refusal}
 use Rattle.store.specs.Store.{Entry, table, isTable, tableIn, Action, put, fetch, remove, call, actionVerdict, callVerdict, storeAfter, written, roomIn, replyOf}
 use Rattle.store.specs.Layout.{size, slotAt, tableAt, slotWith, storeOf, slotFor, changed, verdictOn, replyOn, bytesAfter}
-use Rattle.store.proofs.Slots.{entry-there}
-use Rattle.store.proofs.Free.{held-with, room-left}
-use Rattle.store.proofs.Calls.{after-accepted, after-refused, verdict-whole, means-after}
+use Rattle.store.proofs.{Slots.entry-there, Free.held-with, Free.room-left, Calls.after-accepted, Calls.after-refused, Calls.verdict-whole, Calls.means-after}
 
 -- ---- by the verdict
 module _ (b : List ℕ) (o key : ℕ) (a : Action) where

@@ -1,23 +1,16 @@
 -- A call on bytes is the call on the store that they mean (specs/Claims). Assumes nothing.
-use mathlib.Core.Path.{_≡_, refl, sym, ap, ap₂, _∙_, subst, fun-ext}
-use mathlib.Core.Bool.{Bool, true, false}
-use mathlib.Core.List.{List, [], _∷_, List·Memᴰ, List·Memᴰ·head, List·Memᴰ·tail}
-use Prim.Native.Nat.{ℕ, zero, suc, _+_, _-_, _≤_, _<_}
-use native.Mathlib.Omega.{arith}
-use lib.Dec.{leb, ltb, eqb, leb→le}
-use lib.ListN.{length, set, replicate, length-replicate}
+use Rattle.model.specs.Kit.{_≡_, refl, sym, ap, ap₂, _∙_, subst, Bool, true, false, List, [], _∷_, List·Memᴰ, List·Memᴰ·head, List·Memᴰ·tail, ℕ, zero, suc, _+_, _-_, _≤_, _<_}
+use Rattle.model.specs.Kit.{arith, leb, ltb, eqb, leb→le, length, set, replicate, length-replicate, ltb-true, ltb-false, eqb-true, eqb-false, eq-eqb, ne-eqb}
+use mathlib.Core.Path.{fun-ext}
 use lib.Seq.{set-out}
-use borrow.Author.Tests.{ltb-true, ltb-false, eqb-true, eqb-false, eq-eqb, ne-eqb}
-use Rattle.model.specs.Lists.{both, either, choose, at}
-use Rattle.model.specs.Verdict.{Verdict, accepted, refused, ask, isAccepted}
-use Rattle.model.specs.Written.{placed}
-use Rattle.model.proofs.Lists.{of-T, at-replicate, set-each}
-use Rattle.model.proofs.Written.{length-placed, placed-before, placed-in, placed-after}
-use Rattle.store.specs.Store.{isTable, Store, keysOf, Action, put, fetch, remove, Call, call, actionVerdict, callVerdict, entryAfter, storeAfter, Reply, replyOf, replyTo, storeEnd, ownerOf, repliesTo}
-use Rattle.store.specs.Layout.{size, slotAt, holds, slotWith, storeOf, slotFor, slotBytes, freed, changed, verdictOn, replyOn, bytesAfter}
-use Rattle.store.specs.Claims.{StoreBytes, ByteCall, ByteCalls, Zeros-empty, Each-call, bytesEnd, repliesOn, All-calls, Isolated-bytes}
-use Rattle.store.proofs.Store.{here-after, there-after, refused-same, ask-e, isolated}
-use Rattle.store.proofs.Slots.{holds-free, with-is, entry-none, put-here, put-there, put-elsewhere, remove-here, remove-there, remove-elsewhere, freed-length}
+use Rattle.model.specs.{Lists.both, Lists.either, Lists.choose, Lists.at, Verdict.Verdict, Verdict.accepted, Verdict.refused, Verdict.ask, Verdict.isAccepted, Written.placed}
+use Rattle.model.proofs.{Lists.of-T, Lists.at-replicate, Lists.set-each, Written.length-placed, Written.placed-before, Written.placed-in, Written.placed-after}
+use Rattle.store.specs.Store.{isTable, Store, keysOf, Action, put, fetch, remove, Call, call, actionVerdict, callVerdict, entryAfter, storeAfter, Reply, replyOf, replyTo}
+use Rattle.store.specs.{Store.storeEnd, Store.ownerOf, Store.repliesTo, Layout.size, Layout.slotAt, Layout.holds, Layout.slotWith, Layout.storeOf, Layout.slotFor}
+use Rattle.store.specs.{Layout.slotBytes, Layout.freed, Layout.changed, Layout.verdictOn, Layout.replyOn, Layout.bytesAfter, Claims.StoreBytes, Claims.ByteCall}
+use Rattle.store.specs.Claims.{ByteCalls, Zeros-empty, Each-call, bytesEnd, repliesOn, All-calls, Isolated-bytes}
+use Rattle.store.proofs.{Store.here-after, Store.there-after, Store.refused-same, Store.ask-e, Store.isolated, Slots.holds-free, Slots.with-is, Slots.entry-none}
+use Rattle.store.proofs.Slots.{put-here, put-there, put-elsewhere, remove-here, remove-there, remove-elsewhere, freed-length}
 use Rattle.store.proofs.Free.{room-left}
 
 -- ---- what the bytes mean after a call
@@ -56,7 +49,8 @@ remove-owner b o key e = ltb-true o 4 (of-T _ (ask-e (ltb o 4) 31 0 _ e .0))
 changed-means : (b : List ℕ) (x : Call) → StoreBytes b → callVerdict (storeOf b) x ≡ accepted → storeOf (changed b x) ≡ storeAfter (storeOf b) x
 changed-means b (call o key (put t)) g e =
     let f = put-fits b o key t (g .1) e in
-    changed-to b _ o key (put t) e (put-here b (g .0) o key t (f .owner) (f .short) (f .slot)) (put-there b (g .0) o key t (f .owner) (f .short) (f .slot)) (put-elsewhere b (g .0) o key t (f .owner) (f .short) (f .slot))
+    changed-to b _ o key (put t) e (put-here b (g .0) o key t (f .owner) (f .short) (f .slot)) (put-there b (g .0) o key t (f .owner) (f .short) (f .slot))
+    (put-elsewhere b (g .0) o key t (f .owner) (f .short) (f .slot))
 changed-means b (call o key (fetch room)) g e = changed-to b b o key (fetch room) e refl (λ k n. refl) (λ o′ k n. refl)
 changed-means b (call o key remove) g e =
     let l = remove-owner b o key e in

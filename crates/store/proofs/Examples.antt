@@ -1,10 +1,8 @@
 -- The examples of specs/Examples, by computation. Assumes nothing.
-use mathlib.Core.Path.{refl}
-use Rattle.model.specs.Lists.{keep, below, upFrom}
-use Rattle.model.specs.Examples.{Each}
+use Rattle.model.specs.Kit.{refl}
+use Rattle.model.specs.{Lists.keep, Lists.below, Lists.upFrom, Examples.Each}
 use Rattle.store.specs.Store.{keysOf, actionVerdict, callVerdict, storeAfter, replyTo, storeEnd, callsOf, repliesTo}
-use Rattle.store.specs.Claims.{allSpare}
-use Rattle.store.specs.Examples.{testsStore}
+use Rattle.store.specs.{Claims.allSpare, inner.Examples.testsStore}
 
 pub examples-store : Each testsStore
 unfolding keep below upFrom keysOf actionVerdict callVerdict storeAfter replyTo storeEnd callsOf repliesTo allSpare

@@ -1,21 +1,12 @@
 -- A slot is free, or has the key, exactly where question 32 is passed. Assumes nothing.
-use mathlib.Core.Path.{_≡_, refl, sym, ap, _∙_, subst}
-use mathlib.Core.Bool.{Bool, true, false, not}
-use mathlib.Core.List.{List, map, List·Memᴰ, Memᴰ·map, Memᴰ·of-map}
-use Prim.Native.Nat.{ℕ, zero, suc, _+_, _≤_, _<_}
-use native.Mathlib.Omega.{arith}
-use lib.Dec.{T, ltb, eqb}
-use lib.ListN.{length, length-map}
-use borrow.Author.Tests.{ltb-true, ltb-false, lt-ltb, le-ltb, ne-eqb, eqb-false}
-use Rattle.model.specs.ValueSets.{least}
-use Rattle.model.specs.Lists.{either, keep, below, upFrom, at}
-use Rattle.model.proofs.Lists.{T-of, of-T, keep-i, keep-e, below-i, below-e, length-below}
-use Rattle.model.proofs.Counting.{distinct-below, no-more}
-use Rattle.store.specs.Store.{isTable, keysOf}
-use Rattle.store.specs.Layout.{slotAt, slotWith, storeOf, isFree, slotFor}
+use Rattle.model.specs.Kit.{_≡_, refl, sym, ap, _∙_, subst, Bool, true, false, not, List, map, List·Memᴰ, Memᴰ·map, Memᴰ·of-map, ℕ, zero, suc, _+_, _≤_, _<_, arith, T, ltb, eqb}
+use Rattle.model.specs.Kit.{length, length-map, ltb-true, ltb-false, lt-ltb, le-ltb, ne-eqb, eqb-false}
+use Rattle.model.specs.{ValueSets.least, Lists.either, Lists.keep, Lists.below, Lists.upFrom, Lists.at}
+use Rattle.model.proofs.{Lists.T-of, Lists.of-T, Lists.keep-i, Lists.keep-e, Lists.below-i, Lists.below-e, Lists.length-below, Counting.distinct-below, Counting.no-more}
 use Rattle.model.proofs.Least.{first-no, first-yes}
-use Rattle.store.proofs.Store.{keys-distinct}
-use Rattle.store.proofs.Slots.{holds-e, holds-i, with-holds, with-before, entry-there, entry-none, for-held, for-free, free-no}
+use Rattle.store.specs.{Store.isTable, Store.keysOf, Layout.slotAt, Layout.slotWith, Layout.storeOf, Layout.isFree, Layout.slotFor}
+use Rattle.store.proofs.{Store.keys-distinct, Slots.holds-e, Slots.holds-i, Slots.with-holds, Slots.with-before, Slots.entry-there, Slots.entry-none, Slots.for-held}
+use Rattle.store.proofs.Slots.{for-free, free-no}
 
 module _ (b : List ℕ) (o : ℕ) (own : o < 4) where
   -- a key has a table exactly where it has a slot
@@ -60,7 +51,8 @@ module _ (b : List ℕ) (o : ℕ) (own : o < 4) where
             let l = below-e 4 (r .0) (r .1) in
             let w = four (r .0) l in
             subst (λ (z : ℕ). List·Memᴰ z (keysOf (storeOf b o))) (r .2)
-            (keep-i (λ key. isTable (storeOf b o key)) (below 256) (keyAt (r .0)) (below-i 256 (keyAt (r .0)) (bytes (slotAt o (r .0) + 1))) (T-of _ (held-with (keyAt (r .0)) ∙ lt-ltb (slotWith b o (keyAt (r .0))) 4 (omega arith))))
+            (keep-i (λ key. isTable (storeOf b o key)) (below 256) (keyAt (r .0)) (below-i 256 (keyAt (r .0)) (bytes (slotAt o (r .0) + 1)))
+            (T-of _ (held-with (keyAt (r .0)) ∙ lt-ltb (slotWith b o (keyAt (r .0))) 4 (omega arith))))
 
   -- a slot is free: the other three have all keys that are held
   others : ℕ → List ℕ
@@ -92,7 +84,8 @@ module _ (b : List ℕ) (o : ℕ) (own : o < 4) where
           let e = holds-e b k (slotAt o (slotWith b o k)) (with-holds b o k w) .1 in
           let n : (slotWith b o k ≡ least 4 (isFree b o) → ⊥) = free-no b o (least 4 (isFree b o)) k h (first-yes (isFree b o) 4 h) in
           subst (λ (z : ℕ). List·Memᴰ z (map keyAt (others (least 4 (isFree b o))))) e
-          (Memᴰ·map keyAt (keep-i (λ j. not (eqb j (least 4 (isFree b o)))) (below 4) (slotWith b o k) (below-i 4 (slotWith b o k) w) (T-of _ (ap not (ne-eqb (slotWith b o k) (least 4 (isFree b o)) n)))))
+          (Memᴰ·map keyAt (keep-i (λ j. not (eqb j (least 4 (isFree b o)))) (below 4) (slotWith b o k) (below-i 4 (slotWith b o k) w)
+          (T-of _ (ap not (ne-eqb (slotWith b o k) (least 4 (isFree b o)) n)))))
 
   -- question 32
   pub room-left : ((i : ℕ) → at b i < 256) → (key : ℕ) → either (isTable (storeOf b o key)) (ltb (length (keysOf (storeOf b o))) 4) ≡ ltb (slotFor b o key) 4

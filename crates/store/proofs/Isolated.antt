@@ -1,19 +1,9 @@
 -- Calls of several owners on one store (specs/Calls), from the contracts and the theorems about the bytes. Assumes nothing.
-use mathlib.Core.Path.{_≡_, refl, sym, ap, ap₂, _∙_}
-use mathlib.Core.Bool.{Bool, true, false}
-use mathlib.Core.List.{List, [], _∷_, map}
-use Prim.Native.Nat.{ℕ}
-use native.Mathlib.Omega.{arith}
-use lib.Dec.{eqb}
-use Rattle.model.specs.Lists.{choose}
-use Rattle.model.specs.Verdict.{Verdict, accepted, refused, isAccepted}
-use Rattle.store.specs.Store.{Entry, Call, call, put, fetch, remove, Reply, replyOf}
-use Rattle.store.specs.Layout.{storeOf, verdictOn, replyOn, changed, bytesAfter}
-use Rattle.store.specs.Claims.{repliesOn}
-use Rattle.store.specs.Meaning.{means}
-use Rattle.store.specs.declared.Answer.{Answer}
-use Rattle.store.specs.declared.Answer.the-variants.{Done, Refused}
-use Rattle.store.specs.Calls.{Got, own, Called, none, puts, fetches, removes, Isolated-calls}
+use Rattle.model.specs.Kit.{_≡_, refl, sym, ap, ap₂, _∙_, Bool, true, false, List, [], _∷_, map, ℕ, arith, eqb}
+use Rattle.model.specs.{Lists.choose, Verdict.Verdict, Verdict.accepted, Verdict.refused, Verdict.isAccepted}
+use Rattle.store.specs.{Store.Entry, Store.Call, Store.call, Store.put, Store.fetch, Store.remove, Store.Reply, Store.replyOf, Layout.storeOf, Layout.verdictOn}
+use Rattle.store.specs.{Layout.replyOn, Layout.changed, Layout.bytesAfter, Claims.repliesOn, Meaning.means, declared.Answer.Answer, declared.Answer.the-variants.Done}
+use Rattle.store.specs.{declared.Answer.the-variants.Refused, Calls.Got, Calls.own, Calls.Called, Calls.none, Calls.puts, Calls.fetches, Calls.removes, Calls.Isolated-calls}
 use Rattle.store.proofs.Calls.{isolated-bytes}
 
 -- what was handed back, in the words of the definitions

@@ -1,20 +1,12 @@
 -- Fetched tables in a sheet (specs/Claims): they stand at its third offset, and questions 14 to 16 are put to them. Assumes nothing.
-use mathlib.Core.Path.{_≡_, refl, sym, ap, ap₂, _∙_, subst}
-use mathlib.Core.Bool.{Bool, true, false, not}
-use mathlib.Core.Logic.{_⊎_, inl, inr}
-use mathlib.Core.List.{List, [], _∷_, _++_}
-use Prim.Native.Nat.{ℕ, zero, suc, _+_, _-_, _*_, _^_, _≤_, _<_}
-use native.Mathlib.Omega.{arith}
-use lib.Dec.{leb, ltb, eqb}
-use lib.ListN.{length, drop}
-use borrow.Author.Tests.{le-leb}
-use Rattle.model.specs.Lists.{all, both, below, at, ascending, rowsAscend}
-use Rattle.model.specs.Verdict.{Verdict, accepted, ask}
-use Rattle.model.specs.Sheet.{Header, «word», words, headerOf, scopeAt, rowsAt, afterAt, tableAt, problemOf, headerVerdict, setsVerdict, constraintVerdict, constraintsVerdict, formVerdict, symmetriesVerdict, verdictOf}
+use Rattle.model.specs.Kit.{_≡_, refl, sym, ap, ap₂, _∙_, subst, Bool, true, false, not, _⊎_, inl, inr, List, [], _∷_, _++_, ℕ, zero, suc, _+_, _-_, _*_, _^_, _≤_, _<_, arith, leb}
+use Rattle.model.specs.Kit.{ltb, eqb, length, drop, le-leb}
+use Rattle.model.specs.{Lists.all, Lists.both, Lists.below, Lists.at, Lists.ascending, Lists.rowsAscend, Verdict.Verdict, Verdict.accepted, Verdict.ask, Sheet.Header, Sheet.«word»}
+use Rattle.model.specs.Sheet.{words, headerOf, scopeAt, rowsAt, afterAt, tableAt, problemOf, headerVerdict, setsVerdict, constraintVerdict, constraintsVerdict, formVerdict}
+use Rattle.model.specs.Sheet.{symmetriesVerdict, verdictOf}
 use Rattle.model.proofs.Lists.{at-append, at-skip, map-ext}
-use Rattle.store.specs.Store.{Entry, table, isTable, tableIn, call, fetch, actionVerdict, replyOf}
-use Rattle.store.specs.Layout.{size, storeOf, verdictOn, replyOn}
-use Rattle.store.specs.Claims.{Early, tablesIn, Asked-as-any}
+use Rattle.store.specs.{Store.Entry, Store.table, Store.isTable, Store.tableIn, Store.call, Store.fetch, Store.actionVerdict, Store.replyOf, Layout.size, Layout.storeOf}
+use Rattle.store.specs.{Layout.verdictOn, Layout.replyOn, Claims.Early, Claims.tablesIn, Claims.Asked-as-any}
 use Rattle.store.proofs.Answers.{asks-more}
 
 -- ---- an answer to an earlier question, or what is asked last
@@ -28,7 +20,8 @@ early-ask last false number item later h r = inl h
 early-sets : (last : Verdict) (b : List ℕ) (h : Header) (xs : List ℕ) (later : Verdict) → EarlyOr last later → EarlyOr last (setsVerdict b h xs later)
 unfolding setsVerdict
 early-sets last b h [] later r = r
-early-sets last b h (x ∷ xs) later r = early-ask last (both (ltb («word» b (16 + 2 * x)) (2 ^ h .values)) (not (eqb («word» b (16 + 2 * x)) 0))) 8 x (setsVerdict b h xs later) (omega arith) (early-sets last b h xs later r)
+early-sets last b h (x ∷ xs) later r = early-ask last (both (ltb («word» b (16 + 2 * x)) (2 ^ h .values)) (not (eqb («word» b (16 + 2 * x)) 0))) 8 x (setsVerdict b h xs later) (omega arith)
+    (early-sets last b h xs later r)
 
 early-constraints : (last : Verdict) (b : List ℕ) (h : Header) (k i o : ℕ) (later : Verdict) → EarlyOr last later → EarlyOr last (constraintsVerdict b h k i o later)
 unfolding constraintsVerdict constraintVerdict

@@ -1,25 +1,14 @@
 -- What the store's bytes mean (specs/Layout), and what they mean after a table was put into a slot and after slots were freed. Assumes nothing.
-use mathlib.Core.Path.{_≡_, refl, sym, ap, ap₂, _∙_, subst}
-use mathlib.Core.Bool.{Bool, true, false, not}
-use mathlib.Core.Logic.{_⊎_, ⊎-elim}
-use mathlib.Core.List.{List, _∷_, _++_, append-assoc}
-use Prim.Native.Nat.{ℕ, zero, suc, _+_, _*_, _/_, _%_, _≤_, _<_, min}
-use native.Mathlib.Numerals.{add-one}
-use native.Mathlib.Omega.{arith}
-use lib.Dec.{T-not, ltb, eqb, eqb→eq}
-use lib.ListN.{length, take, drop, set, length-take, length-drop, length-set}
-use lib.Seq.{getD-drop, length-take-le, take-append-seam, drop-at}
-use borrow.Author.Tests.{ltb-true, ltb-false, lt-ltb, le-ltb, eq-eqb, ne-eqb, eqb-true, eqb-false}
-use Rattle.model.specs.ValueSets.{least}
-use Rattle.model.specs.Lists.{both, either, choose, at}
-use Rattle.model.specs.Sheet.{«word»}
-use Rattle.model.specs.Bytes.{twoBytes}
-use Rattle.model.specs.Written.{placed}
+use Rattle.model.specs.Kit.{_≡_, refl, sym, ap, ap₂, _∙_, subst, Bool, true, false, not, _⊎_, ⊎-elim, List, _∷_, _++_, append-assoc, ℕ, zero, suc, _+_, _*_, _/_, _%_, _≤_, _<_}
+use Rattle.model.specs.Kit.{min, add-one, arith, T-not, ltb, eqb, eqb→eq, length, take, drop, set, length-take, length-drop, length-set, getD-drop, length-take-le, ltb-true}
+use Rattle.model.specs.Kit.{ltb-false, lt-ltb, le-ltb, eq-eqb, ne-eqb, eqb-true, eqb-false}
+use lib.Seq.{take-append-seam, drop-at}
+use Rattle.model.specs.{ValueSets.least, Lists.both, Lists.either, Lists.choose, Lists.at, Sheet.«word», Bytes.twoBytes, Written.placed}
 use Rattle.model.proofs.Lists.{T-of, of-T, not-of, both-l, both-r, either-e, at-take, at-ext, at-set, at-set-other}
-use Rattle.model.proofs.Written.{length-placed, placed-then, placed-before, placed-in, placed-after}
-use Rattle.store.specs.Store.{Entry, none, table}
-use Rattle.store.specs.Layout.{size, slotAt, holds, tableAt, slotWith, storeOf, isFree, slotFor, slotBytes, freed}
-use Rattle.model.proofs.Least.{first-is, first-most, first-no, first-yes, first-before, first-same}
+use Rattle.model.proofs.{Written.length-placed, Written.placed-then, Written.placed-before, Written.placed-in, Written.placed-after, Least.first-is, Least.first-most}
+use Rattle.model.proofs.Least.{first-no, first-yes, first-before, first-same}
+use Rattle.store.specs.{Store.Entry, Store.none, Store.table, Layout.size, Layout.slotAt, Layout.holds, Layout.tableAt, Layout.slotWith, Layout.storeOf, Layout.isFree}
+use Rattle.store.specs.Layout.{slotFor, slotBytes, freed}
 
 -- a text put at the front is read back
 pub read-back : (b t c : List ℕ) → c ≡ placed b 0 t → take (length t) c ≡ t
@@ -119,7 +108,8 @@ module _ (b : List ℕ) (o key : ℕ) where
   entry-out h = ap (λ (x : Bool). entry (both x (ltb (slotWith b o key) 4))) (le-ltb o 4 h)
 
 -- where the key's slot is the same in two stores, and its table, the entries are the same
-pub entry-same : (b c : List ℕ) (o key : ℕ) → slotWith c o key ≡ slotWith b o key → (slotWith b o key < 4 → tableAt c (slotAt o (slotWith b o key)) ≡ tableAt b (slotAt o (slotWith b o key))) → storeOf c o key ≡ storeOf b o key
+pub entry-same : (b c : List ℕ) (o key : ℕ) → slotWith c o key ≡ slotWith b o key → (slotWith b o key < 4 → tableAt c (slotAt o (slotWith b o key)) ≡ tableAt b (slotAt o (slotWith b o key)))
+    → storeOf c o key ≡ storeOf b o key
 entry-same b c o key e f = go (ltb o 4) refl (ltb (slotWith b o key) 4) refl
   where
     go : (x : Bool) → ltb o 4 ≡ x → (y : Bool) → ltb (slotWith b o key) 4 ≡ y → storeOf c o key ≡ storeOf b o key
@@ -363,7 +353,8 @@ module _ (b : List ℕ) (o key : ℕ) where
       go : (x : Bool) → eqb i n ≡ x → (i < n → at (freed b o key n) (slotAt o i) ≡ pickFlag (at b (slotAt o i)) (holds b key (slotAt o i))) →
           at (pickFreed (freed b o key n) (slotAt o n) (holds (freed b o key n) key (slotAt o n))) (slotAt o i) ≡ pickFlag (at b (slotAt o i)) (holds b key (slotAt o i))
       go true e ih =
-          subst (λ (m : ℕ). at (pickFreed (freed b o key n) (slotAt o n) (holds (freed b o key n) key (slotAt o n))) (slotAt o m) ≡ pickFlag (at b (slotAt o m)) (holds b key (slotAt o m))) (sym (eqb-true i n e))
+          subst (λ (m : ℕ). at (pickFreed (freed b o key n) (slotAt o n) (holds (freed b o key n) key (slotAt o n))) (slotAt o m) ≡ pickFlag (at b (slotAt o m)) (holds b key (slotAt o m)))
+          (sym (eqb-true i n e))
           (last (holds (freed b o key n) key (slotAt o n)) ∙ ap (pickFlag (at b (slotAt o n))) turn)
       go false e ih =
           let m = eqb-false i n e in

@@ -1,19 +1,13 @@
 -- The store over sequences of calls (specs/Claims): isolation, what a fetch gives, four keys. Assumes nothing.
-use mathlib.Core.Path.{_≡_, refl, sym, ap, ap₂, _∙_, subst, fun-ext}
-use mathlib.Core.Bool.{Bool, true, false, not}
-use mathlib.Core.Logic.{_⊎_, inl, inr, ⊎-elim}
-use mathlib.Core.List.{List, [], _∷_, _++_, List·Memᴰ, List·Memᴰ·head, List·Memᴰ·tail}
-use Prim.Native.Nat.{ℕ, _≤_, _<_}
-use native.Mathlib.Omega.{arith}
-use lib.Dec.{T, leb, ltb, eqb, eqb→eq, eqb-refl}
-use lib.ListN.{length}
-use borrow.Author.Tests.{ltb-true, lt-ltb, le-leb, eqb-true}
-use Rattle.model.specs.Lists.{both, either, choose, keep, below}
-use Rattle.model.specs.Verdict.{Verdict, accepted, refused, ask, isAccepted}
+use Rattle.model.specs.Kit.{_≡_, refl, sym, ap, ap₂, _∙_, subst, Bool, true, false, not, _⊎_, inl, inr, ⊎-elim, List, [], _∷_, _++_, List·Memᴰ, List·Memᴰ·head, List·Memᴰ·tail, ℕ}
+use Rattle.model.specs.Kit.{_≤_, _<_, arith, T, leb, ltb, eqb, eqb→eq, eqb-refl, length, ltb-true, lt-ltb, le-leb, eqb-true}
+use mathlib.Core.Path.{fun-ext}
+use Rattle.model.specs.{Lists.both, Lists.either, Lists.choose, Lists.keep, Lists.below, Verdict.Verdict, Verdict.accepted, Verdict.refused, Verdict.ask, Verdict.isAccepted}
 use Rattle.model.specs.Sheet.{distinct}
 use Rattle.model.proofs.Lists.{T-of, of-T, not-of, of-not, both-i, both-l, both-r, either-l, either-r, either-e, keep-i, keep-e, keep-none, Sorted, sorted-keep, sorted-below}
 use Rattle.model.proofs.Counting.{distinct-i, no-more}
-use Rattle.store.specs.Store.{Entry, none, table, isTable, tableIn, Entries, Store, emptyStore, keysOf, Action, put, fetch, remove, Call, call, actionVerdict, callVerdict, entryAfter, storeAfter, Reply, replyOf, replyTo, storeEnd, ownerOf, callsOf, repliesTo}
+use Rattle.store.specs.Store.{Entry, none, table, isTable, tableIn, Entries, Store, emptyStore, keysOf, Action, put, fetch, remove, Call, call, actionVerdict, callVerdict}
+use Rattle.store.specs.Store.{entryAfter, storeAfter, Reply, replyOf, replyTo, storeEnd, ownerOf, callsOf, repliesTo}
 use Rattle.store.specs.Claims.{Isolated, writes, spares, allSpare, Fetches-last, Fetches-none, Four-keys, Refused-same}
 
 -- ---- one call
@@ -94,7 +88,8 @@ there-after s owner key a o k e = ap (λ (b : Bool). choose (both b (isAccepted 
 
 pub refused-same : Refused-same
 unfolding storeAfter
-refused-same s (call owner key a) number item e = fun-ext (λ o. fun-ext (λ k. ap (λ (v : Verdict). choose (both (both (eqb owner o) (eqb key k)) (isAccepted v)) (entryAfter a (s o k)) (s o k)) e ∙ go o k (both (eqb owner o) (eqb key k))))
+refused-same s (call owner key a) number item e = fun-ext (λ o. fun-ext (λ k. ap (λ (v : Verdict). choose (both (both (eqb owner o) (eqb key k)) (isAccepted v)) (entryAfter a (s o k)) (s o k)) e
+    ∙ go o k (both (eqb owner o) (eqb key k))))
   where
     go : (o k : ℕ) (b : Bool) → choose (both b false) (entryAfter a (s o k)) (s o k) ≡ s o k
     go o k true = refl

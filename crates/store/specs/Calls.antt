@@ -1,16 +1,9 @@
 -- Calls of `put`, `fetch` and `remove`: the store's bytes, owner and key, the table or the room as it came, the answer, and the bytes at the end. Each is
 -- the function's contract. And paper 02, #110, of what the owners hold who make calls one after another; proofs/Isolated has the theorem.
-use mathlib.Core.Path.{_≡_}
-use mathlib.Core.List.{List, [], _∷_}
-use Prim.Native.Nat.{ℕ}
-use lib.ListN.{length}
-use lib.Dec.{eqb}
+use Rattle.model.specs.Kit.{_≡_, List, [], _∷_, ℕ, length, eqb}
 use Rattle.model.specs.Lists.{choose}
-use Rattle.store.specs.Store.{Call, call, put, fetch, remove, storeAfter, callsOf}
-use Rattle.store.specs.Layout.{size, storeOf, replyOn, bytesAfter}
-use Rattle.store.specs.Meaning.{means}
-use Rattle.store.specs.Claims.{StoreBytes, ByteCalls}
-use Rattle.store.specs.declared.Answer.{Answer}
+use Rattle.store.specs.{Store.Call, Store.call, Store.put, Store.fetch, Store.remove, Store.storeAfter, Store.callsOf, Layout.size, Layout.storeOf, Layout.replyOn}
+use Rattle.store.specs.{Layout.bytesAfter, Meaning.means, Claims.StoreBytes, Claims.ByteCalls, declared.Answer.Answer}
 
 abbrev pub CallPut : List ℕ → ℕ → ℕ → List ℕ → Answer → List ℕ → Type 0
 CallPut b owner key t r b′ =

@@ -1,17 +1,10 @@
 -- What paper 02, #110, asks of the store, as statements; they can be read without the proofs. Calls of any owners (the paper's courses) are made
 -- one after another on one store.
-use mathlib.Core.Path.{_≡_}
-use mathlib.Core.Logic.{_⊎_}
-use mathlib.Core.Bool.{Bool, true, false, not}
-use mathlib.Core.List.{List, [], _∷_, _++_, map, List·Memᴰ}
-use Prim.Native.Nat.{ℕ, _+_, _*_, _≤_, _<_}
-use lib.ListN.{length, drop, replicate}
-use lib.Dec.{T, leb, eqb}
-use Rattle.model.specs.Lists.{at, both, choose, below}
-use Rattle.model.specs.Verdict.{Verdict, accepted, refused, ask, isAccepted}
-use Rattle.model.specs.Sheet.{words, headerOf, problemOf, symmetriesVerdict, verdictOf}
-use Rattle.store.specs.Store.{none, table, isTable, Store, emptyStore, keysOf, Action, put, fetch, remove, Call, call, callVerdict, storeAfter, Reply, replyOf, replyTo, storeEnd, ownerOf, callsOf, repliesTo}
-use Rattle.store.specs.Layout.{size, storeOf, replyOn, bytesAfter}
+use Rattle.model.specs.Kit.{_≡_, _⊎_, Bool, true, false, not, List, [], _∷_, _++_, map, List·Memᴰ, ℕ, _+_, _*_, _≤_, _<_, length, drop, replicate, T, leb, eqb}
+use Rattle.model.specs.{Lists.at, Lists.both, Lists.choose, Lists.below, Verdict.Verdict, Verdict.accepted, Verdict.refused, Verdict.ask, Verdict.isAccepted, Sheet.words}
+use Rattle.model.specs.Sheet.{headerOf, problemOf, symmetriesVerdict, verdictOf}
+use Rattle.store.specs.Store.{none, table, isTable, Store, emptyStore, keysOf, Action, put, fetch, remove, Call, call, callVerdict, storeAfter, Reply, replyOf, replyTo}
+use Rattle.store.specs.{Store.storeEnd, Store.ownerOf, Store.callsOf, Store.repliesTo, Layout.size, Layout.storeOf, Layout.replyOn, Layout.bytesAfter}
 
 -- ---- the store
 -- what an owner gets back depends only on its own calls: two sequences of calls with the same calls of one owner, all else changed at will,

@@ -1,15 +1,7 @@
 -- The store's bytes: sixteen slots of 2,052 bytes, four an owner. A slot has a flag (0 is free), the key, the table's length in two bytes, low
 -- byte first, and 2,048 bytes for the table. Any bytes of the store's size are a store; zeros are the empty one.
-use mathlib.Core.Bool.{Bool, not}
-use mathlib.Core.List.{List, _∷_, _++_}
-use Prim.Native.Nat.{ℕ, zero, suc, _+_, _*_, min}
-use lib.ListN.{length, take, drop, set}
-use lib.Dec.{ltb, eqb}
-use Rattle.model.specs.ValueSets.{least}
-use Rattle.model.specs.Lists.{both, either, choose, at}
-use Rattle.model.specs.Verdict.{Verdict, ask, isAccepted}
-use Rattle.model.specs.Sheet.{«word»}
-use Rattle.model.specs.Bytes.{twoBytes}
+use Rattle.model.specs.Kit.{Bool, not, List, _∷_, _++_, ℕ, zero, suc, _+_, _*_, min, length, take, drop, set, ltb, eqb}
+use Rattle.model.specs.{ValueSets.least, Lists.both, Lists.either, Lists.choose, Lists.at, Verdict.Verdict, Verdict.ask, Verdict.isAccepted, Sheet.«word», Bytes.twoBytes}
 use Rattle.model.specs.Written.{placed}
 use Rattle.store.specs.Store.{none, table, Store, put, fetch, remove, Call, call, callVerdict, Reply, replyOf}
 

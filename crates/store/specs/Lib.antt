@@ -4,4 +4,4 @@ pub mod Layout
 pub mod Meaning
 pub mod Claims
 pub mod Calls
-pub mod Examples
+pub mod inner

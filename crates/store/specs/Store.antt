@@ -1,13 +1,8 @@
 -- The symmetry store (paper 02, #110: the store of exchange tables): tables under an owner (the paper's course) and a key (its hall), the three
 -- calls, what each gives back and the store that it leaves.
-use mathlib.Core.Bool.{Bool, true, false}
-use mathlib.Core.List.{List, [], _∷_}
-use Prim.Native.Nat.{ℕ}
-use lib.ListN.{length}
-use lib.Dec.{leb, ltb, eqb}
-use Rattle.model.specs.Lists.{keep, below, both, either, choose}
-use Rattle.model.specs.Verdict.{Verdict, accepted, ask, isAccepted}
-use Rattle.model.specs.Room.{Outcome, outcomeOf, roomAfter}
+use Rattle.model.specs.Kit.{Bool, true, false, List, [], _∷_, ℕ, length, leb, ltb, eqb}
+use Rattle.model.specs.{Lists.keep, Lists.below, Lists.both, Lists.either, Lists.choose, Verdict.Verdict, Verdict.accepted, Verdict.ask, Verdict.isAccepted, Room.Outcome}
+use Rattle.model.specs.Room.{outcomeOf, roomAfter}
 
 -- ---- the store
 -- what stands under an owner and a key

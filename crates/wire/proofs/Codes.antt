@@ -1,16 +1,9 @@
 -- The item of a refusal is below 256, so that its number and its item stand in one code. Assumes nothing.
-use mathlib.Core.Path.{_≡_, refl, sym, ap, _∙_, subst}
-use mathlib.Core.Bool.{Bool, true, false, not}
-use mathlib.Core.List.{List, [], _∷_}
-use Prim.Native.Nat.{ℕ, zero, suc, _+_, _*_, _/_, _%_, _^_, _≤_, _<_}
-use native.Mathlib.Omega.{arith}
-use lib.Dec.{T, leb, ltb, eqb}
-use lib.ListN.{length, length-map}
-use borrow.Author.Tests.{leb-true}
-use Rattle.model.specs.Lists.{both, all, ascending, rowsAscend, upFrom, below}
-use Rattle.model.specs.Problem.{Problem, respects}
-use Rattle.model.specs.Verdict.{Verdict, accepted, refused, ask}
-use Rattle.model.specs.Sheet.{Header, headerOf, problemOf, word, scopeAt, rowsAt, afterAt, tableAt, permutesPairs, headerVerdict, setsVerdict, constraintVerdict, constraintsVerdict, formVerdict, symmetriesVerdict, verdictOf}
+use Rattle.model.specs.Kit.{_≡_, refl, ap, subst, Bool, true, false, not, List, [], _∷_, ℕ, zero, suc, _+_, _*_, _/_, _%_, _^_, _≤_, _<_, arith, leb, ltb, eqb, length, leb-true}
+use Rattle.model.specs.{Lists.both, Lists.all, Lists.ascending, Lists.rowsAscend, Lists.upFrom, Lists.below, Problem.Problem, Problem.respects, Verdict.Verdict, Verdict.accepted}
+use Rattle.model.specs.{Verdict.refused, Verdict.ask, Sheet.Header, Sheet.headerOf, Sheet.problemOf, Sheet.word, Sheet.scopeAt, Sheet.rowsAt, Sheet.afterAt, Sheet.permutesPairs}
+use Rattle.model.specs.Sheet.{headerVerdict, setsVerdict, constraintVerdict, constraintsVerdict, formVerdict, symmetriesVerdict, verdictOf}
+use Rattle.model.proofs.{Lists.both-second, Accepted.symmetries-are}
 
 abbrev pub Small : Verdict → Type 0
 Small accepted = Unit {0}
@@ -19,10 +12,6 @@ Small (refused number item) = item < 256
 pub ask-small : (c : Bool) (number item : ℕ) (later : Verdict) → item < 256 → (c ≡ true → Small later) → Small (ask c number item later)
 ask-small true number item later h k = k refl
 ask-small false number item later h k = h
-
-pub both-right : (a b : Bool) → both a b ≡ true → b ≡ true
-both-right true b e = e
-both-right false b e = absurd (subst T (sym e) tt)
 
 -- ---- the sheet's questions
 sets-small : (b : List ℕ) (h : Header) (k a : ℕ) (later : Verdict) → a + k ≤ 256 → Small later → Small (setsVerdict b h (upFrom a k) later)
@@ -70,10 +59,6 @@ unfolding upFrom
 length-upFrom zero a = refl
 length-upFrom (suc k) a = ap suc (length-upFrom k (suc a))
 
-tables : (b : List ℕ) → length (problemOf b .symmetries) ≡ headerOf b .symmetries
-unfolding problemOf below
-tables b = length-map (upFrom 0 (headerOf b .symmetries)) (tableAt b (headerOf b)) ∙ length-upFrom (headerOf b .symmetries) 0
-
 pub verdict-small : (b : List ℕ) → Small (verdictOf b)
 unfolding verdictOf formVerdict headerVerdict below
 verdict-small b =
@@ -103,10 +88,10 @@ verdict-small b =
     (λ e4. ask-small c5 5 0 v5 z
     (λ e5. ask-small c6 6 0 v6 z
     (λ e6. ask-small c7 7 0 v7 z
-    (λ e7. sets-small b h n 0 v13 (omega (arith, leb-true n 12 (both-right (leb 1 n) (leb n 12) e2)))
+    (λ e7. sets-small b h n 0 v13 (omega (arith, leb-true n 12 (both-second (leb 1 n) (leb n 12) e2)))
     (constraints-small b h (h .constraints) 0 (h .second) (ask c14 14 0 v14) (omega (arith, leb-true (h .constraints) 32 e4))
     (ask-small c14 14 0 v14 z
-    (λ e14. symmetries-small (problemOf b) 0 (problemOf b .symmetries) (omega (arith, tables b, leb-true (h .symmetries) 16 e5))))))))))))
+    (λ e14. symmetries-small (problemOf b) 0 (problemOf b .symmetries) (omega (arith, symmetries-are b, leb-true (h .symmetries) 16 e5))))))))))))
 
 pub refused-small : (v : Verdict) (number item : ℕ) → v ≡ refused number item → Small v → item < 256
 refused-small v number item e s = subst Small e s

@@ -1,12 +1,8 @@
 -- Numbers in four bytes, written one after another. Assumes nothing.
-use mathlib.Core.Path.{_≡_, sym, ap, _∙_}
-use mathlib.Core.List.{List, [], _∷_, _++_, append-nil}
-use Prim.Native.Nat.{ℕ, _+_, _≤_}
-use native.Mathlib.Omega.{arith}
-use lib.ListN.{length, set, length-set, drop-of-length-le}
-use Rattle.model.specs.Written.{Written}
+use Rattle.model.specs.Kit.{_≡_, sym, ap, _∙_, List, [], _∷_, _++_, append-nil, ℕ, _+_, _≤_, arith, length, set, length-set}
+use lib.ListN.{drop-of-length-le}
+use Rattle.model.specs.{Written.Written, Bytes.fourBytes}
 use Rattle.model.proofs.Written.{written-byte, written-then, fronted}
-use Rattle.model.specs.Bytes.{fourBytes}
 use Rattle.wire.specs.Wire.{threeNumbers}
 
 -- a text as long as the buffer is the buffer
@@ -25,6 +21,7 @@ put-four d at x y z u h =
     let n : length e ≡ length d = length-set (set d at x) (at + 1) y ∙ length-set d at x in
     written-then (omega arith) (put-two d at x y (omega arith)) (put-two e (at + 1 + 1) z u (omega arith))
 
-pub put-three : {d e : List ℕ} {r : ℕ} {f : List ℕ} {s : ℕ} {g : List ℕ} {t : ℕ} (kind a b : ℕ) → length d ≡ 12 → Written d 0 (fourBytes kind) e r → Written e r (fourBytes a) f s → Written f s (fourBytes b) g t → g ≡ threeNumbers kind a b
+pub put-three : {d e : List ℕ} {r : ℕ} {f : List ℕ} {s : ℕ} {g : List ℕ} {t : ℕ} (kind a b : ℕ) → length d ≡ 12 → Written d 0 (fourBytes kind) e r → Written e r (fourBytes a) f s → Written f s
+    (fourBytes b) g t → g ≡ threeNumbers kind a b
 unfolding fourBytes threeNumbers
 put-three kind a b h u v w = whole (sym h) (written-then (omega (arith, u .ends, v .ends)) (written-then (omega (arith, u .ends)) u v) w)

@@ -1,16 +1,8 @@
 -- What a call that writes to lent room answers, by what it called. Assumes nothing.
-use mathlib.Core.Path.{_≡_, sym, ap, _∙_}
-use mathlib.Core.Bool.{Bool}
-use mathlib.Core.List.{List}
-use Prim.Native.Nat.{ℕ}
-use lib.ListN.{length}
-use borrow.Author.Tests.{eq-eqb, ne-eqb}
-use Rattle.model.specs.Lists.{choose}
-use Rattle.model.specs.Verdict.{Verdict, accepted, refused}
-use Rattle.model.specs.Room.{Outcome, wrote, refusal, outcomeOf, roomAfter}
+use Rattle.model.specs.Kit.{_≡_, sym, ap, _∙_, Bool, List, ℕ, length, eq-eqb, ne-eqb}
+use Rattle.model.specs.{Lists.choose, Verdict.Verdict, Verdict.accepted, Verdict.refused, Room.Outcome, Room.wrote, Room.refusal, Room.outcomeOf, Room.roomAfter}
 use Rattle.model.proofs.Demands.{reply-so, reply-refused}
-use Rattle.wire.specs.Wire.{wrongLength}
-use Rattle.wire.specs.Outcomes.{outcomeCode, outcomeAnswer, lentCode, lentRoom, lentAnswer}
+use Rattle.wire.specs.{Wire.wrongLength, Outcomes.outcomeCode, Outcomes.outcomeAnswer, Outcomes.lentCode, Outcomes.lentRoom, Outcomes.lentAnswer}
 
 pub refused-is : (v : Verdict) (text : List ℕ) (number item : ℕ) → refusal number item ≡ outcomeOf v text → v ≡ refused number item
 refused-is v text number item e = reply-refused v (length text) number item (sym e)
@@ -33,7 +25,8 @@ module _ (v : Verdict) (text room answer : List ℕ) where
         ),
       )
 
-  pub right-answer : (o : Outcome) (r : ℕ) (after bytes : List ℕ) → length answer ≡ 12 → o ≡ outcomeOf v text → r ≡ outcomeCode o → after ≡ roomAfter v text room → bytes ≡ outcomeAnswer o answer → Answered r after bytes
+  pub right-answer : (o : Outcome) (r : ℕ) (after bytes : List ℕ) → length answer ≡ 12 → o ≡ outcomeOf v text → r ≡ outcomeCode o → after ≡ roomAfter v text room → bytes ≡ outcomeAnswer o answer
+      → Answered r after bytes
   unfolding lentCode lentRoom lentAnswer
   right-answer o r after bytes h so code l w =
       let e = eq-eqb (length answer) 12 h in (

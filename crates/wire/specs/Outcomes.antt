@@ -1,11 +1,6 @@
 -- Calls that write a text to lent room under a verdict (paper 02): what they return, and the bytes of the room and of the answer afterwards.
-use mathlib.Core.List.{List}
-use Prim.Native.Nat.{ℕ, _+_, _*_}
-use lib.Dec.{eqb}
-use lib.ListN.{length}
-use Rattle.model.specs.Lists.{choose}
-use Rattle.model.specs.Verdict.{Verdict}
-use Rattle.model.specs.Room.{Outcome, answered, refusal, outcomeOf, roomAfter}
+use Rattle.model.specs.Kit.{List, ℕ, _+_, _*_, eqb, length}
+use Rattle.model.specs.{Lists.choose, Verdict.Verdict, Room.Outcome, Room.answered, Room.refusal, Room.outcomeOf, Room.roomAfter}
 use Rattle.wire.specs.Wire.{wrongLength, threeNumbers}
 
 -- 0, or the number and the item of the refusal

@@ -1,9 +1,6 @@
 -- An answer as one number and as three numbers in bytes: what the exported functions return and leave in the lent answer.
-use mathlib.Core.List.{List, _++_}
-use Prim.Native.Nat.{ℕ, _+_, _*_}
-use Rattle.model.specs.Lists.{at}
-use Rattle.model.specs.Bytes.{fourBytes}
-use Rattle.model.specs.Verdict.{Verdict, accepted, refused}
+use Rattle.model.specs.Kit.{List, _++_, ℕ, _+_, _*_}
+use Rattle.model.specs.{Lists.at, Bytes.fourBytes, Verdict.Verdict, Verdict.accepted, Verdict.refused}
 
 -- an answer as one number: 0, or the number and the item of the refusal
 abbrev pub codeOf : Verdict → ℕ

@@ -1,14 +1,8 @@
-use mathlib.Core.Path.{sym, ap, _∙_, subst}
-use mathlib.Core.Logic.{⊎-elim}
-use Prim.Native.Nat.{_-_, _≤_}
-use native.Mathlib.Omega.{arith}
-use borrow.Author.Needs.{needs}
-use Rattle.model.specs.Lists.{at}
-use Rattle.model.specs.Filling.{Gathered}
+use Rattle.model.specs.Kit.{sym, ap, _∙_, subst, ⊎-elim, _-_, _≤_, arith, needs}
+use Rattle.model.specs.{Lists.at, inner.Filling.Gathered}
 use Rattle.model.proofs.Filling.{gathered-begin, gathered-end}
 use Rattle.block.specs.Block.{inBlock}
-use Rattle.arrays_block.proofs.Gathering.{gather-one, gather-none}
-use Rattle.arrays_block.proofs.gather.Statement.{statement}
+use Rattle.arrays_block.proofs.{Gathering.gather-one, Gathering.gather-none, gather.Statement.statement}
 use Rattle.arrays_block.proofs.gather.Tie as tie
 
 abbrev Inv-loop : tie.InvT-loop
@@ -44,7 +38,8 @@ loop-again c =
     let i = c .before .before .before .before .before .loop .inv .1 in
     let e = sym (c .before .is-inside .ensures ∙ ap (inBlock _ _) (c .before .before .wide .ensures)) in (
       search needs,
-      ⊎-elim (λ w. subst (Gathered _ _) (sym (w .1)) (gather-one _ _ _ i (search needs) (e ∙ w .0 .taken))) (λ w. subst (Gathered _ _) (sym (w .1)) (gather-none _ _ _ i (e ∙ w .0 .left))) (c .if1 .came),
+      ⊎-elim (λ w. subst (Gathered _ _) (sym (w .1)) (gather-one _ _ _ i (search needs) (e ∙ w .0 .taken))) (λ w. subst (Gathered _ _) (sym (w .1)) (gather-none _ _ _ i (e ∙ w .0 .left)))
+          (c .if1 .came),
     )
 
 returns : tie.Need-returns Inv-loop μ-loop
@@ -54,14 +49,4 @@ pub gather-spec : {M : Type 1} → statement M
 gather-spec =
     tie.close
     (tie.spec
-    Inv-loop
-    μ-loop
-    loop-holds
-    element-copy-out-wide
-    wide-requires
-    is-inside-requires
-    shl-set
-    add-i
-    loop-less
-    loop-again
-    returns)
+    Inv-loop μ-loop loop-holds element-copy-out-wide wide-requires is-inside-requires shl-set add-i loop-less loop-again returns)

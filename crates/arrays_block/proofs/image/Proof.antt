@@ -1,17 +1,9 @@
-use native.Mathlib.Omega.{arith}
-use borrow.Author.Needs.{needs}
-use Rattle.arrays_block.proofs.Moving.{few, row-lt, entry-at, image-is}
-use Rattle.arrays_block.proofs.image.Statement.{statement}
+use Rattle.model.specs.Kit.{arith, needs}
+use Rattle.arrays_block.proofs.{Moving.few, Moving.row-lt, Moving.entry-at, Moving.image-is, image.Statement.statement}
 use Rattle.arrays_block.proofs.image.Tie as tie
 
 mul-result : tie.Need-mul-result
 mul-result c = omega (arith, row-lt _ _ _ (c .pre .0), few _ _ _ (c .pre .0))
-
-sub-result : tie.Need-sub-result
-sub-result c = search needs
-
-add-result : tie.Need-add-result
-add-result c = search needs
 
 add-result-2 : tie.Need-add-result-2
 add-result-2 c = omega (arith, row-lt _ _ _ (c .pre .0), few _ _ _ (c .pre .0))
@@ -25,9 +17,6 @@ cast-result c = let b = c .before in omega (arith, entry-at _ _ _ (b .pre .0) _ 
 add-result-3 : tie.Need-add-result-3
 add-result-3 c = let b = c .before in omega (arith, entry-at _ _ _ (b .pre .0) _ (b .pre .1))
 
-sub-result-2 : tie.Need-sub-result-2
-sub-result-2 c = search needs
-
 sub-result-3 : tie.Need-sub-result-3
 sub-result-3 c = let b = c .before in omega (arith, entry-at _ _ _ (b .pre .0) _ (b .pre .1))
 
@@ -38,13 +27,4 @@ pub image-spec : {M : Type 1} → statement M
 image-spec =
     tie.close
     (tie.spec
-    mul-result
-    sub-result
-    add-result
-    add-result-2
-    element-copy-out-result
-    cast-result
-    add-result-3
-    sub-result-2
-    sub-result-3
-    returns)
+    mul-result (λ c. search needs) (λ c. search needs) add-result-2 element-copy-out-result cast-result add-result-3 (λ c. search needs) sub-result-3 returns)

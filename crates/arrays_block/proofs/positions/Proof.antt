@@ -1,20 +1,12 @@
-use native.Mathlib.Omega.{arith}
-use borrow.Author.Needs.{needs}
-use Rattle.arrays_block.proofs.Gathering.{positions-other, positions-two}
-use Rattle.arrays_block.proofs.positions.Statement.{statement}
+use Rattle.model.specs.Kit.{arith, needs}
+use Rattle.arrays_block.proofs.{Gathering.positions-other, Gathering.positions-two, positions.Statement.statement}
 use Rattle.arrays_block.proofs.positions.Tie as tie
 
 returns : tie.Need-returns
 returns c = positions-other _ _ _ (c .if1 .taken)
 
-shared-slice-read-gather : tie.Need-shared-slice-read-gather
-shared-slice-read-gather c = search needs
-
 cast-gather : tie.Need-cast-gather
 cast-gather c = omega (arith, c .shared-slice-known2 .given 0)
-
-shared-slice-read-gather-2 : tie.Need-shared-slice-read-gather-2
-shared-slice-read-gather-2 c = search needs
 
 cast-gather-2 : tie.Need-cast-gather-2
 cast-gather-2 c = omega (arith, c .shared-slice-known3 .given 1)
@@ -29,10 +21,4 @@ pub positions-spec : {M : Type 1} → statement M
 positions-spec =
     tie.close
     (tie.spec
-    returns
-    shared-slice-read-gather
-    cast-gather
-    shared-slice-read-gather-2
-    cast-gather-2
-    gather-requires
-    returns-2)
+    returns (λ c. search needs) cast-gather (λ c. search needs) cast-gather-2 gather-requires returns-2)

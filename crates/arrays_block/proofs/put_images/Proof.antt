@@ -1,24 +1,13 @@
 -- By the number of bytes. Assumes nothing.
-use native.Mathlib.Omega.{arith}
-use borrow.Author.Needs.{needs}
-use Rattle.arrays_block.proofs.Putting.{put-none, two-is, put-two}
-use Rattle.arrays_block.proofs.put_images.Statement.{statement}
+use Rattle.model.specs.Kit.{arith, needs}
+use Rattle.arrays_block.proofs.{Putting.put-none, Putting.two-is, Putting.put-two, put_images.Statement.statement}
 use Rattle.arrays_block.proofs.put_images.Tie as tie
-
-element-copy-out-result : tie.Need-element-copy-out-result
-element-copy-out-result c = search needs
 
 returns : tie.Need-returns
 returns c = λ p i h. put-none p _ _ _ i (c .before .if1 .taken)
 
-shared-slice-read-put-rows : tie.Need-shared-slice-read-put-rows
-shared-slice-read-put-rows c = search needs
-
 cast-put-rows : tie.Need-cast-put-rows
 cast-put-rows c = omega (arith, c .shared-slice-known2 .given 0)
-
-shared-slice-read-put-rows-2 : tie.Need-shared-slice-read-put-rows-2
-shared-slice-read-put-rows-2 c = search needs
 
 cast-put-rows-2 : tie.Need-cast-put-rows-2
 cast-put-rows-2 c = omega (arith, c .shared-slice-known3 .given 1)
@@ -33,11 +22,4 @@ pub put-images-spec : {M : Type 1} → statement M
 put-images-spec =
     tie.close
     (tie.spec
-    element-copy-out-result
-    returns
-    shared-slice-read-put-rows
-    cast-put-rows
-    shared-slice-read-put-rows-2
-    cast-put-rows-2
-    put-rows-requires
-    returns-2)
+    (λ c. search needs) returns (λ c. search needs) cast-put-rows (λ c. search needs) cast-put-rows-2 put-rows-requires returns-2)

@@ -1,15 +1,9 @@
 -- The loop: the numbers below q have their images. Assumes nothing.
-use mathlib.Core.Path.{sym, subst}
-use Prim.Native.Nat.{ℕ, _-_, _*_, _≤_, _<_}
-use native.Mathlib.Omega.{arith}
-use borrow.Author.Needs.{needs}
-use denote.Ref.{now}
+use Rattle.model.specs.Kit.{sym, subst, ℕ, _-_, _*_, _≤_, _<_, arith, needs, now}
 use Rattle.model.specs.Problem.{Problem}
 use Rattle.model.proofs.Filling.{filled-begin, filled-end}
-use Rattle.arrays_block.specs.Asked.{BlockRow}
-use Rattle.arrays_block.proofs.Moving.{size-is, size-few}
-use Rattle.arrays_block.proofs.Putting.{to-lt, coded, RowTo, row-more}
-use Rattle.arrays_block.proofs.put_row.Statement.{statement}
+use Rattle.arrays_block.specs.inner.Asked.{BlockRow}
+use Rattle.arrays_block.proofs.{Moving.size-is, Moving.size-few, Putting.to-lt, Putting.coded, Putting.RowTo, Putting.row-more, put_row.Statement.statement}
 use Rattle.arrays_block.proofs.put_row.Tie as tie
 
 abbrev Inv-loop : tie.InvT-loop
@@ -30,7 +24,9 @@ mul-size c = let a = c .before .before .pre .0 in omega (arith, size-is (a .0) _
 loop-holds : tie.Need-loop-holds Inv-loop μ-loop
 loop-holds c = (omega arith, λ p b. filled-begin _ _ _)
 
-inside : (c : tie.In-loop Inv-loop μ-loop) (p : Problem) → BlockRow p (now (c .before .before .before .before .args .rows)) (c .before .before .before .before .args .row) (c .before .before .before .before .args .first) (c .before .before .before .before .args .m) (now (c .before .before .before .before .args .numbers)) → c .before .loop .q < p .variables * p .values
+inside : (c : tie.In-loop Inv-loop μ-loop) (p : Problem) → BlockRow p (now (c .before .before .before .before .args .rows)) (c .before .before .before .before .args .row)
+    (c .before .before .before .before .args .first) (c .before .before .before .before .args .m) (now (c .before .before .before .before .args .numbers))
+    → c .before .loop .q < p .variables * p .values
 inside c p b = subst (λ (n : ℕ). c .before .loop .q < n) (size-is p _ _ _ _ _ b) (c .loop-test .taken)
 
 moved-requires : tie.Need-moved-requires Inv-loop μ-loop
@@ -62,8 +58,12 @@ loop-less c = omega (arith, c .before .before .before .loop-test .taken)
 
 loop-again : tie.Need-loop-again Inv-loop μ-loop
 loop-again c =
-    let s = c .before .before .before .before .before .before .before in
-    (omega (arith, c .before .before .before .loop-test .taken), λ p b. row-more p _ _ _ _ _ b _ _ _ _ _ _ _ (s .pre .1) (s .pre .2) (c .before .before .moved .ensures p b (inside (c .before .before .before) p b) .0) (c .pair-code2 .ensures) (c .before .pair-code .ensures .0) (c .before .before .before .before .loop .inv .1 p b))
+    let s = c .before .before .before .before .before .before .before in (
+      omega (arith, c .before .before .before .loop-test .taken),
+      λ p b. row-more p _ _ _ _ _ b _ _ _ _ _ _ _ (s .pre .1) (s .pre .2)
+          (c .before .before .moved .ensures p b (inside (c .before .before .before) p b) .0) (c .pair-code2 .ensures) (c .before .pair-code .ensures .0)
+          (c .before .before .before .before .loop .inv .1 p b),
+    )
 
 returns : tie.Need-returns Inv-loop μ-loop
 returns c = λ p b. let e = size-is p _ _ _ _ _ b in filled-end _ _ _ _ _ _ (omega (arith, e, c .loop-test .left)) (omega (arith, e, c .before .loop .inv .0)) (c .before .loop .inv .1 p b)
@@ -72,19 +72,5 @@ pub put-row-spec : {M : Type 1} → statement M
 put-row-spec =
     tie.close
     (tie.spec
-    Inv-loop
-    μ-loop
-    element-copy-out-d
-    element-copy-out-size
-    mul-size
-    loop-holds
-    moved-requires
-    pair-code-requires
-    cast-images
-    pair-code-requires-2
-    add-images
-    element-write-images
-    add-q
-    loop-less
-    loop-again
-    returns)
+    Inv-loop μ-loop element-copy-out-d element-copy-out-size mul-size loop-holds moved-requires pair-code-requires cast-images pair-code-requires-2 add-images
+    element-write-images add-q loop-less loop-again returns)

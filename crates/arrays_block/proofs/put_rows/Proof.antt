@@ -1,15 +1,9 @@
 -- The loop: the problem's own and the rows below `row` have their images. Assumes nothing.
-use mathlib.Core.Path.{ap}
-use Prim.Native.Nat.{ℕ, _+_, _-_, _≤_, _<_}
-use native.Mathlib.Omega.{arith}
-use borrow.Author.Needs.{needs}
-use denote.Ref.{now}
-use lib.Dec.{T}
-use lib.ListN.{getD}
+use Rattle.model.specs.Kit.{ap, ℕ, _+_, _-_, _≤_, _<_, arith, needs, now, T, getD}
 use Rattle.model.specs.Problem.{Problem}
 use Rattle.block.specs.Block.{factorial, isBlock}
 use Rattle.block.proofs.Block.{block-is}
-use Rattle.arrays_block.specs.Asked.{Imaged}
+use Rattle.arrays_block.specs.inner.Asked.{Imaged}
 use Rattle.arrays_block.proofs.Putting.{PutTo, put-to, put-own, row-of, own-are, row-room, put-more, put-all}
 use Rattle.arrays_block.proofs.put_rows.Statement.{statement}
 use Rattle.arrays_block.proofs.put_rows.Tie as tie
@@ -83,17 +77,5 @@ pub put-rows-spec : {M : Type 1} → statement M
 put-rows-spec =
     tie.close
     (tie.spec
-    Inv-loop
-    μ-loop
-    rows-requires
-    element-copy-out-g
-    row-count-requires
-    loop-holds
-    add-put-row
-    mul-put-row
-    put-row-requires
-    add-row
-    loop-less
-    loop-again
-    add-result
-    returns)
+    Inv-loop μ-loop rows-requires element-copy-out-g row-count-requires loop-holds add-put-row mul-put-row put-row-requires add-row loop-less loop-again
+    add-result returns)

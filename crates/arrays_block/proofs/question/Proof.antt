@@ -1,6 +1,4 @@
-use mathlib.Core.Path.{_∙_}
-use native.Mathlib.Omega.{arith}
-use borrow.Author.Needs.{needs}
+use Rattle.model.specs.Kit.{_∙_, arith, needs}
 use Rattle.block.proofs.BlockLent.{lent-none, lent-other, lent-two}
 use Rattle.arrays_block.proofs.question.Statement.{statement}
 use Rattle.arrays_block.proofs.question.Tie as tie
@@ -11,14 +9,8 @@ returns c = λ p h. lent-none p _ (c .if1 .taken)
 returns-2 : tie.Need-returns-2
 returns-2 c = λ p h. lent-other p _ (c .before .if1 .left) (c .if2 .taken)
 
-shared-slice-read-ask : tie.Need-shared-slice-read-ask
-shared-slice-read-ask c = search needs
-
 cast-ask : tie.Need-cast-ask
 cast-ask c = omega (arith, c .shared-slice-known2 .given 0)
-
-shared-slice-read-ask-2 : tie.Need-shared-slice-read-ask-2
-shared-slice-read-ask-2 c = search needs
 
 cast-ask-2 : tie.Need-cast-ask-2
 cast-ask-2 c = omega (arith, c .shared-slice-known3 .given 1)
@@ -33,11 +25,4 @@ pub question-spec : {M : Type 1} → statement M
 question-spec =
     tie.close
     (tie.spec
-    returns
-    returns-2
-    shared-slice-read-ask
-    cast-ask
-    shared-slice-read-ask-2
-    cast-ask-2
-    ask-requires
-    returns-3)
+    returns returns-2 (λ c. search needs) cast-ask (λ c. search needs) cast-ask-2 ask-requires returns-3)

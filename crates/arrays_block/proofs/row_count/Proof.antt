@@ -1,11 +1,8 @@
 -- The loop: the product so far is k!. Assumes nothing.
-use mathlib.Core.Path.{_≡_, refl, subst}
-use Prim.Native.Nat.{ℕ, _+_, _-_, _≤_}
-use native.Mathlib.Omega.{arith}
+use Rattle.model.specs.Kit.{_≡_, refl, subst, ℕ, _+_, _-_, _≤_, arith}
 use Rattle.block.specs.Block.{factorial}
 use Rattle.block.proofs.Orderings.{factorial-le}
-use Rattle.arrays_block.proofs.Asking.{next-row}
-use Rattle.arrays_block.proofs.row_count.Statement.{statement}
+use Rattle.arrays_block.proofs.{Asking.next-row, row_count.Statement.statement}
 use Rattle.arrays_block.proofs.row_count.Tie as tie
 
 abbrev Inv-loop : tie.InvT-loop
@@ -43,4 +40,6 @@ returns c =
 
 pub row-count-spec : {M : Type 1} → statement M
 row-count-spec =
-    tie.close (tie.spec Inv-loop μ-loop loop-holds add-k mul-count loop-less loop-again returns)
+    tie.close
+    (tie.spec
+    Inv-loop μ-loop loop-holds add-k mul-count loop-less loop-again returns)

@@ -1,13 +1,7 @@
-use mathlib.Core.Path.{subst}
-use Prim.Native.Nat.{ℕ, _-_, _*_, _≤_, _<_}
-use native.Mathlib.Omega.{arith}
-use borrow.Author.Needs.{needs}
-use denote.Ref.{now}
+use Rattle.model.specs.Kit.{subst, ℕ, _-_, _*_, _≤_, _<_, arith, needs, now}
 use Rattle.model.specs.Problem.{Problem}
-use Rattle.arrays_block.specs.Asked.{BlockRow}
-use Rattle.arrays_block.proofs.Moving.{size-is, size-few}
-use Rattle.arrays_block.proofs.Filling.{FilledTo, filled-none, filled-more, filled-all}
-use Rattle.arrays_block.proofs.table.Statement.{statement}
+use Rattle.arrays_block.specs.inner.Asked.{BlockRow}
+use Rattle.arrays_block.proofs.{Moving.size-is, Moving.size-few, Filling.FilledTo, Filling.filled-none, Filling.filled-more, Filling.filled-all, table.Statement.statement}
 use Rattle.arrays_block.proofs.table.Tie as tie
 
 abbrev Inv-loop : tie.InvT-loop
@@ -28,7 +22,9 @@ mul-size c = let a = c .before .before .pre in omega (arith, size-is (a .0) _ _ 
 loop-holds : tie.Need-loop-holds Inv-loop μ-loop
 loop-holds c = λ p b. (omega arith, filled-none p _ _ _)
 
-inside : (c : tie.In-loop Inv-loop μ-loop) (p : Problem) → BlockRow p (now (c .before .before .before .before .args .rows)) (c .before .before .before .before .args .row) (c .before .before .before .before .args .first) (c .before .before .before .before .args .m) (now (c .before .before .before .before .args .numbers)) → c .before .loop .q < p .variables * p .values
+inside : (c : tie.In-loop Inv-loop μ-loop) (p : Problem) → BlockRow p (now (c .before .before .before .before .args .rows)) (c .before .before .before .before .args .row)
+    (c .before .before .before .before .args .first) (c .before .before .before .before .args .m) (now (c .before .before .before .before .args .numbers))
+    → c .before .loop .q < p .variables * p .values
 inside c p b = subst (λ (n : ℕ). c .before .loop .q < n) (size-is p _ _ _ _ _ b) (c .loop-test .taken)
 
 small : (c : tie.In-loop Inv-loop μ-loop) → c .before .loop .q < 192
@@ -56,23 +52,12 @@ loop-again : tie.Need-loop-again Inv-loop μ-loop
 loop-again c = λ p b. let l = inside (c .before) p b in (omega arith, filled-more p _ _ _ _ _ _ (c .before .before .loop .inv p b .1) (small (c .before)) (c .moved .ensures p b l .0))
 
 returns : tie.Need-returns Inv-loop μ-loop
-returns c = λ p b. let i = c .before .loop .inv p b in filled-all p _ _ _ (b .wellFormed) _ (subst (FilledTo p _ _ _ _) (let s = size-is p _ _ _ _ _ b in omega (arith, s, c .loop-test .left, i .0)) (i .1))
+returns c = λ p b. let i = c .before .loop .inv p b in filled-all p _ _ _ (b .wellFormed) _
+    (subst (FilledTo p _ _ _ _) (let s = size-is p _ _ _ _ _ b in omega (arith, s, c .loop-test .left, i .0)) (i .1))
 
 pub table-spec : {M : Type 1} → statement M
 table-spec =
     tie.close
     (tie.spec
-    Inv-loop
-    μ-loop
-    element-copy-out-size
-    element-copy-out-size-2
-    mul-size
-    loop-holds
-    moved-requires
-    cast-bytes
-    mul-bytes
-    array-write-bytes
-    add-q
-    loop-less
-    loop-again
-    returns)
+    Inv-loop μ-loop element-copy-out-size element-copy-out-size-2 mul-size loop-holds moved-requires cast-bytes mul-bytes array-write-bytes add-q loop-less
+    loop-again returns)

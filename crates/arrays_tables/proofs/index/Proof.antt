@@ -1,6 +1,5 @@
 -- All tables, one kind after another. Assumes nothing.
-use mathlib.Core.Path.{_∙_}
-use borrow.Author.Needs.{needs}
+use Rattle.model.specs.Kit.{_∙_, needs}
 use Rattle.arrays_tables.proofs.Assembled.{bounds, link-bounds, looks-bounds, spreads-long, unions-long, unions-bounds, made}
 use Rattle.arrays_tables.proofs.index.Statement.{statement}
 use Rattle.arrays_tables.proofs.index.Tie as tie
@@ -14,34 +13,35 @@ rows-requires c κs = let q = c .before .before .before .before .pre in (link-bo
 loose-requires : tie.Need-loose-requires
 loose-requires c κs = link-bounds _ _ _ _ _ (c .before .before .before .before .before .before .before .pre .1) _ (c .before .before .before .before .before .linked .ensures) .0
 
-element-write-numbers : tie.Need-element-write-numbers
-element-write-numbers c = search needs
-
 looks-requires : tie.Need-looks-requires
-looks-requires c κs = looks-bounds _ _ _ _ _ (c .before .before .before .before .before .before .before .before .before .pre .1) _ (c .before .before .before .before .before .before .before .linked .ensures) _
+looks-requires c κs = looks-bounds _ _ _ _ _ (c .before .before .before .before .before .before .before .before .before .pre .1) _
+    (c .before .before .before .before .before .before .before .linked .ensures) _
 
 spreads-requires : tie.Need-spreads-requires
-spreads-requires c κs = spreads-long _ _ _ _ _ (c .before .before .before .before .before .before .before .before .before .before .before .pre .1) _ (c .before .before .before .before .before .before .before .before .before .linked .ensures) _ (c .before .looks .ensures)
+spreads-requires c κs = spreads-long _ _ _ _ _ (c .before .before .before .before .before .before .before .before .before .before .before .pre .1) _
+    (c .before .before .before .before .before .before .before .before .before .linked .ensures) _ (c .before .looks .ensures)
 
 unions-requires : tie.Need-unions-requires
-unions-requires c κs = unions-long _ _ _ _ _ (c .before .before .before .before .before .before .before .before .before .before .before .before .before .pre .1) _ (c .before .before .before .before .before .before .before .before .before .before .before .linked .ensures) _ (c .before .before .before .looks .ensures) (c .before .spreads .ensures)
+unions-requires c κs =
+    let c10 = c .before .before .before .before .before .before .before .before .before .before in
+    unions-long _ _ _ _ _ (c10 .before .before .before .pre .1) _ (c10 .before .linked .ensures) _ (c .before .before .before .looks .ensures) (c .before .spreads .ensures)
 
 image-tables-requires : tie.Need-image-tables-requires
-image-tables-requires c κs = let q = c .before .before .before .before .before .before .before .before .before .before .before .before .before .before .before .before .pre in let b = unions-bounds _ _ _ _ _ (q .1) _ (c .before .before .before .before .before .before .before .before .before .before .before .before .before .before .linked .ensures) _ (c .before .before .before .before .before .before .looks .ensures) (c .before .before .before .before .spreads .ensures) (c .before .before .unions .ensures) in (b .0, b .1, c .before .before .before .before .before .before .before .before .before .before .before .rows .ensures .0 ∙ q .1 .tables-length)
+image-tables-requires c κs =
+    let c10 = c .before .before .before .before .before .before .before .before .before .before in
+    let q = c10 .before .before .before .before .before .before .pre in let b = unions-bounds _ _ _ _ _ (q .1) _ (c10 .before .before .before .before .linked .ensures) _
+    (c .before .before .before .before .before .before .looks .ensures) (c .before .before .before .before .spreads .ensures) (c .before .before .unions .ensures) in
+    (b .0, b .1, c10 .before .rows .ensures .0 ∙ q .1 .tables-length)
 
 returns : tie.Need-returns
-returns c = λ p q. made p _ _ _ _ q _ (c .before .before .before .before .before .before .before .before .before .before .before .before .before .before .before .linked .ensures) _ (c .before .before .before .before .before .before .before .before .before .before .before .before .rows .ensures) _ (c .before .before .before .before .before .before .before .before .before .loose .ensures) _ (c .before .before .before .before .before .before .before .looks .ensures) _ (c .before .before .before .before .before .spreads .ensures) _ (c .before .before .before .unions .ensures) _ (c .image-tables .ensures)
+returns c =
+    let c10 = c .before .before .before .before .before .before .before .before .before .before in
+    λ p q. made p _ _ _ _ q _ (c10 .before .before .before .before .before .linked .ensures) _ (c10 .before .before .rows .ensures) _
+    (c .before .before .before .before .before .before .before .before .before .loose .ensures) _ (c .before .before .before .before .before .before .before .looks .ensures) _
+    (c .before .before .before .before .before .spreads .ensures) _ (c .before .before .before .unions .ensures) _ (c .image-tables .ensures)
 
 pub index-spec : {M : Type 1} → statement M
 index-spec =
     tie.close
     (tie.spec
-    linked-requires
-    rows-requires
-    loose-requires
-    element-write-numbers
-    looks-requires
-    spreads-requires
-    unions-requires
-    image-tables-requires
-    returns)
+    linked-requires rows-requires loose-requires (λ c. search needs) looks-requires spreads-requires unions-requires image-tables-requires returns)

@@ -1,10 +1,8 @@
 -- `block::rows` meets its contract: one test over the whole table. Assumes nothing.
-use mathlib.Core.Path.{refl}
-use Rattle.model.specs.Lists.{all, any, earlier, rowsAscend}
-use Rattle.model.specs.Sheet.{distinct}
+use Rattle.model.specs.Kit.{refl}
+use Rattle.model.specs.{Lists.all, Lists.any, Lists.earlier, Lists.rowsAscend, Sheet.distinct}
 use Rattle.block.specs.BlockClaims.{fives, isOrdering, isTable}
-use Rattle.block.proofs.Table.{table-rows}
-use Rattle.block.proofs.rows.Statement.{statement}
+use Rattle.block.proofs.{Table.table-rows, rows.Statement.statement}
 use Rattle.block.proofs.rows.Tie as tie
 
 returns : tie.Need-returns

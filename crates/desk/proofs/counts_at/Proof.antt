@@ -1,16 +1,9 @@
 -- `counts_at`: after x turns of the loop the first x counts are read. Assumes nothing.
-use mathlib.Core.Path.{_≡_, refl, sym, ap₂, _∙_}
-use Prim.Native.Nat.{_+_, _-_, _*_, _≤_, min}
-use native.Mathlib.Omega.{arith}
-use Rattle.model.specs.Lists.{at}
-use Rattle.model.specs.Filling.{Filled}
+use Rattle.model.specs.Kit.{_≡_, refl, sym, ap₂, _∙_, _+_, _-_, _*_, _≤_, min, arith, needs}
+use Rattle.model.specs.{Lists.at, inner.Filling.Filled}
 use Rattle.model.proofs.Filling.{filled-begin, filled-turn, filled-end}
-use Rattle.desk.specs.Places.{LIMIT, COUNTS}
-use Rattle.desk.specs.Layout.{long, nodesAt}
-use Rattle.desk.proofs.Counts.{counts-as}
-use Rattle.desk.proofs.Slots.{long-small}
-use borrow.Author.Needs.{needs}
-use Rattle.desk.proofs.counts_at.Statement.{statement}
+use Rattle.desk.specs.{Places.LIMIT, Places.COUNTS, Layout.long, Layout.nodesAt}
+use Rattle.desk.proofs.{Counts.counts-as, Slots.long-small, counts_at.Statement.statement}
 use Rattle.desk.proofs.counts_at.Tie as tie
 
 abbrev Inv-loop : tie.InvT-loop
@@ -61,8 +54,11 @@ loop-less c = search needs
 loop-again : tie.Need-loop-again Inv-loop μ-loop
 unfolding at
 loop-again c =
-    let l = c .before .before .before .loop in
-    (omega (arith, c .before .before .loop-test .taken), filled-turn (λ i. i) _ _ _ (l .x) _ _ (l .inv .1) refl (omega (arith, c .before .before .loop-test .taken)) (λ v k e. omega arith) (c .capped .ensures ∙ ap₂ min (c .before .before .before .before .nodes-at .ensures) (c .before .read-long .ensures)))
+    let l = c .before .before .before .loop in (
+      omega (arith, c .before .before .loop-test .taken),
+      filled-turn (λ i. i) _ _ _ (l .x) _ _ (l .inv .1) refl (omega (arith, c .before .before .loop-test .taken)) (λ v k e. omega arith)
+          (c .capped .ensures ∙ ap₂ min (c .before .before .before .before .nodes-at .ensures) (c .before .read-long .ensures)),
+    )
 
 returns : tie.Need-returns Inv-loop μ-loop
 returns c =
@@ -74,19 +70,5 @@ pub counts-at-spec : {M : Type 1} → statement M
 counts-at-spec =
     tie.close
     (tie.spec
-    Inv-loop
-    μ-loop
-    nodes-at-requires
-    cast-nodes
-    loop-holds
-    add-read-long
-    mul-read-long
-    add-read-long-2
-    read-long-requires
-    capped-requires
-    mul-counts
-    array-write-counts
-    add-x
-    loop-less
-    loop-again
-    returns)
+    Inv-loop μ-loop nodes-at-requires cast-nodes loop-holds add-read-long mul-read-long add-read-long-2 read-long-requires capped-requires mul-counts
+    array-write-counts add-x loop-less loop-again returns)

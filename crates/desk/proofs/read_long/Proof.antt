@@ -1,22 +1,9 @@
 -- `read_long`: two words. Assumes nothing.
-use mathlib.Core.Path.{ap₂}
-use Prim.Native.Nat.{ℕ, _+_, _*_}
-use native.Mathlib.Omega.{arith}
+use Rattle.model.specs.Kit.{ap₂, ℕ, _+_, _*_, arith, needs}
 use Rattle.model.specs.Lists.{at}
 use Rattle.desk.specs.Layout.{long}
-use Rattle.desk.proofs.Slots.{word-small}
-use borrow.Author.Needs.{needs}
-use Rattle.desk.proofs.read_long.Statement.{statement}
+use Rattle.desk.proofs.{Slots.word-small, read_long.Statement.statement}
 use Rattle.desk.proofs.read_long.Tie as tie
-
-read-word-requires : tie.Need-read-word-requires
-read-word-requires c κs = search needs
-
-add-read-word : tie.Need-add-read-word
-add-read-word c = search needs
-
-read-word-requires-2 : tie.Need-read-word-requires-2
-read-word-requires-2 c κs = search needs
 
 mul-result : tie.Need-mul-result
 unfolding at
@@ -39,4 +26,5 @@ returns c = ap₂ (λ (x y : ℕ). x + 65536 * y) (c .before .read-word .ensures
 pub read-long-spec : {M : Type 1} → statement M
 read-long-spec =
     tie.close
-    (tie.spec read-word-requires add-read-word read-word-requires-2 mul-result add-result returns)
+    (tie.spec
+    (λ c κs. search needs) (λ c. search needs) (λ c κs. search needs) mul-result add-result returns)

@@ -1,11 +1,8 @@
 -- `lowest_free`: after k turns the first k slots are taken. Assumes nothing.
-use mathlib.Core.Path.{_≡_}
-use Prim.Native.Nat.{ℕ, _≤_, _<_, _-_}
-use native.Mathlib.Omega.{arith}
+use Rattle.model.specs.Kit.{_≡_, ℕ, _≤_, _<_, _-_, arith, needs}
 use Rattle.model.specs.Lists.{at}
 use Rattle.desk.specs.Layout.{slotPlace}
 use Rattle.desk.proofs.Slots.{lowest-is, lowest-none, more-taken}
-use borrow.Author.Needs.{needs}
 use Rattle.desk_submit.proofs.lowest_free.Statement.{statement}
 use Rattle.desk_submit.proofs.lowest_free.Tie as tie
 
@@ -51,13 +48,4 @@ pub lowest-free-spec : {M : Type 1} → statement M
 lowest-free-spec =
     tie.close
     (tie.spec
-    Inv-loop
-    μ-loop
-    loop-holds
-    mul-if1
-    shared-slice-read-if1
-    returns
-    add-k
-    loop-less
-    loop-again
-    returns-2)
+    Inv-loop μ-loop loop-holds mul-if1 shared-slice-read-if1 returns add-k loop-less loop-again returns-2)

@@ -1,12 +1,8 @@
 -- `to_serve`: after i turns of the loop the first i slots of the round don't wait. Assumes nothing.
-use mathlib.Core.Path.{sym, _∙_}
-use Prim.Native.Nat.{_≤_, _-_}
-use native.Mathlib.Omega.{arith}
+use Rattle.model.specs.Kit.{sym, _∙_, _≤_, _-_, arith, needs}
 use Rattle.model.specs.Lists.{at}
-use Rattle.desk_waits.proofs.Finding.{Quiet, quiet-more, serve-is, serve-none}
+use Rattle.desk_waits.proofs.{Finding.Quiet, Finding.quiet-more, Finding.serve-is, Finding.serve-none, to_serve.Statement.statement}
 use Rattle.desk.specs.Places.{NEXT}
-use borrow.Author.Needs.{needs}
-use Rattle.desk_waits.proofs.to_serve.Statement.{statement}
 use Rattle.desk_waits.proofs.to_serve.Tie as tie
 
 abbrev Inv-loop : tie.InvT-loop
@@ -45,8 +41,11 @@ loop-less c = search needs
 loop-again : tie.Need-loop-again Inv-loop μ-loop
 unfolding at
 loop-again c =
-    let l = c .before .before .before .loop in
-    (omega (arith, c .before .before .loop-test .taken), quiet-more (c .before .before .before .before .before .before .args .queue .now) (l .i) (l .inv .1) (sym (c .before .waits .ensures) ∙ c .if1 .left))
+    let l = c .before .before .before .loop in (
+      omega (arith, c .before .before .loop-test .taken),
+      quiet-more (c .before .before .before .before .before .before .args .queue .now) (l .i) (l .inv .1)
+          (sym (c .before .waits .ensures) ∙ c .if1 .left),
+    )
 
 returns-2 : tie.Need-returns-2 Inv-loop μ-loop
 returns-2 c =
@@ -57,15 +56,4 @@ pub to-serve-spec : {M : Type 1} → statement M
 to-serve-spec =
     tie.close
     (tie.spec
-    Inv-loop
-    μ-loop
-    shared-slice-read-next
-    cast-next
-    loop-holds
-    add-k
-    waits-requires
-    returns
-    add-i
-    loop-less
-    loop-again
-    returns-2)
+    Inv-loop μ-loop shared-slice-read-next cast-next loop-holds add-k waits-requires returns add-i loop-less loop-again returns-2)

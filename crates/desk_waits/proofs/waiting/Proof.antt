@@ -1,17 +1,9 @@
 -- `waiting`: after k turns of the loop the set has those of the first k slots that wait. Assumes nothing.
-use mathlib.Core.Bool.{Bool}
-use mathlib.Core.Path.{ap, _∙_}
-use Prim.Native.Nat.{ℕ, _-_, _^_, _≤_, _<_}
-use native.Mathlib.Omega.{arith}
-use lib.Bits.{or-lt}
-use Rattle.model.specs.ValueSets.{oneIf}
-use Rattle.model.specs.Filling.{Gathered}
+use Rattle.model.specs.Kit.{Bool, ap, _∙_, ℕ, _-_, _^_, _≤_, _<_, arith, or-lt, needs}
+use Rattle.model.specs.{ValueSets.oneIf, inner.Filling.Gathered}
 use Rattle.model.proofs.Filling.{gathered-begin, gathered-turn}
-use Rattle.desk.specs.Queue.{waits}
-use Rattle.desk.specs.Layout.{slotOf}
-use Rattle.desk_waits.proofs.Finding.{one-lt, waiting-is}
-use borrow.Author.Needs.{needs}
-use Rattle.desk_waits.proofs.waiting.Statement.{statement}
+use Rattle.desk.specs.{Queue.waits, Layout.slotOf}
+use Rattle.desk_waits.proofs.{Finding.one-lt, Finding.waiting-is, waiting.Statement.statement}
 use Rattle.desk_waits.proofs.waiting.Tie as tie
 
 abbrev Inv-loop : tie.InvT-loop
@@ -53,12 +45,4 @@ pub waiting-spec : {M : Type 1} → statement M
 waiting-spec =
     tie.close
     (tie.spec
-    Inv-loop
-    μ-loop
-    loop-holds
-    waits-requires
-    slot-if-requires
-    add-k
-    loop-less
-    loop-again
-    returns)
+    Inv-loop μ-loop loop-holds waits-requires slot-if-requires add-k loop-less loop-again returns)

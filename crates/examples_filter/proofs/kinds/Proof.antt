@@ -1,6 +1,5 @@
 -- `examples_filter::kinds` meets its contract. Assumes nothing.
-use Prim.Native.Nat.{_≤_, _-_}
-use borrow.Author.Needs.{needs}
+use Rattle.model.specs.Kit.{_≤_, _-_, needs}
 use Rattle.examples_filter.proofs.kinds.Statement.{statement}
 use Rattle.examples_filter.proofs.kinds.Tie as tie
 
@@ -38,13 +37,4 @@ pub kinds-spec : {M : Type 1} → statement M
 kinds-spec =
     tie.close
     (tie.spec
-    Inv-loop
-    μ-loop
-    loop-holds
-    array-read-kind
-    array-read-kind-2
-    kind-requires
-    add-i
-    loop-less
-    loop-again
-    returns)
+    Inv-loop μ-loop loop-holds array-read-kind array-read-kind-2 kind-requires add-i loop-less loop-again returns)

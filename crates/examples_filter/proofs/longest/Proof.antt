@@ -1,6 +1,5 @@
 -- `examples_filter::longest` meets its contract. The entries before `i` are filled. Assumes nothing.
-use Prim.Native.Nat.{_≤_, _-_}
-use borrow.Author.Needs.{needs}
+use Rattle.model.specs.Kit.{_≤_, _-_, needs}
 use Rattle.examples_filter.proofs.longest.Statement.{statement}
 use Rattle.examples_filter.proofs.longest.Tie as tie
 
@@ -50,17 +49,5 @@ pub longest-spec : {M : Type 1} → statement M
 longest-spec =
     tie.close
     (tie.spec
-    Inv-loop
-    μ-loop
-    loop-holds
-    cast-index
-    element-write-index
-    element-write-equal
-    element-write-not-equal
-    element-write-equal-2
-    cast-not-equal
-    element-write-not-equal-2
-    add-i
-    loop-less
-    loop-again
-    returns)
+    Inv-loop μ-loop loop-holds cast-index element-write-index element-write-equal element-write-not-equal element-write-equal-2 cast-not-equal
+    element-write-not-equal-2 add-i loop-less loop-again returns)

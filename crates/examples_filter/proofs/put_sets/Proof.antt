@@ -1,7 +1,5 @@
 -- `examples_filter::put_sets` meets its contract. The sets before `i` are written. Assumes nothing.
-use Prim.Native.Nat.{_≤_, _-_}
-use lib.ListN.{length}
-use borrow.Author.Needs.{needs}
+use Rattle.model.specs.Kit.{_≤_, _-_, length, needs}
 use Rattle.examples_filter.proofs.put_sets.Statement.{statement}
 use Rattle.examples_filter.proofs.put_sets.Tie as tie
 
@@ -42,14 +40,4 @@ pub put-sets-spec : {M : Type 1} → statement M
 put-sets-spec =
     tie.close
     (tie.spec
-    Inv-loop
-    μ-loop
-    loop-holds
-    mul-wide
-    shared-slice-read-wide
-    wide-requires
-    put-number-requires
-    add-i
-    loop-less
-    loop-again
-    returns)
+    Inv-loop μ-loop loop-holds mul-wide shared-slice-read-wide wide-requires put-number-requires add-i loop-less loop-again returns)

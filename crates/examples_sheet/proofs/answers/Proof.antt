@@ -1,12 +1,6 @@
-use borrow.Author.Needs.{needs}
-use Prim.Native.Nat.{_-_, _≤_}
-use lib.ListN.{length}
+use Rattle.model.specs.Kit.{needs, _-_, _≤_, length}
 use Rattle.examples_sheet.proofs.answers.Statement.{statement}
 use Rattle.examples_sheet.proofs.answers.Tie as tie
-use Rattle.examples_sheet.proofs.answers.Reads as reads
-use Rattle.examples_sheet.proofs.answers.Lts as lts
-use Rattle.examples_sheet.proofs.answer.Reads as answer-reads
-use Rattle.examples_sheet.proofs.line_end.Reads as line-end-reads
 
 abbrev Inv-loop : tie.InvT-loop
 Inv-loop b₀ text at₀ b at = 0 ≤ at
@@ -14,43 +8,33 @@ Inv-loop b₀ text at₀ b at = 0 ≤ at
 abbrev μ-loop : tie.MeasureT-loop
 μ-loop b₀ text at₀ b at = length text - at
 
--- src/main.rt:238:5
 loop-holds : tie.Need-loop-holds Inv-loop μ-loop
 loop-holds c = search needs
 
--- src/main.rt:239:13
 line-end-requires : tie.Need-line-end-requires Inv-loop μ-loop
 line-end-requires c κs = search needs
 
--- src/main.rt:240:19
 sub-answer : tie.Need-sub-answer Inv-loop μ-loop
 sub-answer c = search needs
 
--- src/main.rt:240:19
 part-answer-start : tie.Need-part-answer-start Inv-loop μ-loop
 part-answer-start c = search needs
 
--- src/main.rt:240:19
 part-answer-end : tie.Need-part-answer-end Inv-loop μ-loop
 part-answer-end c = search needs
 
--- src/main.rt:240:9
 answer-requires : tie.Need-answer-requires Inv-loop μ-loop
 answer-requires c κs = search needs
 
--- src/main.rt:241:14
 add-at : tie.Need-add-at Inv-loop μ-loop
 add-at c = search needs
 
--- src/main.rt:238:5
 loop-less : tie.Need-loop-less Inv-loop μ-loop
 loop-less c = search needs
 
--- src/main.rt:238:5
 loop-again : tie.Need-loop-again Inv-loop μ-loop
 loop-again c = search needs
 
--- src/main.rt:236:1
 returns : tie.Need-returns Inv-loop μ-loop
 returns c = search needs
 
@@ -58,15 +42,4 @@ pub answers-spec : {M : Type 1} → statement M
 answers-spec =
     tie.close
     (tie.spec
-    Inv-loop
-    μ-loop
-    loop-holds
-    line-end-requires
-    sub-answer
-    part-answer-start
-    part-answer-end
-    answer-requires
-    add-at
-    loop-less
-    loop-again
-    returns)
+    Inv-loop μ-loop loop-holds line-end-requires sub-answer part-answer-start part-answer-end answer-requires add-at loop-less loop-again returns)

@@ -1,12 +1,6 @@
-use borrow.Author.Needs.{needs}
-use Prim.Native.Nat.{_-_, _≤_}
-use lib.ListN.{length}
+use Rattle.model.specs.Kit.{needs, _-_, _≤_, length}
 use Rattle.examples_sheet.proofs.put_all.Statement.{statement}
 use Rattle.examples_sheet.proofs.put_all.Tie as tie
-use Rattle.examples_sheet.proofs.put_all.Reads as reads
-use Rattle.examples_sheet.proofs.put_all.Lts as lts
-use Rattle.examples_sheet.proofs.put.Reads as put-reads
-use Rattle.examples_sheet.proofs.wide.Reads as wide-reads
 
 abbrev Inv-loop : tie.InvT-loop
 Inv-loop b₀ at values i₀ b i = i ≤ length values
@@ -14,43 +8,33 @@ Inv-loop b₀ at values i₀ b i = i ≤ length values
 abbrev μ-loop : tie.MeasureT-loop
 μ-loop b₀ at values i₀ b i = length values - i
 
--- src/main.rt:29:5
 loop-holds : tie.Need-loop-holds Inv-loop μ-loop
 loop-holds c = search needs
 
--- src/main.rt:30:21
 mul-put : tie.Need-mul-put Inv-loop μ-loop
 mul-put c = search needs
 
--- src/main.rt:30:16
 add-put : tie.Need-add-put Inv-loop μ-loop
 add-put c = search needs
 
--- src/main.rt:30:33
 shared-slice-read-wide : tie.Need-shared-slice-read-wide Inv-loop μ-loop
 shared-slice-read-wide c = search needs
 
--- src/main.rt:30:28
 wide-requires : tie.Need-wide-requires Inv-loop μ-loop
 wide-requires c κs = search needs
 
--- src/main.rt:30:9
 put-requires : tie.Need-put-requires Inv-loop μ-loop
 put-requires c κs = search needs
 
--- src/main.rt:31:9
 add-i : tie.Need-add-i Inv-loop μ-loop
 add-i c = search needs
 
--- src/main.rt:29:5
 loop-less : tie.Need-loop-less Inv-loop μ-loop
 loop-less c = search needs
 
--- src/main.rt:29:5
 loop-again : tie.Need-loop-again Inv-loop μ-loop
 loop-again c = search needs
 
--- src/main.rt:25:1
 returns : tie.Need-returns Inv-loop μ-loop
 returns c = search needs
 
@@ -58,15 +42,4 @@ pub put-all-spec : {M : Type 1} → statement M
 put-all-spec =
     tie.close
     (tie.spec
-    Inv-loop
-    μ-loop
-    loop-holds
-    mul-put
-    add-put
-    shared-slice-read-wide
-    wide-requires
-    put-requires
-    add-i
-    loop-less
-    loop-again
-    returns)
+    Inv-loop μ-loop loop-holds mul-put add-put shared-slice-read-wide wide-requires put-requires add-i loop-less loop-again returns)

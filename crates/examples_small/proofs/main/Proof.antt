@@ -1,6 +1,5 @@
 -- `main`: at most two for each position passed. Assumes nothing.
-use Prim.Native.Nat.{_≤_, _*_, _-_}
-use borrow.Author.Needs.{needs}
+use Rattle.model.specs.Kit.{_≤_, _*_, _-_, needs}
 use Rattle.examples_small.proofs.main.Statement.{statement}
 use Rattle.examples_small.proofs.main.Tie as tie
 
@@ -50,17 +49,5 @@ pub main-spec : {M : Type 1} → statement M
 main-spec =
     tie.close
     (tie.spec
-    Inv-loop
-    μ-loop
-    loop-holds
-    position-requires
-    ends-requires
-    say-number-requires
-    slice-aggregate-say
-    say-requires
-    returns
-    add-different
-    add-k
-    loop-less
-    loop-again
-    returns-2)
+    Inv-loop μ-loop loop-holds position-requires ends-requires say-number-requires slice-aggregate-say say-requires returns add-different add-k loop-less
+    loop-again returns-2)

@@ -1,6 +1,5 @@
 -- `same`: the bytes before `i` are equal. Assumes nothing.
-use Prim.Native.Nat.{_≤_, _-_}
-use borrow.Author.Needs.{needs}
+use Rattle.model.specs.Kit.{_≤_, _-_, needs}
 use Rattle.examples_small.proofs.same.Statement.{statement}
 use Rattle.examples_small.proofs.same.Tie as tie
 
@@ -38,13 +37,4 @@ pub same-spec : {M : Type 1} → statement M
 same-spec =
     tie.close
     (tie.spec
-    Inv-loop
-    μ-loop
-    loop-holds
-    element-copy-out-if1
-    element-copy-out-if1-2
-    returns
-    add-i
-    loop-less
-    loop-again
-    returns-2)
+    Inv-loop μ-loop loop-holds element-copy-out-if1 element-copy-out-if1-2 returns add-i loop-less loop-again returns-2)

@@ -1,14 +1,9 @@
 -- `rows`: the answer's length is asked first; then the call, and its answer as three numbers. Assumes nothing.
-use mathlib.Core.Path.{refl, sym, ap, _∙_}
-use Prim.Native.Nat.{_≤_}
-use native.Mathlib.Omega.{arith}
-use lib.ListN.{length}
+use Rattle.model.specs.Kit.{refl, sym, ap, _∙_, _≤_, arith, length, needs}
 use Rattle.model.specs.Room.{wrote, refusal}
-use Rattle.list_columns.specs.Columns.{rowsOf, rowsVerdict}
-use Rattle.list_columns.specs.Meaning.{means}
+use Rattle.list_columns.specs.{Columns.rowsOf, Columns.rowsVerdict, Meaning.means}
 use Rattle.list_columns.proofs.Storing.{rows-item, rows-size}
 use Rattle.wire.proofs.Outcomes.{refused-is, wrote-is, wrong-answer, right-answer}
-use borrow.Author.Needs.{needs}
 use Rattle.export_columns.proofs.rows.Statement.{statement}
 use Rattle.export_columns.proofs.rows.Tie as tie
 
@@ -17,66 +12,45 @@ returns c =
     let a = c .before .before .before .before .args in
     wrong-answer (rowsVerdict (a .store .now) (length (a .out .now))) (rowsOf (a .store .now)) (a .out .now) (a .answer .now) (c .if1 .taken)
 
-to-rows-requires : tie.Need-to-rows-requires
-to-rows-requires c κs = search needs
-
-enum-known-r : tie.Need-enum-known-r
-enum-known-r c = search needs
-
 code-requires : tie.Need-code-requires
 code-requires c κs =
     let a = c .before .before .before .before .before .before .before .before .before .before .before .args in
     let g = c .before .r .given in
-    let v = refused-is (rowsVerdict (a .store .now) (length (a .out .now))) (rowsOf (a .store .now)) (g .0 .0) (g .0 .1 .0) (sym (ap means (g .1)) ∙ c .before .before .before .before .before .to-rows .ensures .0) in
+    let v = refused-is (rowsVerdict (a .store .now) (length (a .out .now))) (rowsOf (a .store .now)) (g .0 .0) (g .0 .1 .0)
+    (sym (ap means (g .1)) ∙ c .before .before .before .before .before .to-rows .ensures .0) in
     omega (arith, rows-item (a .store .now) (length (a .out .now)) (g .0 .0) (g .0 .1 .0) v)
-
-enum-known-r-2 : tie.Need-enum-known-r-2
-enum-known-r-2 c = search needs
 
 three-requires : tie.Need-three-requires
 three-requires c κs =
     let a = c .before .before .before .before .before .before .before .before .before .before .before .before .args in
     let g = c .before .before .r2 .given in
-    let w = wrote-is (rowsVerdict (a .store .now) (length (a .out .now))) (rowsOf (a .store .now)) (g .0 .0) (sym (ap means (g .1)) ∙ c .before .before .before .before .before .before .to-rows .ensures .0) in
+    let w = wrote-is (rowsVerdict (a .store .now) (length (a .out .now))) (rowsOf (a .store .now)) (g .0 .0)
+    (sym (ap means (g .1)) ∙ c .before .before .before .before .before .before .to-rows .ensures .0) in
     let few : g .0 .0 ≤ 49152 = omega (arith, w .1, rows-size (a .store .now) (length (a .out .now)) (w .0)) in
     (c .before .before .before .before .before .before .before .before .if1 .left, omega arith, omega arith, omega arith)
 
-same-length : tie.Need-same-length
-same-length c = search needs
-
 returns-2 : tie.Need-returns-2
 returns-2 c =
-    let a = c .before .before .before .before .before .before .before .before .before .before .before .before .args in
+    let c10 = c .before .before .before .before .before .before .before .before .before .before in
+    let a = c10 .before .before .args in
     let g = c .before .before .r .given in
     let f = c .before .before .before .before .before .before .to-rows in
-    right-answer (rowsVerdict (a .store .now) (length (a .out .now))) (rowsOf (a .store .now)) (a .out .now) (a .answer .now) (refusal (g .0 .0) (g .0 .1 .0)) (c .code .result) (f .last .1 .0) (a .answer .now) (c .before .before .before .before .before .before .before .before .if1 .left) (sym (ap means (g .1)) ∙ f .ensures .0) (c .code .ensures) (f .ensures .1) refl
-
-same-length-2 : tie.Need-same-length-2
-same-length-2 c = search needs
-
-same-length-3 : tie.Need-same-length-3
-same-length-3 c = search needs
+    right-answer (rowsVerdict (a .store .now) (length (a .out .now))) (rowsOf (a .store .now)) (a .out .now) (a .answer .now) (refusal (g .0 .0) (g .0 .1 .0)) (c .code .result) (f .last .1 .0)
+    (a .answer .now) (c .before .before .before .before .before .before .before .before .if1 .left) (sym (ap means (g .1)) ∙ f .ensures .0) (c .code .ensures) (f .ensures .1) refl
 
 returns-3 : tie.Need-returns-3
 returns-3 c =
-    let a = c .before .before .before .before .before .before .before .before .before .before .before .before .before .before .before .args in
+    let c10 = c .before .before .before .before .before .before .before .before .before .before in
+    let a = c10 .before .before .before .before .before .args in
     let g = c .before .before .before .before .before .r2 .given in
     let f = c .before .before .before .before .before .before .before .before .before .to-rows in
     let t = c .before .before .three in
-    right-answer (rowsVerdict (a .store .now) (length (a .out .now))) (rowsOf (a .store .now)) (a .out .now) (a .answer .now) (wrote (g .0 .0)) 0 (f .last .1 .0) (t .last .0) (c .before .before .before .before .before .before .before .before .before .before .before .if1 .left) (sym (ap means (g .1)) ∙ f .ensures .0) refl (f .ensures .1) (t .ensures)
+    right-answer (rowsVerdict (a .store .now) (length (a .out .now))) (rowsOf (a .store .now)) (a .out .now) (a .answer .now) (wrote (g .0 .0)) 0 (f .last .1 .0) (t .last .0)
+    (c10 .before .if1 .left) (sym (ap means (g .1)) ∙ f .ensures .0) refl (f .ensures .1) (t .ensures)
 
 pub rows-spec : {M : Type 1} → statement M
 rows-spec =
     tie.close
     (tie.spec
-    returns
-    to-rows-requires
-    enum-known-r
-    code-requires
-    enum-known-r-2
-    three-requires
-    same-length
-    returns-2
-    same-length-2
-    same-length-3
-    returns-3)
+    returns (λ c κs. search needs) (λ c. search needs) code-requires (λ c. search needs) three-requires (λ c. search needs) returns-2 (λ c. search needs)
+    (λ c. search needs) returns-3)

@@ -1,18 +1,10 @@
 -- `ending`: each ending has its kind, and the counts follow. Assumes nothing.
-use mathlib.Core.List.{_++_}
-use mathlib.Core.Path.{sym, ap, _∙_, subst}
-use native.Mathlib.Omega.{arith}
-use Rattle.run_state.specs.declared.Ending.{Ending}
-use Rattle.run_state.specs.Meaning.{endingOf}
-use Rattle.export_run.specs.Run.{endingBytes}
+use Rattle.model.specs.Kit.{_++_, sym, ap, _∙_, subst, arith, needs}
+use Rattle.run_state.specs.{declared.Ending.Ending, Meaning.endingOf}
+use Rattle.export_run.specs.{Run.endingBytes, inner.Inner.Counted}
 use Rattle.export_counts.specs.Tallied.{numbersOf}
-use Rattle.export_run.specs.Inner.{Counted}
-use borrow.Author.Needs.{needs}
 use Rattle.export_counts.proofs.ending.Statement.{statement}
 use Rattle.export_counts.proofs.ending.Tie as tie
-
-enum-known-e : tie.Need-enum-known-e
-enum-known-e c = search needs
 
 told-requires : tie.Need-told-requires
 told-requires c κs =
@@ -20,17 +12,11 @@ told-requires c κs =
     let k = subst (λ (x : Ending). Counted (endingOf x)) (g .1) (c .before .before .before .before .before .pre .1) in
     (c .before .before .before .before .before .pre .0, omega arith, k .plans, k .made, c .before .before .before .before .before .pre .2)
 
-enum-known-e-2 : tie.Need-enum-known-e-2
-enum-known-e-2 c = search needs
-
 told-requires-2 : tie.Need-told-requires-2
 told-requires-2 c κs =
     let g = c .before .before .e2 .given in
     let k = subst (λ (x : Ending). Counted (endingOf x)) (g .1) (c .before .before .before .before .before .pre .1) in
     (c .before .before .before .before .before .pre .0, omega arith, k .plans, k .made, c .before .before .before .before .before .pre .2)
-
-enum-known-e-3 : tie.Need-enum-known-e-3
-enum-known-e-3 c = search needs
 
 told-requires-3 : tie.Need-told-requires-3
 told-requires-3 c κs =
@@ -38,37 +24,21 @@ told-requires-3 c κs =
     let k = subst (λ (x : Ending). Counted (endingOf x)) (g .1) (c .before .before .before .before .before .pre .1) in
     (c .before .before .before .before .before .pre .0, omega arith, k .plans, k .made, c .before .before .before .before .before .pre .2)
 
-same-length : tie.Need-same-length
-same-length c = search needs
-
 returns : tie.Need-returns
-returns c = c .before .before .told .ensures ∙ ap (λ (x : Ending). endingBytes (endingOf x) ++ numbersOf (c .before .before .before .before .before .before .before .before .args .counts)) (sym (c .before .before .before .before .before .e .given .1))
-
-same-length-2 : tie.Need-same-length-2
-same-length-2 c = search needs
+returns c = c .before .before .told .ensures ∙ ap (λ (x : Ending). endingBytes (endingOf x) ++ numbersOf (c .before .before .before .before .before .before .before .before .args .counts))
+    (sym (c .before .before .before .before .before .e .given .1))
 
 returns-2 : tie.Need-returns-2
-returns-2 c = c .before .before .told2 .ensures ∙ ap (λ (x : Ending). endingBytes (endingOf x) ++ numbersOf (c .before .before .before .before .before .before .before .before .args .counts)) (sym (c .before .before .before .before .before .e2 .given .1))
-
-same-length-3 : tie.Need-same-length-3
-same-length-3 c = search needs
+returns-2 c = c .before .before .told2 .ensures ∙ ap (λ (x : Ending). endingBytes (endingOf x) ++ numbersOf (c .before .before .before .before .before .before .before .before .args .counts))
+    (sym (c .before .before .before .before .before .e2 .given .1))
 
 returns-3 : tie.Need-returns-3
-returns-3 c = c .before .before .told3 .ensures ∙ ap (λ (x : Ending). endingBytes (endingOf x) ++ numbersOf (c .before .before .before .before .before .before .before .before .args .counts)) (sym (c .before .before .before .before .before .e3 .given .1))
+returns-3 c = c .before .before .told3 .ensures ∙ ap (λ (x : Ending). endingBytes (endingOf x) ++ numbersOf (c .before .before .before .before .before .before .before .before .args .counts))
+    (sym (c .before .before .before .before .before .e3 .given .1))
 
 pub ending-spec : {M : Type 1} → statement M
 ending-spec =
     tie.close
     (tie.spec
-    enum-known-e
-    told-requires
-    enum-known-e-2
-    told-requires-2
-    enum-known-e-3
-    told-requires-3
-    same-length
-    returns
-    same-length-2
-    returns-2
-    same-length-3
-    returns-3)
+    (λ c. search needs) told-requires (λ c. search needs) told-requires-2 (λ c. search needs) told-requires-3 (λ c. search needs) returns (λ c. search needs)
+    returns-2 (λ c. search needs) returns-3)

@@ -1,14 +1,8 @@
 -- `numbers`: after i turns the first i counts are written. Assumes nothing.
-use mathlib.Core.Path.{_≡_, refl, _∙_}
-use Prim.Native.Nat.{_+_, _*_, _-_, _≤_}
-use native.Mathlib.Omega.{arith}
-use borrow.Author.Needs.{needs}
-use lib.ListN.{length, take}
-use Rattle.model.specs.Bytes.{fourBytes}
-use Rattle.model.specs.Written.{Written}
+use Rattle.model.specs.Kit.{_≡_, refl, _∙_, _+_, _*_, _-_, _≤_, arith, needs, length, take}
+use Rattle.model.specs.{Bytes.fourBytes, Written.Written}
 use Rattle.export_counts.specs.Tallied.{numbersOf}
-use Rattle.export_counts.proofs.Tallied.{numbers-start, numbers-turn, numbers-all}
-use Rattle.export_counts.proofs.numbers.Statement.{statement}
+use Rattle.export_counts.proofs.{Tallied.numbers-start, Tallied.numbers-turn, Tallied.numbers-all, numbers.Statement.statement}
 use Rattle.export_counts.proofs.numbers.Tie as tie
 
 abbrev Inv-loop : tie.InvT-loop
@@ -65,15 +59,4 @@ pub numbers-spec : {M : Type 1} → statement M
 numbers-spec =
     tie.close
     (tie.spec
-    Inv-loop
-    μ-loop
-    loop-holds
-    mul-four
-    array-read-four
-    cast-four
-    four-requires
-    add-i
-    loop-less
-    loop-again
-    same-length
-    returns)
+    Inv-loop μ-loop loop-holds mul-four array-read-four cast-four four-requires add-i loop-less loop-again same-length returns)

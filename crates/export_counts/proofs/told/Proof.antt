@@ -1,9 +1,7 @@
 -- `told`: three numbers and twelve counts, which fill the sixty bytes. Assumes nothing.
-use native.Mathlib.Omega.{arith}
+use Rattle.model.specs.Kit.{arith, needs}
 use Rattle.model.specs.Bytes.{fourBytes}
-use Rattle.export_counts.proofs.Tallied.{put-counts}
-use borrow.Author.Needs.{needs}
-use Rattle.export_counts.proofs.told.Statement.{statement}
+use Rattle.export_counts.proofs.{Tallied.put-counts, told.Statement.statement}
 use Rattle.export_counts.proofs.told.Tie as tie
 
 four-requires : tie.Need-four-requires
@@ -33,9 +31,6 @@ numbers-requires c κs =
     let s = p .before .before .before in
     (omega (arith, r .four3 .ensures .ends, r .four3 .kept .0, q .four2 .ensures .ends, q .four2 .kept .0, p .four .ensures .ends, p .four .kept .0, s .pre .0), s .pre .4)
 
-same-length : tie.Need-same-length
-same-length c = search needs
-
 returns : tie.Need-returns
 returns c =
     let n = c .before .before in
@@ -46,4 +41,7 @@ returns c =
     put-counts (s .args .kind) (s .args .plans) (s .args .nodes) (s .args .counts) (s .pre .0) (s .pre .4 .long) (p .four .ensures) (q .four2 .ensures) (r .four3 .ensures) (n .numbers .ensures)
 
 pub told-spec : {M : Type 1} → statement M
-told-spec = tie.close (tie.spec four-requires four-requires-2 four-requires-3 numbers-requires same-length returns)
+told-spec =
+    tie.close
+    (tie.spec
+    four-requires four-requires-2 four-requires-3 numbers-requires (λ c. search needs) returns)

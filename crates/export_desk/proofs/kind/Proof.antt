@@ -1,9 +1,6 @@
 -- `kind`: 4 while the run goes on, else by its ending. Assumes nothing.
-use mathlib.Core.Path.{_≡_, _∙_}
-use Prim.Native.Nat.{min}
-use native.Mathlib.Omega.{arith}
-use Rattle.export_desk.proofs.Replies.{kind-runs, kind-ends}
-use Rattle.export_desk.proofs.kind.Statement.{statement}
+use Rattle.model.specs.Kit.{_≡_, _∙_, min, arith}
+use Rattle.export_desk.proofs.{Replies.kind-runs, Replies.kind-ends, kind.Statement.statement}
 use Rattle.export_desk.proofs.kind.Tie as tie
 
 returns : tie.Need-returns

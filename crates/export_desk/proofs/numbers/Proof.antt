@@ -1,13 +1,8 @@
 -- `numbers`: four numbers, one after the other. Assumes nothing.
-use native.Mathlib.Omega.{arith}
+use Rattle.model.specs.Kit.{arith, needs}
 use Rattle.model.specs.Bytes.{fourBytes}
-use Rattle.export_desk.proofs.Replies.{put-four}
-use borrow.Author.Needs.{needs}
-use Rattle.export_desk.proofs.numbers.Statement.{statement}
+use Rattle.export_desk.proofs.{Replies.put-four, numbers.Statement.statement}
 use Rattle.export_desk.proofs.numbers.Tie as tie
-
-four-requires : tie.Need-four-requires
-four-requires c κs = search needs
 
 four-requires-2 : tie.Need-four-requires-2
 unfolding fourBytes
@@ -33,9 +28,6 @@ four-requires-4 c κs =
     let s = p .before .before .before in
     (omega (arith, r .four3 .ensures .ends, r .four3 .kept .0, q .four2 .ensures .ends, q .four2 .kept .0, p .four .ensures .ends, p .four .kept .0, s .pre .0), s .pre .4)
 
-same-length : tie.Need-same-length
-same-length c = search needs
-
 returns : tie.Need-returns
 returns c =
     let t = c .before .before in
@@ -48,4 +40,5 @@ returns c =
 pub numbers-spec : {M : Type 1} → statement M
 numbers-spec =
     tie.close
-    (tie.spec four-requires four-requires-2 four-requires-3 four-requires-4 same-length returns)
+    (tie.spec
+    (λ c κs. search needs) four-requires-2 four-requires-3 four-requires-4 (λ c. search needs) returns)

@@ -1,49 +1,26 @@
 -- `seen`: a refusal, or the four numbers and the counts behind them. Assumes nothing.
-use mathlib.Core.Path.{sym, ap, _∙_, subst}
-use mathlib.Core.List.{[], _++_}
-use Prim.Native.Nat.{ℕ}
-use native.Mathlib.Omega.{arith}
-use lib.ListN.{length}
-use Rattle.desk.specs.declared.Answer.{Answer}
-use Rattle.desk.specs.Meaning.{means}
+use Rattle.model.specs.Kit.{sym, ap, _∙_, subst, [], _++_, ℕ, arith, length, needs}
+use Rattle.desk.specs.{declared.Answer.Answer, Meaning.means}
 use Rattle.export_counts.specs.Tallied.{numbersOf}
 use Rattle.export_desk.specs.Told.{fourNumbers, replyCode, statusBytes, Sees}
-use Rattle.export_desk.proofs.Replies.{all-counts, after-four}
-use borrow.Author.Needs.{needs}
-use Rattle.export_desk.proofs.seen.Statement.{statement}
+use Rattle.export_desk.proofs.{Replies.all-counts, Replies.after-four, seen.Statement.statement}
 use Rattle.export_desk.proofs.seen.Tie as tie
-
-enum-known-r : tie.Need-enum-known-r
-enum-known-r c = search needs
 
 code-requires : tie.Need-code-requires
 code-requires c κs = subst (λ (q : Answer). Sees (means q []) (length (c .before .before .before .before .args .answer .now))) (c .before .r .given .1) (c .before .before .before .before .pre .0)
 
-enum-known-r-2 : tie.Need-enum-known-r-2
-enum-known-r-2 c = search needs
-
-kind-requires : tie.Need-kind-requires
-kind-requires c κs = search needs
-
 numbers-requires : tie.Need-numbers-requires
 numbers-requires c κs =
-    let h = subst (λ (q : Answer). Sees (means q []) (length (c .before .before .before .before .before .before .args .answer .now))) (c .before .before .before .r2 .given .1) (c .before .before .before .before .before .before .pre .0) in
+    let h = subst (λ (q : Answer). Sees (means q []) (length (c .before .before .before .before .before .before .args .answer .now))) (c .before .before .before .r2 .given .1)
+    (c .before .before .before .before .before .before .pre .0) in
     (omega (arith, h .0), omega (arith, c .kind .ensures .1), h .1, h .2, h .3)
 
 numbers-requires-2 : tie.Need-numbers-requires-2
 numbers-requires-2 c κs =
-    let h = subst (λ (q : Answer). Sees (means q []) (length (c .before .before .before .before .before .before .before .before .before .before .args .answer .now))) (c .before .before .before .before .before .before .before .r2 .given .1) (c .before .before .before .before .before .before .before .before .before .before .pre .0) in
+    let h = subst (λ (q : Answer). Sees (means q []) (length (c .before .before .before .before .before .before .before .before .before .before .args .answer .now)))
+    (c .before .before .before .before .before .before .before .r2 .given .1) (c .before .before .before .before .before .before .before .before .before .before .pre .0) in
     let n = c .before .before .before .numbers in
     (omega (arith, after-four _ _ _ _ (n .ensures), n .kept .0, h .0), c .before .before .before .before .before .before .before .before .before .before .pre .1)
-
-enum-known-r-3 : tie.Need-enum-known-r-3
-enum-known-r-3 c = search needs
-
-enum-told : tie.Need-enum-told
-enum-told c = search needs
-
-enum-known-r-4 : tie.Need-enum-known-r-4
-enum-known-r-4 c = search needs
 
 returns : tie.Need-returns
 returns c =
@@ -51,18 +28,17 @@ returns c =
     let e = sym (c .before .before .r .given .1) in
     (c .code .ensures ∙ ap (λ (q : Answer). replyCode (means q [])) e, ap (λ (q : Answer). statusBytes (means q []) (a .counts) (a .answer .now)) e)
 
-same-length : tie.Need-same-length
-same-length c = search needs
-
 returns-2 : tie.Need-returns-2
 returns-2 c =
-    let a = c .before .before .before .before .before .before .before .before .before .before .before .before .before .args in
-    let g = c .before .before .before .before .before .before .before .before .before .before .r2 .given in
+    let c10 = c .before .before .before .before .before .before .before .before .before .before in
+    let a = c10 .before .before .before .args in
+    let g = c10 .r2 .given in
     let e = sym (g .1) in
-    let h = subst (λ (q : Answer). Sees (means q []) (length (c .before .before .before .before .before .before .before .before .before .before .before .before .before .args .answer .now))) (c .before .before .before .before .before .before .before .before .before .before .r2 .given .1) (c .before .before .before .before .before .before .before .before .before .before .before .before .before .pre .0) in
+    let h = subst (λ (q : Answer). Sees (means q []) (length (c10 .before .before .before .args .answer .now))) (c10 .r2 .given .1) (c10 .before .before .before .pre .0) in
     let k = c .before .before .before .before .before .before .before .kind .ensures .0 (g .0 .1 .1 .0) (g .0 .1 .1 .1 .0) in (
       ap (λ (q : Answer). replyCode (means q [])) e,
-      all-counts _ (g .0 .0) (g .0 .1 .1 .0) (g .0 .1 .1 .1 .0) (a .counts) (h .0) (c .before .before .before .before .before .before .before .before .before .before .before .before .before .pre .1 .long) (c .before .before .before .before .before .before .numbers .ensures) (c .before .before .numbers2 .ensures)
+      all-counts _ (g .0 .0) (g .0 .1 .1 .0) (g .0 .1 .1 .1 .0) (a .counts) (h .0) (c10 .before .before .before .pre .1 .long) (c .before .before .before .before .before .before .numbers .ensures)
+          (c .before .before .numbers2 .ensures)
           ∙ ap (λ (i : ℕ). fourNumbers i (g .0 .0) (g .0 .1 .1 .0) (g .0 .1 .1 .1 .0) ++ numbersOf (a .counts)) k ∙ ap (λ (q : Answer). statusBytes (means q []) (a .counts) (a .answer .now)) e,
     )
 
@@ -79,18 +55,5 @@ pub seen-spec : {M : Type 1} → statement M
 seen-spec =
     tie.close
     (tie.spec
-    enum-known-r
-    code-requires
-    enum-known-r-2
-    kind-requires
-    numbers-requires
-    numbers-requires-2
-    enum-known-r-3
-    enum-told
-    enum-known-r-4
-    returns
-    same-length
-    returns-2
-    returns-3
-    returns-4
-    returns-5)
+    (λ c. search needs) code-requires (λ c. search needs) (λ c κs. search needs) numbers-requires numbers-requires-2 (λ c. search needs) (λ c. search needs)
+    (λ c. search needs) returns (λ c. search needs) returns-2 returns-3 returns-4 returns-5)

@@ -1,38 +1,23 @@
 -- `families`: the answer's length is asked first; then the figure, as three numbers. Assumes nothing.
-use mathlib.Core.Path.{refl, sym, ap, _∙_}
-use native.Mathlib.Omega.{arith}
-use borrow.Author.Needs.{needs}
+use Rattle.model.specs.Kit.{refl, sym, ap, _∙_, arith, needs}
 use Rattle.families_figure.specs.Figure.{number, dash}
 use Rattle.families_count.specs.Told.{refusal, told, means}
 use Rattle.families_count.proofs.Bare.{told-few}
 use Rattle.wire.proofs.Codes.{refused-small}
 use Rattle.export_lent.proofs.Lent.{lent-small}
-use Rattle.export_families.proofs.Figures.{wrong-answer, right-answer, refusal-counted}
-use Rattle.export_families.proofs.families.Statement.{statement}
+use Rattle.export_families.proofs.{Figures.wrong-answer, Figures.right-answer, Figures.refusal-counted, families.Statement.statement}
 use Rattle.export_families.proofs.families.Tie as tie
 
 returns : tie.Need-returns
 returns c = wrong-answer _ _ _ _ _ (c .if1 .taken)
-
-families-requires : tie.Need-families-requires
-families-requires c κs = search needs
-
-enum-known-r : tie.Need-enum-known-r
-enum-known-r c = search needs
 
 code-requires : tie.Need-code-requires
 code-requires c κs =
     let g = c .before .r .given in
     refused-small _ (g .0 .0) (g .0 .1 .0) (refusal-counted _ _ _ _ _ _ (sym (ap means (g .1)) ∙ c .before .before .before .families .ensures)) (lent-small _ _ _)
 
-enum-told : tie.Need-enum-told
-enum-told c = search needs
-
 three-requires : tie.Need-three-requires
 three-requires c κs = (c .before .before .before .before .if1 .left, omega arith, omega arith, omega arith)
-
-enum-known-r-2 : tie.Need-enum-known-r-2
-enum-known-r-2 c = search needs
 
 three-requires-2 : tie.Need-three-requires-2
 three-requires-2 c κs =
@@ -42,39 +27,25 @@ three-requires-2 c κs =
 returns-2 : tie.Need-returns-2
 returns-2 c =
     let g = c .before .before .r .given in
-    right-answer _ _ _ _ _ (refusal (g .0 .0) (g .0 .1 .0)) _ _ (c .before .before .before .before .before .if1 .left) (sym (ap means (g .1)) ∙ c .before .before .before .before .families .ensures) (c .code .ensures) refl
-
-same-length : tie.Need-same-length
-same-length c = search needs
+    right-answer _ _ _ _ _ (refusal (g .0 .0) (g .0 .1 .0)) _ _ (c .before .before .before .before .before .if1 .left)
+    (sym (ap means (g .1)) ∙ c .before .before .before .before .families .ensures) (c .code .ensures) refl
 
 returns-3 : tie.Need-returns-3
 returns-3 c =
     let t = c .before .before in
-    right-answer _ _ _ _ _ (told dash) _ _ (t .before .before .before .before .before .if1 .left) (sym (ap means (t .before .before .enum-told .given .1)) ∙ t .before .before .before .before .families .ensures) refl (t .three .ensures)
-
-same-length-2 : tie.Need-same-length-2
-same-length-2 c = search needs
+    right-answer _ _ _ _ _ (told dash) _ _ (t .before .before .before .before .before .if1 .left)
+    (sym (ap means (t .before .before .enum-told .given .1)) ∙ t .before .before .before .before .families .ensures) refl (t .three .ensures)
 
 returns-4 : tie.Need-returns-4
 returns-4 c =
     let t = c .before .before in
     let g = t .before .before .before .r2 .given in
-    right-answer _ _ _ _ _ (told (number (g .0 .0))) _ _ (t .before .before .before .before .before .before .if1 .left) (sym (ap means (g .1)) ∙ t .before .before .before .before .before .families .ensures) refl (t .three2 .ensures)
+    right-answer _ _ _ _ _ (told (number (g .0 .0))) _ _ (t .before .before .before .before .before .before .if1 .left)
+    (sym (ap means (g .1)) ∙ t .before .before .before .before .before .families .ensures) refl (t .three2 .ensures)
 
 pub families-spec : {M : Type 1} → statement M
 families-spec =
     tie.close
     (tie.spec
-    returns
-    families-requires
-    enum-known-r
-    code-requires
-    enum-told
-    three-requires
-    enum-known-r-2
-    three-requires-2
-    returns-2
-    same-length
-    returns-3
-    same-length-2
-    returns-4)
+    returns (λ c κs. search needs) (λ c. search needs) code-requires (λ c. search needs) three-requires (λ c. search needs) three-requires-2 returns-2
+    (λ c. search needs) returns-3 (λ c. search needs) returns-4)

@@ -1,24 +1,9 @@
 -- `filter_code`: the number of each case. Assumes nothing.
-use mathlib.Core.Path.{sym, ap, _∙_, subst}
-use Rattle.filter.specs.declared.Answer.{Answer}
-use Rattle.filter.specs.Lists.{means}
-use Rattle.export_filter.specs.Filter.{filterAnswerCode}
-use Rattle.export_filter.specs.Filter.{SmallAnswer}
-use borrow.Author.Needs.{needs}
+use Rattle.model.specs.Kit.{sym, ap, _∙_, subst, needs}
+use Rattle.filter.specs.{declared.Answer.Answer, Lists.means}
+use Rattle.export_filter.specs.Filter.{filterAnswerCode, SmallAnswer}
 use Rattle.export_filter.proofs.filter_code.Statement.{statement}
 use Rattle.export_filter.proofs.filter_code.Tie as tie
-
-enum-told : tie.Need-enum-told
-enum-told c = search needs
-
-enum-told-2 : tie.Need-enum-told-2
-enum-told-2 c = search needs
-
-enum-told-3 : tie.Need-enum-told-3
-enum-told-3 c = search needs
-
-enum-known-answer : tie.Need-enum-known-answer
-enum-known-answer c = search needs
 
 code-requires : tie.Need-code-requires
 code-requires c κs = subst (λ (z : Answer). SmallAnswer (means z)) (c .before .answer .given .1) (c .before .before .before .pre)
@@ -39,12 +24,4 @@ pub filter-code-spec : {M : Type 1} → statement M
 filter-code-spec =
     tie.close
     (tie.spec
-    enum-told
-    enum-told-2
-    enum-told-3
-    enum-known-answer
-    code-requires
-    returns
-    returns-2
-    returns-3
-    returns-4)
+    (λ c. search needs) (λ c. search needs) (λ c. search needs) (λ c. search needs) code-requires returns returns-2 returns-3 returns-4)

@@ -1,22 +1,11 @@
 -- `question_lent`: the verdict as one number. Assumes nothing.
-use mathlib.Core.Path.{sym, ap, _∙_}
+use Rattle.model.specs.Kit.{sym, ap, _∙_, needs}
 use Rattle.sheet.specs.Meaning.{means}
 use Rattle.wire.specs.Wire.{codeOf}
 use Rattle.export_lent.specs.Lent.{lentQuestionCode}
 use Rattle.wire.proofs.Codes.{refused-small}
-use Rattle.export_lent.proofs.Lent.{lent-small}
-use borrow.Author.Needs.{needs}
-use Rattle.export_lent.proofs.question_lent.Statement.{statement}
+use Rattle.export_lent.proofs.{Lent.lent-small, question_lent.Statement.statement}
 use Rattle.export_lent.proofs.question_lent.Tie as tie
-
-question-requires : tie.Need-question-requires
-question-requires c κs = search needs
-
-enum-told : tie.Need-enum-told
-enum-told c = search needs
-
-enum-known-answer : tie.Need-enum-known-answer
-enum-known-answer c = search needs
 
 code-requires : tie.Need-code-requires
 code-requires c κs =
@@ -34,4 +23,5 @@ returns-2 c = c .code .ensures ∙ ap codeOf (sym (ap means (c .before .before .
 pub question-lent-spec : {M : Type 1} → statement M
 question-lent-spec =
     tie.close
-    (tie.spec question-requires enum-told enum-known-answer code-requires returns returns-2)
+    (tie.spec
+    (λ c κs. search needs) (λ c. search needs) (λ c. search needs) code-requires returns returns-2)

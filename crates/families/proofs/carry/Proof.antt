@@ -1,14 +1,10 @@
 -- The loop: the pairs of the variables below x are in the key where they go to.
-use mathlib.Core.Path.{_≡_, sym, subst}
-use Prim.Native.Nat.{ℕ, _+_, _-_, _*_, _/_, _%_, _^_, _≤_, _<_}
-use native.Mathlib.Omega.{arith}
-use Rattle.model.specs.Lists.{at}
-use Rattle.model.specs.Problem.{Problem}
-use Rattle.arrays.specs.Places.{IMAGES}
-use Rattle.families.specs.Numbered.{Imaging, Weighed}
-use Rattle.families.proofs.Keys.{digit-small}
-use Rattle.families.proofs.Rows.{Carrying, sent, imaging-bounds, imaging-value, imaging-index, imaging-variable, carrying-begin, carrying-small, carrying-turn, carrying-end}
-use Rattle.families.proofs.carry.Statement.{statement}
+use Rattle.model.specs.Kit.{_≡_, sym, subst, ℕ, _+_, _-_, _*_, _/_, _%_, _^_, _≤_, _<_, arith}
+use Rattle.model.specs.{Lists.at, Problem.Problem}
+use Rattle.arrays.specs.inner.Places.{IMAGES}
+use Rattle.families.specs.inner.Numbered.{Imaging, Weighed}
+use Rattle.families.proofs.{Keys.digit-small, Rows.Carrying, Rows.sent, Rows.imaging-bounds, Rows.imaging-value, Rows.imaging-index, Rows.imaging-variable}
+use Rattle.families.proofs.{Rows.carrying-begin, Rows.carrying-small, Rows.carrying-turn, Rows.carrying-end, carry.Statement.statement}
 use Rattle.families.proofs.carry.Tie as tie
 
 abbrev Inv-loop : tie.InvT-loop
@@ -114,23 +110,5 @@ pub carry-spec : {M : Type 1} → statement M
 carry-spec =
     tie.close
     (tie.spec
-    Inv-loop
-    μ-loop
-    mul-base
-    mul-from
-    loop-holds
-    mul-code
-    add-code
-    add-code-2
-    shared-slice-read-code
-    cast-code
-    add-code-3
-    element-copy-out-code
-    cast-r
-    mul-r
-    element-copy-out-r
-    add-r
-    add-x
-    loop-less
-    loop-again
-    returns)
+    Inv-loop μ-loop mul-base mul-from loop-holds mul-code add-code add-code-2 shared-slice-read-code cast-code add-code-3 element-copy-out-code cast-r mul-r
+    element-copy-out-r add-r add-x loop-less loop-again returns)

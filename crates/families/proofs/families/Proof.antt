@@ -1,15 +1,9 @@
 -- The loop: the solutions below i were asked, and the queue is empty.
-use mathlib.Core.Path.{refl}
-use mathlib.Core.Logic.{⊎-elim}
-use Prim.Native.Nat.{_-_}
-use native.Mathlib.Omega.{arith}
-use Rattle.model.specs.Lists.{at}
-use Rattle.model.specs.Problem.{Problem}
-use Rattle.families.specs.Numbered.{Counted}
-use Rattle.families.proofs.Rows.{listed-twelve}
-use Rattle.families.proofs.Chains.{unlinked-begin}
-use Rattle.families.proofs.Turns.{Counting, finder-made, counting-begin, counting-bounds, counting-room, counting-start, counting-flooded, counting-known, counting-end}
-use Rattle.families.proofs.families.Statement.{statement}
+use Rattle.model.specs.Kit.{refl, ⊎-elim, _-_, arith}
+use Rattle.model.specs.{Lists.at, Problem.Problem}
+use Rattle.families.specs.inner.Numbered.{Counted}
+use Rattle.families.proofs.{Rows.listed-twelve, Chains.unlinked-begin, Turns.Counting, Turns.finder-made, Turns.counting-begin, Turns.counting-bounds, Turns.counting-room}
+use Rattle.families.proofs.{Turns.counting-start, Turns.counting-flooded, Turns.counting-known, Turns.counting-end, families.Statement.statement}
 use Rattle.families.proofs.families.Tie as tie
 
 abbrev Inv-loop : tie.InvT-loop
@@ -78,7 +72,8 @@ loop-again c =
     let i = c .before in λ p n.
     let t = i .before .loop .inv p n in
     let l = i .loop-test .taken in
-    ⊎-elim (λ w. counting-flooded t l (w .6 .ensures p _ _ (counting-start t l (w .0 .taken))) (w .7) (w .8) (w .9) (w .10)) (λ w. counting-known t l (w .0 .left) (w .1) (w .2) (w .3) (w .4)) (c .if1 .came)
+    ⊎-elim (λ w. counting-flooded t l (w .6 .ensures p _ _ (counting-start t l (w .0 .taken))) (w .7) (w .8) (w .9) (w .10)) (λ w. counting-known t l (w .0 .left) (w .1) (w .2) (w .3) (w .4))
+    (c .if1 .came)
 
 returns : tie.Need-returns Inv-loop μ-loop
 returns c = λ p n. counting-end (c .before .loop .inv p n) (c .loop-test .left)
@@ -87,20 +82,5 @@ pub families-spec : {M : Type 1} → statement M
 families-spec =
     tie.close
     (tie.spec
-    Inv-loop
-    μ-loop
-    fill-requires
-    weigh-requires
-    loop-holds
-    array-read-if1
-    array-write-seen
-    cast-queue
-    mul-queue
-    array-write-queue
-    add-count
-    add-flood
-    flood-requires
-    add-i
-    loop-less
-    loop-again
-    returns)
+    Inv-loop μ-loop fill-requires weigh-requires loop-holds array-read-if1 array-write-seen cast-queue mul-queue array-write-queue add-count add-flood
+    flood-requires add-i loop-less loop-again returns)

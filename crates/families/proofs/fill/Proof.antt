@@ -1,15 +1,8 @@
 -- The loop: the first i rows are in their chains.
-use mathlib.Core.Path.{_≡_, _∙_, subst}
-use Prim.Native.Nat.{_+_, _*_, _-_, _%_, _≤_, _<_}
-use native.Mathlib.Omega.{arith}
-use lib.ListN.{length, length-set}
-use Rattle.model.specs.Lists.{at}
-use Rattle.model.specs.Problem.{Problem}
-use Rattle.families.specs.Families.{solutionsOf}
-use Rattle.families.specs.Numbered.{Chained, Unlinked, Listed}
-use Rattle.families.proofs.Keys.{key-small}
-use Rattle.families.proofs.Rows.{listed-twelve, listed-row, listed-small}
-use Rattle.families.proofs.Chains.{chained-begin, chained-link, chained-turn}
+use Rattle.model.specs.Kit.{_≡_, _∙_, subst, _+_, _*_, _-_, _%_, _≤_, _<_, arith, length, length-set}
+use Rattle.model.specs.{Lists.at, Problem.Problem}
+use Rattle.families.specs.{Families.solutionsOf, inner.Numbered.Chained, inner.Numbered.Unlinked, inner.Numbered.Listed}
+use Rattle.families.proofs.{Keys.key-small, Rows.listed-twelve, Rows.listed-row, Rows.listed-small, Chains.chained-begin, Chains.chained-link, Chains.chained-turn}
 use Rattle.families.proofs.fill.Statement.{statement}
 use Rattle.families.proofs.fill.Tie as tie
 
@@ -127,23 +120,5 @@ pub fill-spec : {M : Type 1} → statement M
 fill-spec =
     tie.close
     (tie.spec
-    Inv-loop
-    μ-loop
-    loop-holds
-    mul-key
-    key-requires
-    mul-keys
-    mul-keys-2
-    element-copy-out-keys
-    cast-keys
-    add-keys
-    mul-keys-3
-    element-write-keys
-    add-heads
-    cast-heads
-    mul-heads
-    element-write-heads
-    add-i
-    loop-less
-    loop-again
-    returns)
+    Inv-loop μ-loop loop-holds mul-key key-requires mul-keys mul-keys-2 element-copy-out-keys cast-keys add-keys mul-keys-3 element-write-keys add-heads
+    cast-heads mul-heads element-write-heads add-i loop-less loop-again returns)

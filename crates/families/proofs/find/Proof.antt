@@ -1,10 +1,7 @@
 -- The loop: the solution is in the chain, before the link.
-use mathlib.Core.List.{List}
-use Prim.Native.Nat.{ℕ, _≤_}
-use native.Mathlib.Omega.{arith}
-use Rattle.model.specs.Lists.{at}
-use Rattle.model.specs.Problem.{Problem}
-use Rattle.families.specs.Numbered.{Finding}
+use Rattle.model.specs.Kit.{List, ℕ, _≤_, arith}
+use Rattle.model.specs.{Lists.at, Problem.Problem}
+use Rattle.families.specs.inner.Numbered.{Finding}
 use Rattle.families.proofs.Chains.{Seeking, seeking-begin, seeking-bounds, seeking-turn, seeking-less, seeking-end}
 use Rattle.families.proofs.find.Statement.{statement}
 use Rattle.families.proofs.find.Tie as tie
@@ -70,19 +67,5 @@ pub find-spec : {M : Type 1} → statement M
 find-spec =
     tie.close
     (tie.spec
-    Inv-loop
-    μ-loop
-    mul-link
-    element-copy-out-link
-    cast-link
-    loop-holds
-    sub-if1
-    mul-if1
-    element-copy-out-if1
-    sub-link
-    mul-link-2
-    element-copy-out-link-2
-    loop-less
-    loop-again
-    sub-result
-    returns)
+    Inv-loop μ-loop mul-link element-copy-out-link cast-link loop-holds sub-if1 mul-if1 element-copy-out-if1 sub-link mul-link-2 element-copy-out-link-2
+    loop-less loop-again sub-result returns)

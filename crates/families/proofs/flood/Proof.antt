@@ -1,10 +1,8 @@
 -- The loop: the images of the first of the queue were all looked at.
-use Prim.Native.Nat.{ℕ, _-_}
-use native.Mathlib.Omega.{arith}
+use Rattle.model.specs.Kit.{ℕ, _-_, arith}
 use Rattle.model.specs.Problem.{Problem}
-use Rattle.families.specs.Numbered.{Spreading, Flooding}
-use Rattle.families.proofs.Turns.{spread-head, flooding-spread, flooding-turn, flooding-end}
-use Rattle.families.proofs.flood.Statement.{statement}
+use Rattle.families.specs.inner.Numbered.{Spreading, Flooding}
+use Rattle.families.proofs.{Turns.spread-head, Turns.flooding-spread, Turns.flooding-turn, Turns.flooding-end, flood.Statement.statement}
 use Rattle.families.proofs.flood.Tie as tie
 
 abbrev Inv-loop : tie.InvT-loop
@@ -50,4 +48,5 @@ returns c = λ p starts count f. flooding-end (c .before .loop .inv p starts cou
 pub flood-spec : {M : Type 1} → statement M
 flood-spec =
     tie.close
-    (tie.spec Inv-loop μ-loop loop-holds spread-requires add-first loop-less loop-again returns)
+    (tie.spec
+    Inv-loop μ-loop loop-holds spread-requires add-first loop-less loop-again returns)

@@ -1,11 +1,7 @@
 -- The row that the symmetry makes is that of a solution, whose number the search finds.
-use borrow.Author.Needs.{needs}
-use Rattle.families.proofs.Rows.{numbering-finding, numbering-end}
-use Rattle.families.proofs.image.Statement.{statement}
+use Rattle.model.specs.Kit.{needs}
+use Rattle.families.proofs.{Rows.numbering-finding, Rows.numbering-end, image.Statement.statement}
 use Rattle.families.proofs.image.Tie as tie
-
-carry-requires : tie.Need-carry-requires
-carry-requires c κs = search needs
 
 find-requires : tie.Need-find-requires
 find-requires c κs = let r = c .before .before .pre in (_, _, numbering-finding (r .1) (c .carry .ensures (r .0) (r .1 .imaging) (r .1 .finder .weighed)))
@@ -14,4 +10,4 @@ returns : tie.Need-returns
 returns c = λ p n. numbering-end n (c .find .ensures p _ (numbering-finding n (c .before .carry .ensures p (n .imaging) (n .finder .weighed))))
 
 pub image-spec : {M : Type 1} → statement M
-image-spec = tie.close (tie.spec carry-requires find-requires returns)
+image-spec = tie.close (tie.spec (λ c κs. search needs) find-requires returns)

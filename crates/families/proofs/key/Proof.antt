@@ -1,11 +1,8 @@
 -- The loop: r is the key of the first x values.
-use mathlib.Core.Path.{_≡_, refl, sym, ap, _∙_}
-use Prim.Native.Nat.{ℕ, _+_, _-_, _*_, _≤_, _<_}
-use native.Mathlib.Omega.{arith}
+use Rattle.model.specs.Kit.{_≡_, refl, sym, ap, _∙_, ℕ, _+_, _-_, _*_, _≤_, _<_, arith}
 use Rattle.model.specs.Lists.{at}
-use Rattle.families.specs.Numbered.{keyOf}
-use Rattle.families.proofs.Keys.{key-next, key-small}
-use Rattle.families.proofs.key.Statement.{statement}
+use Rattle.families.specs.inner.Numbered.{keyOf}
+use Rattle.families.proofs.{Keys.key-next, Keys.key-small, key.Statement.statement}
 use Rattle.families.proofs.key.Tie as tie
 
 abbrev Inv-loop : tie.InvT-loop
@@ -64,15 +61,4 @@ pub key-spec : {M : Type 1} → statement M
 key-spec =
     tie.close
     (tie.spec
-    Inv-loop
-    μ-loop
-    loop-holds
-    mul-r
-    add-r
-    shared-slice-read-r
-    cast-r
-    add-r-2
-    add-x
-    loop-less
-    loop-again
-    returns)
+    Inv-loop μ-loop loop-holds mul-r add-r shared-slice-read-r cast-r add-r-2 add-x loop-less loop-again returns)

@@ -1,13 +1,9 @@
 -- The loop: the images by the first k symmetries were looked at.
-use mathlib.Core.Logic.{⊎-elim}
-use Prim.Native.Nat.{ℕ, _-_, _≤_, _<_}
-use native.Mathlib.Omega.{arith}
-use lib.ListN.{getD}
-use Rattle.model.specs.Lists.{at}
-use Rattle.model.specs.Problem.{Problem}
-use Rattle.families.specs.Numbered.{Spreading}
-use Rattle.families.proofs.Turns.{Turning, spread-head, turning-begin, turning-tail, turning-end, turning-numbering, turning-small, turning-room, turning-pushed, turning-stayed}
-use Rattle.families.proofs.spread.Statement.{statement}
+use Rattle.model.specs.Kit.{⊎-elim, ℕ, _-_, _≤_, _<_, arith, getD}
+use Rattle.model.specs.{Lists.at, Problem.Problem}
+use Rattle.families.specs.inner.Numbered.{Spreading}
+use Rattle.families.proofs.Turns.{Turning, spread-head, turning-begin, turning-tail, turning-end, turning-numbering, turning-small, turning-room, turning-pushed}
+use Rattle.families.proofs.{Turns.turning-stayed, spread.Statement.statement}
 use Rattle.families.proofs.spread.Tie as tie
 
 abbrev Inv-loop : tie.InvT-loop
@@ -102,20 +98,5 @@ pub spread-spec : {M : Type 1} → statement M
 spread-spec =
     tie.close
     (tie.spec
-    Inv-loop
-    μ-loop
-    mul-i
-    element-copy-out-i
-    cast-i
-    loop-holds
-    image-requires
-    element-copy-out-if1
-    element-write-seen
-    cast-queue
-    mul-queue
-    element-write-queue
-    add-end
-    add-k
-    loop-less
-    loop-again
-    returns)
+    Inv-loop μ-loop mul-i element-copy-out-i cast-i loop-holds image-requires element-copy-out-if1 element-write-seen cast-queue mul-queue element-write-queue
+    add-end add-k loop-less loop-again returns)

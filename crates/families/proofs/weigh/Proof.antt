@@ -1,12 +1,8 @@
 -- The loop: the pairs below c are weighed.
-use mathlib.Core.Path.{_≡_, _∙_}
-use Prim.Native.Nat.{ℕ, _-_, _*_, _/_, _%_, _^_, _≤_, _<_}
-use native.Mathlib.Omega.{arith}
-use lib.ListN.{length, length-set}
+use Rattle.model.specs.Kit.{_≡_, _∙_, ℕ, _-_, _*_, _/_, _%_, _^_, _≤_, _<_, arith, length, length-set}
 use Rattle.model.specs.Lists.{at}
 use Rattle.model.proofs.Lists.{set-each}
-use Rattle.families.proofs.Keys.{digit-shifted}
-use Rattle.families.proofs.weigh.Statement.{statement}
+use Rattle.families.proofs.{Keys.digit-shifted, weigh.Statement.statement}
 use Rattle.families.proofs.weigh.Tie as tie
 
 abbrev Inv-loop : tie.InvT-loop
@@ -65,17 +61,4 @@ pub weigh-spec : {M : Type 1} → statement M
 weigh-spec =
     tie.close
     (tie.spec
-    Inv-loop
-    μ-loop
-    mul-end
-    loop-holds
-    sub-weights
-    sub-weights-2
-    mul-weights
-    shl-weights
-    mul-weights-2
-    element-write-weights
-    add-c
-    loop-less
-    loop-again
-    returns)
+    Inv-loop μ-loop mul-end loop-holds sub-weights sub-weights-2 mul-weights shl-weights mul-weights-2 element-write-weights add-c loop-less loop-again returns)

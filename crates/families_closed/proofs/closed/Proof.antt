@@ -1,22 +1,14 @@
 -- The questions, then the test. Assumes nothing.
-use mathlib.Core.Path.{refl, ap}
-use borrow.Author.Needs.{needs}
+use Rattle.model.specs.Kit.{refl, ap, needs}
 use Rattle.model.specs.Verdict.{accepted, refused}
-use Rattle.arrays.specs.Places.{NUMBERS, SUPPORTS}
+use Rattle.arrays.specs.inner.Places.{NUMBERS, SUPPORTS}
 use Rattle.sheet.specs.Meaning.{means}
 use Rattle.sheet.proofs.Whole.{zeros}
-use Rattle.families_closed.proofs.Testing.{passed-of, told-for}
-use Rattle.families_closed.proofs.closed.Statement.{statement}
+use Rattle.families_closed.proofs.{Testing.passed-of, Testing.told-for, closed.Statement.statement}
 use Rattle.families_closed.proofs.closed.Tie as tie
 
 ask-requires : tie.Need-ask-requires
 ask-requires c κs = (zeros NUMBERS, zeros SUPPORTS, refl, refl)
-
-enum-known-asked : tie.Need-enum-known-asked
-enum-known-asked c = search needs
-
-enum-told : tie.Need-enum-told
-enum-told c = search needs
 
 test-requires : tie.Need-test-requires
 test-requires c κs = (_, _, passed-of _ _ _ _ _ _ _ _ (c .before .before .before .before .ask .ensures) (c .before .before .enum-told .given .1))
@@ -34,4 +26,6 @@ returns-2 c =
 
 pub closed-spec : {M : Type 1} → statement M
 closed-spec =
-    tie.close (tie.spec ask-requires enum-known-asked enum-told test-requires returns returns-2)
+    tie.close
+    (tie.spec
+    ask-requires (λ c. search needs) (λ c. search needs) test-requires returns returns-2)

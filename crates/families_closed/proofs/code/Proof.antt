@@ -1,18 +1,11 @@
 -- A quotient and a remainder are no larger than the number. Assumes nothing.
+use Rattle.model.specs.Kit.{arith, needs}
 use native.Mathlib.Nat.{div-le-self, mod-le}
-use native.Mathlib.Omega.{arith}
-use borrow.Author.Needs.{needs}
 use Rattle.families_closed.proofs.code.Statement.{statement}
 use Rattle.families_closed.proofs.code.Tie as tie
 
-div-result : tie.Need-div-result
-div-result c = search needs
-
 mul-result : tie.Need-mul-result
 mul-result c = let a = c .args in omega (arith, div-le-self (a .q) (a .values))
-
-rem-result : tie.Need-rem-result
-rem-result c = search needs
 
 add-result : tie.Need-add-result
 add-result c = let a = c .args in omega (arith, div-le-self (a .q) (a .values), mod-le (a .q) (a .values))
@@ -21,4 +14,7 @@ returns : tie.Need-returns
 returns c = search needs
 
 pub code-spec : {M : Type 1} → statement M
-code-spec = tie.close (tie.spec div-result mul-result rem-result add-result returns)
+code-spec =
+    tie.close
+    (tie.spec
+    (λ c. search needs) mul-result (λ c. search needs) add-result returns)

@@ -1,21 +1,15 @@
 -- The loop: the pairs before number k are made.
-use mathlib.Core.Path.{_≡_, refl, sym, _∙_}
-use mathlib.Core.Bool.{true}
-use Prim.Native.Nat.{ℕ, _-_, _*_, _/_, _%_, _≤_, _<_}
-use native.Mathlib.Omega.{arith}
-use borrow.Author.Needs.{needs}
-use lib.ListN.{length}
+use Rattle.model.specs.Kit.{_≡_, refl, sym, _∙_, true, ℕ, _-_, _*_, _/_, _%_, _≤_, _<_, arith, needs, length}
 use Rattle.model.specs.Problem.{Problem}
-use Rattle.families_closed.specs.Open.{made}
-use Rattle.families_closed.specs.Held.{Held}
-use Rattle.families_closed.proofs.Open.{not-true, not-false, pair-parts, missing-found, missing-all}
-use Rattle.families_closed.proofs.Codes.{and-last, square-few}
+use Rattle.families_closed.specs.{Open.made, inner.Held.Held}
+use Rattle.families_closed.proofs.{Open.not-true, Open.not-false, Open.pair-parts, Open.missing-found, Open.missing-all, Codes.and-last, Codes.square-few}
 use Rattle.families_closed.proofs.first_missing.Statement.{statement}
 use Rattle.families_closed.proofs.first_missing.Tie as tie
 
 abbrev Inv-loop : tie.InvT-loop
 Inv-loop images variables values symmetries all k₀ k =
-    (k ≤ all) × (all ≡ symmetries * symmetries) × ((p : Problem) → Held p images variables values → symmetries ≡ length (p .symmetries) → (j : ℕ) → j < k → made p (j / symmetries) (j % symmetries) ≡ true)
+    (k ≤ all) × (all ≡ symmetries * symmetries) × ((p : Problem) → Held p images variables values → symmetries ≡ length (p .symmetries) → (j : ℕ) → j < k → made p (j / symmetries)
+    (j % symmetries) ≡ true)
 
 abbrev μ-loop : tie.MeasureT-loop
 μ-loop images variables values symmetries all k₀ k = all - k
@@ -41,7 +35,8 @@ is-made-requires c κs =
 returns : tie.Need-returns Inv-loop μ-loop
 returns c = λ p n e.
     let q = pair-parts (c .before .before .before .before .args .symmetries) (c .before .before .before .loop .k) (omega arith) in
-    missing-found p _ (c .before .before .before .loop .k) e (omega arith) (c .before .before .before .loop .inv .2 p n e) (sym (c .before .is-made .ensures p n e (q .1) (q .2)) ∙ not-true (c .before .is-made .result) (c .if1 .taken))
+    missing-found p _ (c .before .before .before .loop .k) e (omega arith) (c .before .before .before .loop .inv .2 p n e)
+    (sym (c .before .is-made .ensures p n e (q .1) (q .2)) ∙ not-true (c .before .is-made .result) (c .if1 .taken))
 
 add-k : tie.Need-add-k Inv-loop μ-loop
 add-k c = let r = c .before .before .before .before .pre in omega (arith, square-few (r .1) (r .2))
@@ -55,7 +50,8 @@ loop-again c = (
   refl,
   λ p n e.
       let q = pair-parts (c .before .before .before .before .args .symmetries) (c .before .before .before .loop .k) (omega arith) in
-      and-last (c .before .before .before .loop .k) _ (c .before .before .before .loop .inv .2 p n e) (sym (c .before .is-made .ensures p n e (q .1) (q .2)) ∙ not-false (c .before .is-made .result) (c .if1 .left)),
+      and-last (c .before .before .before .loop .k) _ (c .before .before .before .loop .inv .2 p n e)
+      (sym (c .before .is-made .ensures p n e (q .1) (q .2)) ∙ not-false (c .before .is-made .result) (c .if1 .left)),
 )
 
 returns-2 : tie.Need-returns-2 Inv-loop μ-loop
@@ -65,15 +61,4 @@ pub first-missing-spec : {M : Type 1} → statement M
 first-missing-spec =
     tie.close
     (tie.spec
-    Inv-loop
-    μ-loop
-    mul-all
-    loop-holds
-    div-is-made
-    rem-is-made
-    is-made-requires
-    returns
-    add-k
-    loop-less
-    loop-again
-    returns-2)
+    Inv-loop μ-loop mul-all loop-holds div-is-made rem-is-made is-made-requires returns add-k loop-less loop-again returns-2)

@@ -1,18 +1,8 @@
 -- A byte of the images. Assumes nothing.
-use native.Mathlib.Omega.{arith}
-use borrow.Author.Needs.{needs}
+use Rattle.model.specs.Kit.{arith, needs}
 use Rattle.model.specs.Lists.{at}
 use Rattle.families_closed.proofs.goes.Statement.{statement}
 use Rattle.families_closed.proofs.goes.Tie as tie
-
-mul-result : tie.Need-mul-result
-mul-result c = search needs
-
-add-result : tie.Need-add-result
-add-result c = search needs
-
-element-copy-out-result : tie.Need-element-copy-out-result
-element-copy-out-result c = search needs
 
 cast-result : tie.Need-cast-result
 unfolding at
@@ -23,4 +13,7 @@ unfolding at
 returns c = search needs
 
 pub goes-spec : {M : Type 1} → statement M
-goes-spec = tie.close (tie.spec mul-result add-result element-copy-out-result cast-result returns)
+goes-spec =
+    tie.close
+    (tie.spec
+    (λ c. search needs) (λ c. search needs) (λ c. search needs) cast-result returns)

@@ -1,16 +1,9 @@
 -- The loop: none of the symmetries before c is the product.
-use mathlib.Core.Path.{_≡_, sym, _∙_}
-use mathlib.Core.Bool.{false}
-use Prim.Native.Nat.{ℕ, _-_, _≤_, _<_}
-use native.Mathlib.Omega.{arith}
-use borrow.Author.Needs.{needs}
-use lib.ListN.{length}
-use Rattle.model.specs.Problem.{Problem}
-use Rattle.arrays.specs.Layout.{symmetryAt}
+use Rattle.model.specs.Kit.{_≡_, sym, _∙_, false, ℕ, _-_, _≤_, _<_, arith, needs, length}
+use Rattle.model.specs.Problem.{Problem, symmetryAt}
 use Rattle.families.specs.Families.{makes}
-use Rattle.families_closed.specs.Held.{Held}
-use Rattle.families_closed.proofs.Codes.{and-last, made-still, made-one, made-not}
-use Rattle.families_closed.proofs.is_made.Statement.{statement}
+use Rattle.families_closed.specs.inner.Held.{Held}
+use Rattle.families_closed.proofs.{Codes.and-last, Codes.made-still, Codes.made-one, Codes.made-not, is_made.Statement.statement}
 use Rattle.families_closed.proofs.is_made.Tie as tie
 
 abbrev Inv-loop : tie.InvT-loop
@@ -34,7 +27,8 @@ makes-one-requires : tie.Need-makes-one-requires Inv-loop μ-loop
 makes-one-requires c κs = let r = c .before .before .before .before .pre in (r .0, r .1, omega (arith, r .2, r .3), omega (arith, r .2, r .4), omega (arith, r .2))
 
 returns-2 : tie.Need-returns-2 Inv-loop μ-loop
-returns-2 c = λ p n e la lb. made-one p _ _ (c .before .before .before .loop .c) (omega (arith, e)) (sym (c .if2 .taken) ∙ c .before .makes-one .ensures p n (omega (arith, e)) (omega (arith, e)) (omega (arith, e)))
+returns-2 c = λ p n e la lb. made-one p _ _ (c .before .before .before .loop .c) (omega (arith, e))
+    (sym (c .if2 .taken) ∙ c .before .makes-one .ensures p n (omega (arith, e)) (omega (arith, e)) (omega (arith, e)))
 
 add-c : tie.Need-add-c Inv-loop μ-loop
 add-c c = search needs
@@ -43,23 +37,18 @@ loop-less : tie.Need-loop-less Inv-loop μ-loop
 loop-less c = search needs
 
 loop-again : tie.Need-loop-again Inv-loop μ-loop
-loop-again c = (omega arith, λ p n e la lb. and-last (c .before .before .before .loop .c) _ (c .before .before .before .loop .inv .1 p n e la lb) (sym (c .before .makes-one .ensures p n (omega (arith, e)) (omega (arith, e)) (omega (arith, e))) ∙ c .if2 .left))
+loop-again c = (
+  omega arith,
+  λ p n e la lb. and-last (c .before .before .before .loop .c) _ (c .before .before .before .loop .inv .1 p n e la lb)
+      (sym (c .before .makes-one .ensures p n (omega (arith, e)) (omega (arith, e)) (omega (arith, e))) ∙ c .if2 .left),
+)
 
 returns-3 : tie.Need-returns-3 Inv-loop μ-loop
-returns-3 c = λ p n e la lb. made-not p _ _ (sym (c .before .before .if1 .left) ∙ c .before .before .before .moves-none .ensures p n (omega (arith, e)) (omega (arith, e))) (λ k l. c .before .loop .inv .1 p n e la lb k (omega (arith, e, l)))
+returns-3 c = λ p n e la lb. made-not p _ _ (sym (c .before .before .if1 .left) ∙ c .before .before .before .moves-none .ensures p n (omega (arith, e)) (omega (arith, e)))
+    (λ k l. c .before .loop .inv .1 p n e la lb k (omega (arith, e, l)))
 
 pub is-made-spec : {M : Type 1} → statement M
 is-made-spec =
     tie.close
     (tie.spec
-    Inv-loop
-    μ-loop
-    moves-none-requires
-    returns
-    loop-holds
-    makes-one-requires
-    returns-2
-    add-c
-    loop-less
-    loop-again
-    returns-3)
+    Inv-loop μ-loop moves-none-requires returns loop-holds makes-one-requires returns-2 add-c loop-less loop-again returns-3)

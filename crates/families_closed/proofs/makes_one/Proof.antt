@@ -1,13 +1,7 @@
 -- The loop: the numbers below q go where c takes them.
-use mathlib.Core.Path.{_≡_, refl}
-use Prim.Native.Nat.{ℕ, _-_, _*_, _≤_, _<_}
-use native.Mathlib.Omega.{arith}
-use borrow.Author.Needs.{needs}
-use lib.ListN.{length}
-use Rattle.model.specs.Lists.{at}
-use Rattle.model.specs.Problem.{Problem}
-use Rattle.arrays.specs.Layout.{symmetryAt}
-use Rattle.families_closed.specs.Held.{Held}
+use Rattle.model.specs.Kit.{_≡_, refl, ℕ, _-_, _*_, _≤_, _<_, arith, needs, length}
+use Rattle.model.specs.{Lists.at, Problem.Problem, Problem.symmetryAt}
+use Rattle.families_closed.specs.inner.Held.{Held}
 use Rattle.families_closed.proofs.Codes.{held-bounds, held-size, goes-lt, goes-asked, goes-is, agree-turn, agree-not, agree-all, and-last}
 use Rattle.families_closed.proofs.makes_one.Statement.{statement}
 use Rattle.families_closed.proofs.makes_one.Tie as tie
@@ -52,7 +46,8 @@ returns c = λ p n la lb lc.
     let l : q < c .before .before .before .before .before .before .before .args .variables * c .before .before .before .before .before .before .before .args .values = omega arith in
     let f = goes-is n _ la q _ (c .before .before .before .goes .result) l (c .before .before .before .before .code .ensures) (c .before .before .before .goes .ensures) in
     let y = goes-is n _ lb _ (c .before .before .before .goes .result) (c .before .before .goes2 .result) (goes-lt n _ la q l) f (c .before .before .goes2 .ensures) in
-    agree-not n _ _ la lb q _ l y _ (c .before .goes3 .result) (goes-is n _ lc q _ (c .before .goes3 .result) l (c .before .before .before .before .code .ensures) (c .before .goes3 .ensures)) (c .if1 .taken)
+    agree-not n _ _ la lb q _ l y _ (c .before .goes3 .result) (goes-is n _ lc q _ (c .before .goes3 .result) l (c .before .before .before .before .code .ensures) (c .before .goes3 .ensures))
+    (c .if1 .taken)
 
 add-q : tie.Need-add-q Inv-loop μ-loop
 add-q c = omega (arith, held-size (c .before .before .before .before .before .before .before .pre .1))
@@ -69,7 +64,9 @@ loop-again c = (
       let l : q < c .before .before .before .before .before .before .before .args .variables * c .before .before .before .before .before .before .before .args .values = omega arith in
       let f = goes-is n _ la q _ (c .before .before .before .goes .result) l (c .before .before .before .before .code .ensures) (c .before .before .before .goes .ensures) in
       let y = goes-is n _ lb _ (c .before .before .before .goes .result) (c .before .before .goes2 .result) (goes-lt n _ la q l) f (c .before .before .goes2 .ensures) in
-      and-last q _ (c .before .before .before .before .before .before .loop .inv .2 p n la lb lc) (agree-turn n _ _ la lb q _ l y _ (c .before .goes3 .result) lc (goes-is n _ lc q _ (c .before .goes3 .result) l (c .before .before .before .before .code .ensures) (c .before .goes3 .ensures)) (c .if1 .left)),
+      and-last q _ (c .before .before .before .before .before .before .loop .inv .2 p n la lb lc)
+      (agree-turn n _ _ la lb q _ l y _ (c .before .goes3 .result) lc (goes-is n _ lc q _ (c .before .goes3 .result) l (c .before .before .before .before .code .ensures)
+      (c .before .goes3 .ensures)) (c .if1 .left)),
 )
 
 returns-2 : tie.Need-returns-2 Inv-loop μ-loop
@@ -79,16 +76,4 @@ pub makes-one-spec : {M : Type 1} → statement M
 makes-one-spec =
     tie.close
     (tie.spec
-    Inv-loop
-    μ-loop
-    mul-size
-    loop-holds
-    code-requires
-    goes-requires
-    goes-requires-2
-    goes-requires-3
-    returns
-    add-q
-    loop-less
-    loop-again
-    returns-2)
+    Inv-loop μ-loop mul-size loop-holds code-requires goes-requires goes-requires-2 goes-requires-3 returns add-q loop-less loop-again returns-2)

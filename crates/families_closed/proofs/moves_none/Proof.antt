@@ -1,13 +1,7 @@
 -- The loop: the numbers below q stay.
-use mathlib.Core.Path.{_≡_, refl}
-use Prim.Native.Nat.{ℕ, _-_, _*_, _≤_, _<_}
-use native.Mathlib.Omega.{arith}
-use borrow.Author.Needs.{needs}
-use lib.ListN.{length}
-use Rattle.model.specs.Lists.{at}
-use Rattle.model.specs.Problem.{Problem}
-use Rattle.arrays.specs.Layout.{symmetryAt}
-use Rattle.families_closed.specs.Held.{Held}
+use Rattle.model.specs.Kit.{_≡_, refl, ℕ, _-_, _*_, _≤_, _<_, arith, needs, length}
+use Rattle.model.specs.{Lists.at, Problem.Problem, Problem.symmetryAt}
+use Rattle.families_closed.specs.inner.Held.{Held}
 use Rattle.families_closed.proofs.Codes.{held-bounds, held-size, goes-lt, goes-asked, goes-is, stay-turn, stay-not, stay-all, and-last}
 use Rattle.families_closed.proofs.moves_none.Statement.{statement}
 use Rattle.families_closed.proofs.moves_none.Tie as tie
@@ -64,7 +58,8 @@ loop-again c = (
       let l : q < c .before .before .before .before .before .before .args .variables * c .before .before .before .before .before .before .args .values = omega arith in
       let f = goes-is n _ la q _ (c .before .before .goes .result) l (c .before .before .before .code .ensures) (c .before .before .goes .ensures) in
       let y = goes-is n _ lb _ (c .before .before .goes .result) (c .before .goes2 .result) (goes-lt n _ la q l) f (c .before .goes2 .ensures) in
-      and-last q _ (c .before .before .before .before .before .loop .inv .2 p n la lb) (stay-turn n _ _ la lb q _ l y (c .before .before .before .code .result) (c .before .before .before .code .ensures) (c .if1 .left)),
+      and-last q _ (c .before .before .before .before .before .loop .inv .2 p n la lb) (stay-turn n _ _ la lb q _ l y (c .before .before .before .code .result)
+      (c .before .before .before .code .ensures) (c .if1 .left)),
 )
 
 returns-2 : tie.Need-returns-2 Inv-loop μ-loop
@@ -74,15 +69,4 @@ pub moves-none-spec : {M : Type 1} → statement M
 moves-none-spec =
     tie.close
     (tie.spec
-    Inv-loop
-    μ-loop
-    mul-size
-    loop-holds
-    code-requires
-    goes-requires
-    goes-requires-2
-    returns
-    add-q
-    loop-less
-    loop-again
-    returns-2)
+    Inv-loop μ-loop mul-size loop-holds code-requires goes-requires goes-requires-2 returns add-q loop-less loop-again returns-2)

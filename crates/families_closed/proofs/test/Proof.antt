@@ -1,19 +1,12 @@
 -- The block's images are put, and the pairs are tried. Assumes nothing.
-use borrow.Author.Needs.{needs}
+use Rattle.model.specs.Kit.{needs}
 use Rattle.model.specs.Sheet.{problemOf}
 use Rattle.run_input.specs.Lent.{problemWith}
-use Rattle.families_closed.proofs.Testing.{imaged-of, block-passed, held-of}
-use Rattle.families_closed.proofs.test.Statement.{statement}
+use Rattle.families_closed.proofs.{Testing.imaged-of, Testing.block-passed, Testing.held-of, test.Statement.statement}
 use Rattle.families_closed.proofs.test.Tie as tie
 
 put-images-requires : tie.Need-put-images-requires
 put-images-requires c κs = let a = c .before .before .pre in (problemOf (a .0), imaged-of _ _ _ _ _ (a .2), block-passed _ _ _ _ _ (a .2))
-
-element-copy-out-variables : tie.Need-element-copy-out-variables
-element-copy-out-variables c = search needs
-
-element-copy-out-values : tie.Need-element-copy-out-values
-element-copy-out-values c = search needs
 
 first-missing-requires : tie.Need-first-missing-requires
 first-missing-requires c κs =
@@ -36,9 +29,4 @@ pub test-spec : {M : Type 1} → statement M
 test-spec =
     tie.close
     (tie.spec
-    put-images-requires
-    element-copy-out-variables
-    element-copy-out-values
-    first-missing-requires
-    two-of-requires
-    returns)
+    put-images-requires (λ c. search needs) (λ c. search needs) first-missing-requires two-of-requires returns)

@@ -1,9 +1,6 @@
 -- The number is below that of all pairs, or it is that number. Assumes nothing.
-use native.Mathlib.Nat.{mul-le-mul}
-use native.Mathlib.Omega.{arith}
-use Rattle.families_closed.proofs.Open.{pair-parts}
-use Rattle.families_closed.proofs.Testing.{open-two, open-no}
-use Rattle.families_closed.proofs.two_of.Statement.{statement}
+use Rattle.model.specs.Kit.{mul-le-mul, arith}
+use Rattle.families_closed.proofs.{Open.pair-parts, Testing.open-two, Testing.open-no, two_of.Statement.statement}
 use Rattle.families_closed.proofs.two_of.Tie as tie
 
 mul-if1 : tie.Need-mul-if1

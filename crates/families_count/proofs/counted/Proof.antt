@@ -1,24 +1,13 @@
 -- Room for the plans of as many variables as the numbers say. Assumes nothing.
-use mathlib.Core.Path.{sym}
-use Prim.Native.Nat.{_*_}
-use native.Mathlib.Omega.{arith}
-use lib.Seq.{length-take-le}
-use borrow.Author.Needs.{needs}
+use Rattle.model.specs.Kit.{sym, _*_, arith, length-take-le, needs}
 use Rattle.model.specs.Lists.{at}
-use Rattle.arrays.specs.Places.{VARIABLES}
-use Rattle.families_count.proofs.Bare.{room-long, whole-few, whole-roomy, counted-so}
-use Rattle.families_count.proofs.counted.Statement.{statement}
+use Rattle.arrays.specs.inner.Places.{VARIABLES}
+use Rattle.families_count.proofs.{Bare.room-long, Bare.whole-few, Bare.whole-roomy, Bare.counted-so, counted.Statement.statement}
 use Rattle.families_count.proofs.counted.Tie as tie
-
-element-copy-out-n : tie.Need-element-copy-out-n
-element-copy-out-n c = search needs
 
 mul-used : tie.Need-mul-used
 unfolding at
 mul-used c = omega (arith, whole-few _ _ _ _ _ _ _ _ _ _ (c .before .pre .3))
-
-plan-room-requires : tie.Need-plan-room-requires
-plan-room-requires c κs = search needs
 
 array-borrow-prefix-list : tie.Need-array-borrow-prefix-list
 unfolding at
@@ -26,7 +15,8 @@ array-borrow-prefix-list c = let p = c .before .before .before .before in omega 
 
 slice-aggregate-figure : tie.Need-slice-aggregate-figure
 unfolding at
-slice-aggregate-figure c = let p = c .before .before .before .before .before in sym (length-take-le _ _ (omega (arith, whole-few _ _ _ _ _ _ _ _ _ _ (p .before .before .pre .3), room-long _ (p .plan-room .ensures))))
+slice-aggregate-figure c = let p = c .before .before .before .before .before in sym (length-take-le _ _
+    (omega (arith, whole-few _ _ _ _ _ _ _ _ _ _ (p .before .before .pre .3), room-long _ (p .plan-room .ensures))))
 
 figure-requires : tie.Need-figure-requires
 unfolding at
@@ -48,10 +38,4 @@ pub counted-spec : {M : Type 1} → statement M
 counted-spec =
     tie.close
     (tie.spec
-    element-copy-out-n
-    mul-used
-    plan-room-requires
-    array-borrow-prefix-list
-    slice-aggregate-figure
-    figure-requires
-    returns)
+    (λ c. search needs) mul-used (λ c κs. search needs) array-borrow-prefix-list slice-aggregate-figure figure-requires returns)

@@ -1,20 +1,14 @@
 -- All questions once; the images and the count where there is no "no". Assumes nothing.
-use mathlib.Core.Path.{sym, ap, _∙_}
-use borrow.Author.Needs.{needs}
+use Rattle.model.specs.Kit.{sym, ap, _∙_, needs}
 use Rattle.model.specs.Lists.{at}
-use Rattle.arrays.specs.Places.{IMAGES, NUMBERS, SUPPORTS}
+use Rattle.arrays.specs.inner.Places.{IMAGES, NUMBERS, SUPPORTS}
 use Rattle.sheet.specs.Meaning.{means}
 use Rattle.sheet.proofs.Whole.{zeros}
-use Rattle.families_count.proofs.Images.{asked-so}
-use Rattle.families_count.proofs.Bare.{new-whole, counted-refused}
-use Rattle.families_count.proofs.families.Statement.{statement}
+use Rattle.families_count.proofs.{Images.asked-so, Bare.new-whole, Bare.counted-refused, families.Statement.statement}
 use Rattle.families_count.proofs.families.Tie as tie
 
 ask-requires : tie.Need-ask-requires
 ask-requires c κs = (zeros NUMBERS, zeros SUPPORTS, zeros IMAGES .sized, zeros 16 .sized)
-
-enum-told : tie.Need-enum-told
-enum-told c = search needs
 
 put-images-requires : tie.Need-put-images-requires
 unfolding at
@@ -26,9 +20,6 @@ counted-requires c κs =
     let p = c .before .before .before .before .before .before in
     let t = p .before .before .before .before .before in
     (_, _, _, new-whole _ _ _ _ _ _ _ (p .put-images .ensures _ (asked-so _ _ _ _ _ _ _ _ (t .enum-told .given .1) (t .before .before .ask .ensures))))
-
-enum-known-verdict : tie.Need-enum-known-verdict
-enum-known-verdict c = search needs
 
 returns : tie.Need-returns
 unfolding at
@@ -44,10 +35,4 @@ pub families-spec : {M : Type 1} → statement M
 families-spec =
     tie.close
     (tie.spec
-    ask-requires
-    enum-told
-    put-images-requires
-    counted-requires
-    enum-known-verdict
-    returns
-    returns-2)
+    ask-requires (λ c. search needs) put-images-requires counted-requires (λ c. search needs) returns returns-2)

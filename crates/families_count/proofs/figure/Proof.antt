@@ -1,29 +1,17 @@
 -- The bare run, and the count over all solutions and all images where it is finished. Assumes nothing.
-use borrow.Author.Needs.{needs}
+use Rattle.model.specs.Kit.{needs}
 use Rattle.model.specs.Lists.{at}
-use Rattle.families_count.proofs.Bare.{bare-runs, bare-dash, bare-counted, bare-number}
-use Rattle.families_count.proofs.figure.Statement.{statement}
+use Rattle.families_count.proofs.{Bare.bare-runs, Bare.bare-dash, Bare.bare-counted, Bare.bare-number, figure.Statement.statement}
 use Rattle.families_count.proofs.figure.Tie as tie
-
-element-write-numbers : tie.Need-element-write-numbers
-element-write-numbers c = search needs
-
-element-write-work : tie.Need-element-write-work
-element-write-work c = search needs
 
 run-arrays-requires : tie.Need-run-arrays-requires
 unfolding at
 run-arrays-requires c κs = let a = c .before .before .before .before .before .before in (_, bare-runs _ _ _ _ _ _ _ _ _ _ (a .pre .3) _ _ (a .pre .4))
 
-same-length : tie.Need-same-length
-same-length c = search needs
-
 returns : tie.Need-returns
 unfolding at
-returns c = λ b pairs block h r. bare-dash _ _ _ _ _ _ _ _ _ _ h _ _ r _ _ _ _ _ _ _ _ _ (c .before .before .before .before .run-arrays .ensures _ (bare-runs _ _ _ _ _ _ _ _ _ _ h _ _ r)) (c .if1 .taken)
-
-element-copy-out-solutions : tie.Need-element-copy-out-solutions
-element-copy-out-solutions c = search needs
+returns c = λ b pairs block h r. bare-dash _ _ _ _ _ _ _ _ _ _ h _ _ r _ _ _ _ _ _ _ _ _ (c .before .before .before .before .run-arrays .ensures _ (bare-runs _ _ _ _ _ _ _ _ _ _ h _ _ r))
+    (c .if1 .taken)
 
 families-requires : tie.Need-families-requires
 unfolding at
@@ -32,9 +20,6 @@ families-requires c κs =
     let a = w .before .before .before .before .before .before .before in
     let g = w .run-arrays .ensures _ (bare-runs _ _ _ _ _ _ _ _ _ _ (a .pre .3) _ _ (a .pre .4)) in
     (_, bare-counted _ _ _ _ _ _ _ _ _ _ (a .pre .3) _ _ (a .pre .4) _ _ _ _ _ _ _ _ _ g (c .before .before .if1 .left))
-
-same-length-2 : tie.Need-same-length-2
-same-length-2 c = search needs
 
 returns-2 : tie.Need-returns-2
 unfolding at
@@ -48,12 +33,4 @@ pub figure-spec : {M : Type 1} → statement M
 figure-spec =
     tie.close
     (tie.spec
-    element-write-numbers
-    element-write-work
-    run-arrays-requires
-    same-length
-    returns
-    element-copy-out-solutions
-    families-requires
-    same-length-2
-    returns-2)
+    (λ c. search needs) (λ c. search needs) run-arrays-requires (λ c. search needs) returns (λ c. search needs) families-requires (λ c. search needs) returns-2)

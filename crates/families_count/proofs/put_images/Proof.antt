@@ -1,16 +1,12 @@
 -- The images by place, and the settling order where pairs are lent. Assumes nothing.
-use borrow.Author.Needs.{needs}
+use Rattle.model.specs.Kit.{needs}
 use Rattle.model.specs.Lists.{at}
-use Rattle.families_count.proofs.Images.{lent-images, lent-block, movable, put-moved, put-same}
-use Rattle.families_count.proofs.put_images.Statement.{statement}
+use Rattle.families_count.proofs.{Images.lent-images, Images.lent-block, Images.movable, Images.put-moved, Images.put-same, put_images.Statement.statement}
 use Rattle.families_count.proofs.put_images.Tie as tie
 
 put-images-requires : tie.Need-put-images-requires
 unfolding at
 put-images-requires c κs = let a = c .before .before .before .before .pre .1 in (_, lent-images _ _ _ _ _ _ _ a, lent-block _ _ _ _ _ _ _ a)
-
-element-write-numbers : tie.Need-element-write-numbers
-element-write-numbers c = search needs
 
 reorder-requires : tie.Need-reorder-requires
 unfolding at
@@ -34,4 +30,5 @@ returns-2 c = λ b a.
 pub put-images-spec : {M : Type 1} → statement M
 put-images-spec =
     tie.close
-    (tie.spec put-images-requires element-write-numbers reorder-requires returns returns-2)
+    (tie.spec
+    put-images-requires (λ c. search needs) reorder-requires returns returns-2)

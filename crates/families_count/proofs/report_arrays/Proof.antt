@@ -1,17 +1,10 @@
 -- The run of an accepted sheet is made on its arrays, and its figure told: proofs/ReportRuns. Assumes nothing.
-use mathlib.Core.Path.{refl, sym}
-use Prim.Native.Nat.{_*_}
-use native.Mathlib.Omega.{arith}
-use lib.Seq.{length-take-le}
-use borrow.Author.Needs.{needs}
+use Rattle.model.specs.Kit.{refl, sym, _*_, arith, length-take-le, needs}
 use Rattle.model.specs.Lists.{at}
-use Rattle.arrays.specs.Places.{VARIABLES}
+use Rattle.arrays.specs.inner.Places.{VARIABLES}
 use Rattle.families_count.proofs.ReportRuns.{report-few, report-runs, report-listed, report-stopped, report-told-so}
 use Rattle.families_count.proofs.report_arrays.Statement.{statement}
 use Rattle.families_count.proofs.report_arrays.Tie as tie
-
-element-copy-out-variables : tie.Need-element-copy-out-variables
-element-copy-out-variables c = search needs
 
 mul-used : tie.Need-mul-used
 unfolding at
@@ -52,9 +45,6 @@ report-figure-requires c κs =
     let l = length-take-le (4096 * n) (a .args .list .now) (omega (arith, report-few _ 0 _ _ _ k, a .pre .2)) in
     (_, report-listed _ (a .args .limit) _ _ _ k _ _ _ (a .pre .1) _ l _ _ _ _ _ _ _ (w .run-arrays .ensures _ (report-runs _ (a .args .limit) _ _ _ k _ _ _ (a .pre .1) _ l)))
 
-same-length : tie.Need-same-length
-same-length c = search needs
-
 returns : tie.Need-returns
 unfolding at
 returns c = λ b k.
@@ -64,18 +54,12 @@ returns c = λ b k.
     let l = length-take-le (4096 * n) (a .args .list .now) (omega (arith, report-few _ 0 _ _ _ k, a .pre .2)) in
     let g = w .run-arrays .ensures _ (report-runs _ (a .args .limit) _ _ _ k _ _ _ (a .pre .1) _ l) in
     let s = report-listed _ (a .args .limit) _ _ _ k _ _ _ (a .pre .1) _ l _ _ _ _ _ _ _ g in
-    report-told-so _ (a .args .limit) _ _ _ k _ _ _ (a .pre .1) _ l _ _ _ _ _ _ _ g _ refl _ (c .before .before .before .before .before .answered .ensures) _ (c .report-figure .ensures _ s) _ refl (w .run-arrays .kept .1 .1 .1 .1 .1 .1 .1 .0)
+    report-told-so _ (a .args .limit) _ _ _ k _ _ _ (a .pre .1) _ l _ _ _ _ _ _ _ g _ refl _ (c .before .before .before .before .before .answered .ensures) _ (c .report-figure .ensures _ s) _ refl
+    (w .run-arrays .kept .1 .1 .1 .1 .1 .1 .1 .0)
 
 pub report-arrays-spec : {M : Type 1} → statement M
 report-arrays-spec =
     tie.close
     (tie.spec
-    element-copy-out-variables
-    mul-used
-    slice-relend-prefix-run-arrays
-    slice-aggregate-run-arrays
-    run-arrays-requires
-    answered-requires
-    report-figure-requires
-    same-length
-    returns)
+    (λ c. search needs) mul-used slice-relend-prefix-run-arrays slice-aggregate-run-arrays run-arrays-requires answered-requires report-figure-requires
+    (λ c. search needs) returns)

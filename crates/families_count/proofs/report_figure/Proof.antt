@@ -1,19 +1,12 @@
 -- The dash where the run isn't finished, its plans where there are no symmetries, else the count. Assumes nothing.
-use borrow.Author.Needs.{needs}
+use Rattle.model.specs.Kit.{needs}
 use Rattle.model.specs.Lists.{at}
-use Rattle.families_count.proofs.Bare.{listed-dash, listed-plans, listed-whole, report-told}
-use Rattle.families_count.proofs.report_figure.Statement.{statement}
+use Rattle.families_count.proofs.{Bare.listed-dash, Bare.listed-plans, Bare.listed-whole, Bare.report-told, report_figure.Statement.statement}
 use Rattle.families_count.proofs.report_figure.Tie as tie
 
 returns : tie.Need-returns
 unfolding at
 returns c = λ b h. listed-dash _ _ _ _ _ _ _ _ _ h (c .if1 .taken)
-
-element-copy-out-symmetries : tie.Need-element-copy-out-symmetries
-element-copy-out-symmetries c = search needs
-
-element-copy-out-t16 : tie.Need-element-copy-out-t16
-element-copy-out-t16 c = search needs
 
 returns-2 : tie.Need-returns-2
 unfolding at
@@ -31,9 +24,4 @@ pub report-figure-spec : {M : Type 1} → statement M
 report-figure-spec =
     tie.close
     (tie.spec
-    returns
-    element-copy-out-symmetries
-    element-copy-out-t16
-    returns-2
-    counted-requires
-    returns-3)
+    returns (λ c. search needs) (λ c. search needs) returns-2 counted-requires returns-3)

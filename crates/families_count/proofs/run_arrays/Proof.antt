@@ -1,15 +1,8 @@
 -- The problem in the arrays is begun and walked along: proofs/Arrays. Assumes nothing.
-use borrow.Author.Needs.{needs}
+use Rattle.model.specs.Kit.{needs}
 use Rattle.model.specs.Lists.{at}
-use Rattle.families_count.proofs.Arrays.{runs-laid, runs-live, runs-so}
-use Rattle.families_count.proofs.run_arrays.Statement.{statement}
+use Rattle.families_count.proofs.{Arrays.runs-laid, Arrays.runs-live, Arrays.runs-so, run_arrays.Statement.statement}
 use Rattle.families_count.proofs.run_arrays.Tie as tie
-
-by-position-requires : tie.Need-by-position-requires
-by-position-requires c κs = search needs
-
-put-bounds-requires : tie.Need-put-bounds-requires
-put-bounds-requires c κs = search needs
 
 begin-requires : tie.Need-begin-requires
 unfolding at
@@ -29,9 +22,6 @@ walk-tree-requires c κs = λ e.
     let l = runs-laid _ _ _ _ _ _ _ _ (a .pre .1) (a .args .limit) _ (s .put-bounds .ensures) _ (y .by-position .ensures) in
     (_, runs-live _ _ _ _ _ _ _ _ (a .pre .1) (a .args .limit) _ (s .put-bounds .ensures) (a .fits .limit .fits) _ _ _ _ _ (g .begin .ensures _ _ _ l) e)
 
-same-length : tie.Need-same-length
-same-length c = search needs
-
 returns : tie.Need-returns
 unfolding at
 returns c = λ p h.
@@ -47,9 +37,4 @@ pub run-arrays-spec : {M : Type 1} → statement M
 run-arrays-spec =
     tie.close
     (tie.spec
-    by-position-requires
-    put-bounds-requires
-    begin-requires
-    walk-tree-requires
-    same-length
-    returns)
+    (λ c κs. search needs) (λ c κs. search needs) begin-requires walk-tree-requires (λ c. search needs) returns)

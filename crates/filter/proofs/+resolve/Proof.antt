@@ -1,14 +1,11 @@
 -- `filter::resolve` meets its contract: by recursion, where what is left of the entries falls. Assumes nothing.
-use Prim.Native.Nat.{ℕ, _+_, _-_, _<_}
-use native.Mathlib.Omega.{arith}
-use lib.ListN.{length}
-use denote.Ref.{now}
-use borrow.Author.Needs.{needs}
+use Rattle.model.specs.Kit.{ℕ, _+_, _-_, _<_, arith, length, now, needs}
+use borrow.Fn.Kinds.{In}
+use borrow.Fn.PlainCycle.{Measures, is, falls, and}
 use Rattle.model.specs.Lists.{at}
 use Rattle.filter.specs.Lists.{AtSplit, PassResult}
 use Rattle.filter.proofs.Splits.{split-asks, split-ready, resolved-gone, resolved-end, next-split, next-later, resolved-changed, resolved-consistent, resolved-again}
-use borrow.Fn.Kinds.{In}
-use borrow.Fn.PlainCycle.{Measures, is, falls, and}
+use Rattle.filter.proofs.{+resolve.statement, +resolve.Tie.close}
 use Rattle.filter.proofs.resolve.Kinds as resolve-kinds
 use Rattle.filter.proofs.+resolve.Lts-resolve as lts
 use Rattle.filter.proofs.resolve.Reads as resolve
@@ -16,8 +13,6 @@ use Rattle.filter.proofs.entry.changed.Reads as changed
 use Rattle.filter.proofs.entry.disequality.Reads as disequality
 use Rattle.filter.proofs.entry.force.Reads as force
 use Rattle.filter.proofs.pass.Reads as pass
-use Rattle.filter.proofs.+resolve.{statement}
-use Rattle.filter.proofs.+resolve.Tie.{close}
 
 abbrev μ-resolve : Measures 4 resolve-kinds.ps ℕ
 μ-resolve κs a = length (now (a .1 .0)) - a .1 .1 .1 .1 .0
@@ -34,19 +29,29 @@ claims t = (force.Asked, force.Learnt, pass.Asked, pass.Learnt, disequality.Aske
 
 module _ (t : ℕ) where
   -- what the pass over the copy said
-  passed : (c : lts.After-pass (claims t) (resolve-at t) resolve.Post) (n : ℕ) → AtSplit n (c .before .before .before .before .before .before .before .before .before .before .args .sets .now) (c .before .before .before .before .before .before .before .before .before .before .args .index .now) (c .before .before .before .before .before .before .before .before .before .before .args .equal .now) (c .before .before .before .before .before .before .before .before .before .before .args .not-equal .now) (c .before .before .before .before .before .before .before .before .before .before .args .k) →
-      PassResult n (c .before .before .force .last .0) (c .before .before .before .before .before .before .before .before .before .before .args .index .now) (c .before .before .before .before .before .before .before .before .before .before .args .equal .now) (c .before .before .before .before .before .before .before .before .before .before .args .not-equal .now) (c .before .before .before .before .before .before .before .before .before .before .args .k + 1) (c .pass .last .0) (c .pass .result)
+  passed : (c : lts.After-pass (claims t) (resolve-at t) resolve.Post) (n : ℕ) → AtSplit n (c .before .before .before .before .before .before .before .before .before .before .args .sets .now)
+      (c .before .before .before .before .before .before .before .before .before .before .args .index .now)
+      (c .before .before .before .before .before .before .before .before .before .before .args .equal .now)
+      (c .before .before .before .before .before .before .before .before .before .before .args .not-equal .now)
+      (c .before .before .before .before .before .before .before .before .before .before .args .k) →
+      PassResult n (c .before .before .force .last .0) (c .before .before .before .before .before .before .before .before .before .before .args .index .now)
+      (c .before .before .before .before .before .before .before .before .before .before .args .equal .now)
+      (c .before .before .before .before .before .before .before .before .before .before .args .not-equal .now)
+      (c .before .before .before .before .before .before .before .before .before .before .args .k + 1) (c .pass .last .0) (c .pass .result)
   unfolding at
   passed c n w = c .pass .ensures n (split-ready w (c .before .before .force .ensures))
 
   -- the next split stands behind this one
-  fell : (c : lts.After-ahead6 (claims t) (resolve-at t) resolve.Post) → length (c .before .before .before .before .before .before .before .before .before .before .before .before .before .before .before .before .before .before .args .index .now) - c .before .before .before .before .before .before .reached .given .0 .0 < t
+  fell : (c : lts.After-ahead6 (claims t) (resolve-at t) resolve.Post) → length
+      (c .before .before .before .before .before .before .before .before .before .before .before .before .before .before .before .before .before .before .args .index .now) -
+      c .before .before .before .before .before .before .reached .given .0 .0 < t
   unfolding at
   fell c =
       let p = c .before .before .before .before .before .before .before .before in
       let s = p .before .before .before .before .before .before .before .before .before .before .pre in
       let d = c .before .before .before .before .before .before .reached .given in
-      let l : p .before .before .before .before .before .before .before .before .before .before .args .k < d .0 .0 = next-later (s .1 .1) (p .before .before .force .ensures) (p .pass .last .0) (p .pass .result) (d .0 .0) (passed p (s .1 .0) (s .1 .1)) (d .1) in
+      let l : p .before .before .before .before .before .before .before .before .before .before .args .k < d .0 .0 = next-later (s .1 .1) (p .before .before .force .ensures) (p .pass .last .0)
+      (p .pass .result) (d .0 .0) (passed p (s .1 .0) (s .1 .1)) (d .1) in
       omega (arith, s .0, s .1 .1 .bound)
 
   shared-slice-read-x : lts.Need-shared-slice-read-x (claims t) (resolve-at t) resolve.Post
@@ -93,7 +98,9 @@ module _ (t : ℕ) where
 
   returns : lts.Need-returns (claims t) (resolve-at t) resolve.Post
   unfolding at
-  returns c = λ n w. let p = c .before .before .before .before .before .before .before in resolved-changed w (p .before .before .force .ensures) (p .pass .last .0) (p .pass .result) (c .before .before .before .before .before .reached .given .0 .0) (passed p n w) (c .before .before .before .before .before .reached .given .1) (c .before .changed2 .result) (c .before .changed2 .ensures) (c .if1 .taken)
+  returns c = λ n w. let p = c .before .before .before .before .before .before .before in resolved-changed w (p .before .before .force .ensures) (p .pass .last .0) (p .pass .result)
+      (c .before .before .before .before .before .reached .given .0 .0) (passed p n w) (c .before .before .before .before .before .reached .given .1) (c .before .changed2 .result)
+      (c .before .changed2 .ensures) (c .if1 .taken)
 
   resolve-requires : lts.Need-resolve-requires (claims t) (resolve-at t) resolve.Post
   unfolding at
@@ -111,7 +118,8 @@ module _ (t : ℕ) where
       let d = c .before .before .before .before .before .before .before .before .reached .given in
       let f = p .before .before .force .ensures in
       let h = passed p n w in
-      resolved-consistent w f (p .pass .last .0) (p .pass .result) (d .0 .0) h (d .1) (c .before .before .before .before .changed2 .result) (c .before .before .before .before .changed2 .ensures) (c .before .before .before .if1 .left) (c .before .resolve .result)
+      resolved-consistent w f (p .pass .last .0) (p .pass .result) (d .0 .0) h (d .1) (c .before .before .before .before .changed2 .result) (c .before .before .before .before .changed2 .ensures)
+      (c .before .before .before .if1 .left) (c .before .resolve .result)
       (c .before .resolve .ensures n (next-split w f (p .pass .last .0) (p .pass .result) (d .0 .0) h (d .1))) (c .if2 .taken)
 
   changed-requires-3 : lts.Need-changed-requires-3 (claims t) (resolve-at t) resolve.Post
@@ -119,21 +127,28 @@ module _ (t : ℕ) where
 
   returns-3 : lts.Need-returns-3 (claims t) (resolve-at t) resolve.Post
   unfolding at
-  returns-3 c = λ n w. let p = c .before .before .before .before .before in resolved-gone w (p .before .before .force .ensures) (p .pass .last .0) (p .pass .result) (passed p n w) (c .before .before .before .enum-told .given .1) (c .disequality .ensures)
+  returns-3 c = λ n w. let p = c .before .before .before .before .before in resolved-gone w (p .before .before .force .ensures) (p .pass .last .0) (p .pass .result) (passed p n w)
+      (c .before .before .before .enum-told .given .1) (c .disequality .ensures)
 
   returns-4 : lts.Need-returns-4 (claims t) (resolve-at t) resolve.Post
   unfolding at
-  returns-4 c = λ n w. let p = c .before .before .before .before .before in resolved-end w (p .before .before .force .ensures) (p .pass .last .0) (p .pass .result) (passed p n w) (c .before .before .before .enum-told2 .given .1) (c .changed .result) (c .changed .ensures)
+  returns-4 c = λ n w. let p = c .before .before .before .before .before in resolved-end w (p .before .before .force .ensures) (p .pass .last .0) (p .pass .result) (passed p n w)
+      (c .before .before .before .enum-told2 .given .1) (c .changed .result) (c .changed .ensures)
 
   returns-5 : lts.Need-returns-5 (claims t) (resolve-at t) resolve.Post
   unfolding at
-  returns-5 c = λ n w.
-      let p = c .before .before .before .before .before .before .before .before .before .before .before .before .before in
-      let d = c .before .before .before .before .before .before .before .before .before .before .before .reached .given in
+  returns-5 c =
+      let c10 = c .before .before .before .before .before .before .before .before .before .before in
+      λ n w.
+      let p = c10 .before .before .before in
+      let d = c10 .before .reached .given in
       let f = p .before .before .force .ensures in
       let h = passed p n w in
-      resolved-again w f (p .pass .last .0) (p .pass .result) (d .0 .0) h (d .1) (c .before .before .before .before .before .before .before .changed2 .result) (c .before .before .before .before .before .before .before .changed2 .ensures) (c .before .before .before .before .before .before .if1 .left) (c .before .before .before .before .resolve .result)
-      (c .before .before .before .before .resolve .ensures n (next-split w f (p .pass .last .0) (p .pass .result) (d .0 .0) h (d .1))) (c .before .before .before .if2 .left) (c .changed3 .result) (c .changed3 .ensures)
+      resolved-again w f (p .pass .last .0) (p .pass .result) (d .0 .0) h (d .1) (c .before .before .before .before .before .before .before .changed2 .result)
+      (c .before .before .before .before .before .before .before .changed2 .ensures) (c .before .before .before .before .before .before .if1 .left)
+      (c .before .before .before .before .resolve .result)
+      (c .before .before .before .before .resolve .ensures n (next-split w f (p .pass .last .0) (p .pass .result) (d .0 .0) h (d .1))) (c .before .before .before .if2 .left) (c .changed3 .result)
+      (c .changed3 .ensures)
 
 pub +resolve-spec : {M : Type 1} → statement M
 +resolve-spec =

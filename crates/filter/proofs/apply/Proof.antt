@@ -1,7 +1,5 @@
 -- `filter::apply` meets its contract. Assumes nothing.
-use mathlib.Core.Path.{refl}
-use lib.ListN.{length}
-use borrow.Author.Needs.{needs}
+use Rattle.model.specs.Kit.{refl, length, needs}
 use Rattle.model.specs.Nogood.{entries}
 use Rattle.filter.specs.Lists.{ScanResult}
 use Rattle.filter.proofs.Splits.{ones-small, empty-applied, load-ready, none-applied, entailed-sixteen, entailed-applied, consistent-sixteen, consistent-applied}
@@ -9,107 +7,82 @@ use Rattle.filter.proofs.apply.Statement.{statement}
 use Rattle.filter.proofs.apply.Tie as tie
 
 -- what the scan of the sets that were copied said
-scanned : (c : tie.After-propagate) → ScanResult (c .propagate .result) (length (c .before .before .before .before .before .before .before .before .before .before .args .sets .now)) (c .before .before .before .load .last .1 .0) (entries (c .before .before .before .before .before .before .before .before .before .before .args .index .now) (c .before .before .before .before .before .before .before .before .before .before .args .equal .now) (c .before .before .before .before .before .before .before .before .before .before .args .not-equal .now)) (c .propagate .last .0)
+scanned : (c : tie.After-propagate) → ScanResult (c .propagate .result) (length (c .before .before .before .before .before .before .before .before .before .before .args .sets .now))
+    (c .before .before .before .load .last .1 .0) (entries (c .before .before .before .before .before .before .before .before .before .before .args .index .now)
+    (c .before .before .before .before .before .before .before .before .before .before .args .equal .now)
+    (c .before .before .before .before .before .before .before .before .before .before .args .not-equal .now)) (c .propagate .last .0)
 scanned c =
     let s = c .before .before .before .before .before .before .before .before .before .before in
     let l = c .before .before .before .load in
-    c .propagate .ensures (length (s .args .sets .now)) (load-ready (s .args .sets .now) (entries (s .args .index .now) (s .args .equal .now) (s .args .not-equal .now)) (l .last .1 .0) (l .result) (l .ensures) (c .before .before .if1 .left) (s .pre .1))
+    c .propagate .ensures (length (s .args .sets .now)) (load-ready (s .args .sets .now) (entries (s .args .index .now) (s .args .equal .now) (s .args .not-equal .now)) (l .last .1 .0) (l .result)
+    (l .ensures) (c .before .before .if1 .left) (s .pre .1))
 
 load-requires : tie.Need-load-requires
 load-requires c κs = (search needs, refl, ones-small 16)
-
-clear-requires : tie.Need-clear-requires
-clear-requires c κs = search needs
-
-same-length : tie.Need-same-length
-same-length c = search needs
 
 returns : tie.Need-returns
 returns c =
     let a = c .before .before .before .before .before .before .before .before .before .before .before .before .args in
     let l = c .before .before .before .before .before .load in
-    empty-applied (a .sets .now) (entries (a .index .now) (a .equal .now) (a .not-equal .now)) (l .last .1 .0) (l .result) (l .ensures) (c .before .before .before .before .if1 .taken) (c .before .before .clear .ensures)
+    empty-applied (a .sets .now) (entries (a .index .now) (a .equal .now) (a .not-equal .now)) (l .last .1 .0) (l .result) (l .ensures) (c .before .before .before .before .if1 .taken)
+    (c .before .before .clear .ensures)
 
 propagate-requires : tie.Need-propagate-requires
 propagate-requires c κs =
     let s = c .before .before .before .before .before .before .before .before .before in
-    let l = c .before .before .load in
-    (length (s .args .sets .now), load-ready (s .args .sets .now) (entries (s .args .index .now) (s .args .equal .now) (s .args .not-equal .now)) (l .last .1 .0) (l .result) (l .ensures) (c .before .if1 .left) (s .pre .1))
-
-enum-told : tie.Need-enum-told
-enum-told c = search needs
-
-clear-requires-2 : tie.Need-clear-requires-2
-clear-requires-2 c κs = search needs
-
-enum-told-2 : tie.Need-enum-told-2
-enum-told-2 c = search needs
+    let l = c .before .before .load in (
+      length (s .args .sets .now),
+      load-ready (s .args .sets .now) (entries (s .args .index .now) (s .args .equal .now) (s .args .not-equal .now)) (l .last .1 .0) (l .result) (l .ensures)
+          (c .before .if1 .left) (s .pre .1),
+    )
 
 store-requires : tie.Need-store-requires
 store-requires c κs =
     let p = c .before .before .before .before in
     let s = p .before .before .before .before .before .before .before .before .before .before in
-    let l = p .before .before .before .load in
-    (search needs, entailed-sixteen (s .args .sets .now) (entries (s .args .index .now) (s .args .equal .now) (s .args .not-equal .now)) (l .last .1 .0) (l .result) (l .ensures) (p .before .before .if1 .left) (p .propagate .last .0) (p .propagate .result) (scanned p) (c .before .before .enum-told2 .given .1))
-
-enum-told-3 : tie.Need-enum-told-3
-enum-told-3 c = search needs
+    let l = p .before .before .before .load in (
+      search needs,
+      entailed-sixteen (s .args .sets .now) (entries (s .args .index .now) (s .args .equal .now) (s .args .not-equal .now)) (l .last .1 .0) (l .result) (l .ensures)
+          (p .before .before .if1 .left) (p .propagate .last .0) (p .propagate .result) (scanned p) (c .before .before .enum-told2 .given .1),
+    )
 
 store-requires-2 : tie.Need-store-requires-2
 store-requires-2 c κs =
     let p = c .before .before .before .before in
     let s = p .before .before .before .before .before .before .before .before .before .before in
-    let l = p .before .before .before .load in
-    (search needs, consistent-sixteen (s .args .sets .now) (entries (s .args .index .now) (s .args .equal .now) (s .args .not-equal .now)) (l .last .1 .0) (l .result) (l .ensures) (p .before .before .if1 .left) (p .propagate .last .0) (p .propagate .result) (scanned p) (c .before .before .enum-told3 .given .1))
-
-same-length-2 : tie.Need-same-length-2
-same-length-2 c = search needs
+    let l = p .before .before .before .load in (
+      search needs,
+      consistent-sixteen (s .args .sets .now) (entries (s .args .index .now) (s .args .equal .now) (s .args .not-equal .now)) (l .last .1 .0) (l .result) (l .ensures)
+          (p .before .before .if1 .left) (p .propagate .last .0) (p .propagate .result) (scanned p) (c .before .before .enum-told3 .given .1),
+    )
 
 returns-2 : tie.Need-returns-2
 returns-2 c =
     let p = c .before .before .before .before .before .before in
     let s = p .before .before .before .before .before .before .before .before .before .before in
     let l = p .before .before .before .load in
-    none-applied (s .args .sets .now) (entries (s .args .index .now) (s .args .equal .now) (s .args .not-equal .now)) (l .last .1 .0) (l .result) (l .ensures) (p .before .before .if1 .left) (p .propagate .last .0) (p .propagate .result) (scanned p) (c .before .before .before .before .enum-told .given .1) (c .before .before .clear2 .ensures)
-
-same-length-3 : tie.Need-same-length-3
-same-length-3 c = search needs
+    none-applied (s .args .sets .now) (entries (s .args .index .now) (s .args .equal .now) (s .args .not-equal .now)) (l .last .1 .0) (l .result) (l .ensures) (p .before .before .if1 .left)
+    (p .propagate .last .0) (p .propagate .result) (scanned p) (c .before .before .before .before .enum-told .given .1) (c .before .before .clear2 .ensures)
 
 returns-3 : tie.Need-returns-3
 returns-3 c =
     let p = c .before .before .before .before .before .before .before in
     let s = p .before .before .before .before .before .before .before .before .before .before in
     let l = p .before .before .before .load in
-    entailed-applied (s .args .sets .now) (entries (s .args .index .now) (s .args .equal .now) (s .args .not-equal .now)) (l .last .1 .0) (l .result) (l .ensures) (p .before .before .if1 .left) (p .propagate .last .0) (p .propagate .result) (scanned p) (c .before .before .before .before .before .enum-told2 .given .1) (c .before .before .store .ensures)
-
-same-length-4 : tie.Need-same-length-4
-same-length-4 c = search needs
+    entailed-applied (s .args .sets .now) (entries (s .args .index .now) (s .args .equal .now) (s .args .not-equal .now)) (l .last .1 .0) (l .result) (l .ensures) (p .before .before .if1 .left)
+    (p .propagate .last .0) (p .propagate .result) (scanned p) (c .before .before .before .before .before .enum-told2 .given .1) (c .before .before .store .ensures)
 
 returns-4 : tie.Need-returns-4
 returns-4 c =
     let p = c .before .before .before .before .before .before .before in
     let s = p .before .before .before .before .before .before .before .before .before .before in
     let l = p .before .before .before .load in
-    consistent-applied (s .args .sets .now) (entries (s .args .index .now) (s .args .equal .now) (s .args .not-equal .now)) (l .last .1 .0) (l .result) (l .ensures) (p .before .before .if1 .left) (p .propagate .last .0) (p .propagate .result) (scanned p) (c .before .before .before .before .before .enum-told3 .given .1) (c .before .before .store2 .ensures)
+    consistent-applied (s .args .sets .now) (entries (s .args .index .now) (s .args .equal .now) (s .args .not-equal .now)) (l .last .1 .0) (l .result) (l .ensures) (p .before .before .if1 .left)
+    (p .propagate .last .0) (p .propagate .result) (scanned p) (c .before .before .before .before .before .enum-told3 .given .1) (c .before .before .store2 .ensures)
 
 pub apply-spec : {M : Type 1} → statement M
 apply-spec =
     tie.close
     (tie.spec
-    load-requires
-    clear-requires
-    same-length
-    returns
-    propagate-requires
-    enum-told
-    clear-requires-2
-    enum-told-2
-    store-requires
-    enum-told-3
-    store-requires-2
-    same-length-2
-    returns-2
-    same-length-3
-    returns-3
-    same-length-4
-    returns-4)
+    load-requires (λ c κs. search needs) (λ c. search needs) returns propagate-requires (λ c. search needs) (λ c κs. search needs) (λ c. search needs)
+    store-requires (λ c. search needs) store-requires-2 (λ c. search needs) returns-2 (λ c. search needs) returns-3 (λ c. search needs) returns-4)

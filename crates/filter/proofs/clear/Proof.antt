@@ -1,11 +1,7 @@
 -- `filter::clear` meets its contract. The sets before `i` are 0. Assumes nothing.
-use mathlib.Core.Path.{_≡_, refl}
-use Prim.Native.Nat.{_-_}
-use lib.ListN.{length}
-use borrow.Author.Needs.{needs}
+use Rattle.model.specs.Kit.{_≡_, refl, _-_, length, needs}
 use Rattle.model.proofs.Filling.{filled-begin}
-use Rattle.filter.proofs.Copies.{Front, front-more, front-zeros}
-use Rattle.filter.proofs.clear.Statement.{statement}
+use Rattle.filter.proofs.{Copies.Front, Copies.front-more, Copies.front-zeros, clear.Statement.statement}
 use Rattle.filter.proofs.clear.Tie as tie
 
 abbrev Inv-loop : tie.InvT-loop
@@ -42,13 +38,4 @@ pub clear-spec : {M : Type 1} → statement M
 clear-spec =
     tie.close
     (tie.spec
-    Inv-loop
-    μ-loop
-    loop-holds
-    mul-sets
-    slice-write-sets
-    add-i
-    loop-less
-    loop-again
-    same-length
-    returns)
+    Inv-loop μ-loop loop-holds mul-sets slice-write-sets add-i loop-less loop-again same-length returns)

@@ -1,15 +1,7 @@
 -- `filter::first_wrong` meets its contract. The entries before `i` are right. Assumes nothing.
-use mathlib.Core.Bool.{true}
-use mathlib.Core.Path.{_≡_, sym, _∙_}
-use Prim.Native.Nat.{ℕ, _≤_, _<_, _-_}
-use native.Mathlib.Nat.{not-suc-le-zero}
-use lib.ListN.{length}
-use borrow.Author.Count.{below-more}
-use borrow.Author.Needs.{needs}
-use borrow.Author.Tests.{not-true, not-false}
+use Rattle.model.specs.Kit.{true, _≡_, sym, _∙_, ℕ, _≤_, _<_, _-_, not-suc-le-zero, length, below-more, needs, not-true, not-false}
 use Rattle.model.specs.Lists.{at}
-use Rattle.filter.proofs.Questions.{okAt, wrong-at, wrong-none}
-use Rattle.filter.proofs.first_wrong.Statement.{statement}
+use Rattle.filter.proofs.{Questions.okAt, Questions.wrong-at, Questions.wrong-none, first_wrong.Statement.statement}
 use Rattle.filter.proofs.first_wrong.Tie as tie
 
 abbrev Inv-loop : tie.InvT-loop
@@ -38,7 +30,8 @@ unfolding at
 returns c =
     let a = c .before .before .before .before .before .before .before .before .before .before .args in
     let l = c .before .before .before .before .before .before .loop in
-    wrong-at (a .n) (a .index .now) (a .equal .now) (a .not-equal .now) (l .i) (c .before .before .before .before .before .loop-test .taken) (l .inv .1) (sym (c .before .right .ensures) ∙ not-true (c .before .right .result) (c .if1 .taken))
+    wrong-at (a .n) (a .index .now) (a .equal .now) (a .not-equal .now) (l .i) (c .before .before .before .before .before .loop-test .taken) (l .inv .1)
+    (sym (c .before .right .ensures) ∙ not-true (c .before .right .result) (c .if1 .taken))
 
 add-i : tie.Need-add-i Inv-loop μ-loop
 add-i c = search needs
@@ -50,8 +43,11 @@ loop-again : tie.Need-loop-again Inv-loop μ-loop
 unfolding at
 loop-again c =
     let a = c .before .before .before .before .before .before .before .before .before .before .args in
-    let l = c .before .before .before .before .before .before .loop in
-    (search needs, below-more (λ k. okAt (a .n) (a .index .now) (a .equal .now) (a .not-equal .now) k ≡ true) (l .i) (l .inv .1) (sym (c .before .right .ensures) ∙ not-false (c .before .right .result) (c .if1 .left)))
+    let l = c .before .before .before .before .before .before .loop in (
+      search needs,
+      below-more (λ k. okAt (a .n) (a .index .now) (a .equal .now) (a .not-equal .now) k ≡ true) (l .i) (l .inv .1)
+          (sym (c .before .right .ensures) ∙ not-false (c .before .right .result) (c .if1 .left)),
+    )
 
 returns-2 : tie.Need-returns-2 Inv-loop μ-loop
 returns-2 c =
@@ -63,15 +59,5 @@ pub first-wrong-spec : {M : Type 1} → statement M
 first-wrong-spec =
     tie.close
     (tie.spec
-    Inv-loop
-    μ-loop
-    loop-holds
-    shared-slice-read-right
-    shared-slice-read-right-2
-    shared-slice-read-right-3
-    right-requires
-    returns
-    add-i
-    loop-less
-    loop-again
+    Inv-loop μ-loop loop-holds shared-slice-read-right shared-slice-read-right-2 shared-slice-read-right-3 right-requires returns add-i loop-less loop-again
     returns-2)

@@ -1,7 +1,6 @@
 -- `filter::kind_of` meets its contract. Assumes nothing.
-use borrow.Author.Tests.{eq-eqb, ne-eqb}
-use Rattle.filter.proofs.Marks.{kind-by}
-use Rattle.filter.proofs.kind_of.Statement.{statement}
+use Rattle.model.specs.Kit.{eq-eqb, ne-eqb}
+use Rattle.filter.proofs.{Marks.kind-by, kind_of.Statement.statement}
 use Rattle.filter.proofs.kind_of.Tie as tie
 
 returns : tie.Need-returns

@@ -1,14 +1,8 @@
 -- `filter::load` meets its contract. The sets before `i` are copied, and none of them is empty. Assumes nothing.
-use mathlib.Core.Path.{refl, sym, _∙_}
-use Prim.Native.Nat.{_-_, _≤_}
-use native.Mathlib.Omega.{arith}
-use lib.ListN.{length}
-use borrow.Author.Needs.{needs}
-use borrow.Author.Tests.{eqb-true, eqb-false}
+use Rattle.model.specs.Kit.{refl, sym, _∙_, _-_, _≤_, arith, length, needs, eqb-true, eqb-false}
 use Rattle.model.specs.Lists.{at}
 use Rattle.model.proofs.Filling.{filled-begin}
-use Rattle.filter.proofs.Copies.{Front, front-more, Copied, loaded}
-use Rattle.filter.proofs.load.Statement.{statement}
+use Rattle.filter.proofs.{Copies.Front, Copies.front-more, Copies.Copied, Copies.loaded, load.Statement.statement}
 use Rattle.filter.proofs.load.Tie as tie
 
 abbrev Inv-loop : tie.InvT-loop
@@ -61,22 +55,11 @@ returns-2 : tie.Need-returns-2 Inv-loop μ-loop
 returns-2 c =
     let a = c .before .before .before .args in
     let l = c .before .loop in
-    loaded (a .source .now) (a .target .now) (l .target) (l .i) (l .inv .1) (c .loop-test .left) (l .inv .0) (c .before .before .before .pre .0) (c .before .before .before .pre .1) (c .before .before .before .pre .2)
+    loaded (a .source .now) (a .target .now) (l .target) (l .i) (l .inv .1) (c .loop-test .left) (l .inv .0) (c .before .before .before .pre .0) (c .before .before .before .pre .1)
+    (c .before .before .before .pre .2)
 
 pub load-spec : {M : Type 1} → statement M
 load-spec =
     tie.close
     (tie.spec
-    Inv-loop
-    μ-loop
-    loop-holds
-    mul-t5
-    shared-slice-read-t8
-    is-empty-requires
-    returns
-    mul-target
-    element-write-target
-    add-i
-    loop-less
-    loop-again
-    returns-2)
+    Inv-loop μ-loop loop-holds mul-t5 shared-slice-read-t8 is-empty-requires returns mul-target element-write-target add-i loop-less loop-again returns-2)

@@ -1,33 +1,17 @@
 -- `filter::propagate` meets its contract. Assumes nothing.
-use Rattle.filter.proofs.Splits.{propagate-failed, propagate-end, propagate-at-split, propagate-split}
-use mathlib.Core.Path.{_≡_, subst}
-use mathlib.Core.Bool.{Bool}
-use mathlib.Core.List.{List}
-use Prim.Native.Nat.{ℕ}
+use Rattle.model.specs.Kit.{_≡_, subst, Bool, List, ℕ, needs}
+use Rattle.filter.proofs.{Splits.propagate-failed, Splits.propagate-end, Splits.propagate-at-split, Splits.propagate-split, propagate.Statement.statement}
 use Rattle.model.specs.Nogood.{Entry}
-use Rattle.filter.specs.Scan.{Resolved}
-use borrow.Author.Needs.{needs}
-use Rattle.filter.proofs.propagate.Statement.{statement}
+use Rattle.filter.specs.inner.Scan.{Resolved}
 use Rattle.filter.proofs.propagate.Tie as tie
 
 -- what a resolved split says, by its answer
 by-answer : (b : Bool) {v : Bool} → b ≡ v → {n : ℕ} {ss : List ℕ} {es : List Entry} {rs : List ℕ} → Resolved b n ss es rs → Resolved v n ss es rs
 by-answer b e {n} {ss} {es} {rs} r = subst (λ (y : Bool). Resolved y n ss es rs) e r
 
-pass-requires : tie.Need-pass-requires
-pass-requires c κs = search needs
-
-enum-told : tie.Need-enum-told
-enum-told c = search needs
-
-enum-told-2 : tie.Need-enum-told-2
-enum-told-2 c = search needs
-
-enum-known-reached : tie.Need-enum-known-reached
-enum-known-reached c = search needs
-
 resolve-requires : tie.Need-resolve-requires
-resolve-requires c κs = let p = c .before .before .before .before in let s = p .before .before .before .before .before .pre in (s .0, propagate-at-split (s .1) (p .pass .last .0) (p .pass .result) (p .pass .ensures (s .0) (s .1)) (c .before .before .reached .given .0 .0) (c .before .before .reached .given .1))
+resolve-requires c κs = let p = c .before .before .before .before in let s = p .before .before .before .before .before .pre in
+    (s .0, propagate-at-split (s .1) (p .pass .last .0) (p .pass .result) (p .pass .ensures (s .0) (s .1)) (c .before .before .reached .given .0 .0) (c .before .before .reached .given .1))
 
 returns : tie.Need-returns
 returns c = λ n w.
@@ -57,12 +41,4 @@ pub propagate-spec : {M : Type 1} → statement M
 propagate-spec =
     tie.close
     (tie.spec
-    pass-requires
-    enum-told
-    enum-told-2
-    enum-known-reached
-    resolve-requires
-    returns
-    returns-2
-    returns-3
-    returns-4)
+    (λ c κs. search needs) (λ c. search needs) (λ c. search needs) (λ c. search needs) resolve-requires returns returns-2 returns-3 returns-4)

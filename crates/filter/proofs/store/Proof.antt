@@ -1,12 +1,8 @@
 -- `filter::store` meets its contract. The sets before `i` are copied. Assumes nothing.
-use mathlib.Core.Path.{_≡_, refl}
-use Prim.Native.Nat.{_-_}
-use lib.ListN.{length}
-use borrow.Author.Needs.{needs}
+use Rattle.model.specs.Kit.{_≡_, refl, _-_, length, needs}
 use Rattle.model.specs.Lists.{at}
 use Rattle.model.proofs.Filling.{filled-begin}
-use Rattle.filter.proofs.Copies.{Front, front-more, front-copied}
-use Rattle.filter.proofs.store.Statement.{statement}
+use Rattle.filter.proofs.{Copies.Front, Copies.front-more, Copies.front-copied, store.Statement.statement}
 use Rattle.filter.proofs.store.Tie as tie
 
 abbrev Inv-loop : tie.InvT-loop
@@ -56,15 +52,4 @@ pub store-spec : {M : Type 1} → statement M
 store-spec =
     tie.close
     (tie.spec
-    Inv-loop
-    μ-loop
-    loop-holds
-    mul-target
-    element-copy-out-target
-    mul-target-2
-    slice-write-target
-    add-i
-    loop-less
-    loop-again
-    same-length
-    returns)
+    Inv-loop μ-loop loop-holds mul-target element-copy-out-target mul-target-2 slice-write-target add-i loop-less loop-again same-length returns)

@@ -1,14 +1,9 @@
 -- `copy`: after i turns the first i cells are copied. Assumes nothing.
-use mathlib.Core.Path.{_≡_, refl, subst}
-use Prim.Native.Nat.{ℕ, _+_, _*_, _-_, _≤_, _<_}
+use Rattle.model.specs.Kit.{_≡_, refl, subst, ℕ, _+_, _*_, _-_, _≤_, _<_, arith, needs, length, length-set}
 use native.Mathlib.Nat.{le-antisymm}
-use native.Mathlib.Omega.{arith}
-use borrow.Author.Needs.{needs}
-use lib.ListN.{length, length-set}
 use Rattle.model.specs.Lists.{at}
-use Rattle.list_columns.specs.Steps.{Copied}
-use Rattle.list_columns.proofs.Copying.{copied-none, copied-turn}
-use Rattle.list_columns.proofs.copy.Statement.{statement}
+use Rattle.list_columns.specs.inner.Steps.{Copied}
+use Rattle.list_columns.proofs.{Copying.copied-none, Copying.copied-turn, copy.Statement.statement}
 use Rattle.list_columns.proofs.copy.Tie as tie
 
 abbrev Inv-loop : tie.InvT-loop
@@ -18,7 +13,8 @@ abbrev μ-loop : tie.MeasureT-loop
 μ-loop out₀ at step cells from stride count i₀ out i = count - i
 
 -- at a turn: both indexes lie inside
-inside : (c : tie.In-loop Inv-loop μ-loop) → (c .before .before .args .at + c .before .loop .i * c .before .before .args .step < length (c .before .before .args .out .now)) × (c .before .before .args .from + c .before .loop .i * c .before .before .args .stride < length (c .before .before .args .cells .now))
+inside : (c : tie.In-loop Inv-loop μ-loop) → (c .before .before .args .at + c .before .loop .i * c .before .before .args .step < length (c .before .before .args .out .now)) ×
+    (c .before .before .args .from + c .before .loop .i * c .before .before .args .stride < length (c .before .before .args .cells .now))
 inside c =
     let s = c .before .before in
     (s .pre .1 (c .before .loop .i) (c .loop-test .taken), s .pre .2 (c .before .loop .i) (c .loop-test .taken))
@@ -71,17 +67,4 @@ pub copy-spec : {M : Type 1} → statement M
 copy-spec =
     tie.close
     (tie.spec
-    Inv-loop
-    μ-loop
-    loop-holds
-    mul-out
-    add-out
-    shared-slice-read-out
-    mul-out-2
-    add-out-2
-    slice-write-out
-    add-i
-    loop-less
-    loop-again
-    same-length
-    returns)
+    Inv-loop μ-loop loop-holds mul-out add-out shared-slice-read-out mul-out-2 add-out-2 slice-write-out add-i loop-less loop-again same-length returns)

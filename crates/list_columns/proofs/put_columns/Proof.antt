@@ -1,8 +1,6 @@
 -- `put_columns`: after x turns the values of the first x variables are put. Assumes nothing.
-use Prim.Native.Nat.{_-_, _≤_}
-use native.Mathlib.Nat.{suc-mul, mul-le-mul-right, le-antisymm}
-use native.Mathlib.Omega.{arith}
-use borrow.Author.Needs.{needs}
+use Rattle.model.specs.Kit.{_-_, _≤_, suc-mul, mul-le-mul-right, arith, needs}
+use native.Mathlib.Nat.{le-antisymm}
 use Rattle.list_columns.proofs.Copying.{ColumnsPut, put-none, column-fits, column-inside, column-turn, columns-whole}
 use Rattle.list_columns.proofs.put_columns.Statement.{statement}
 use Rattle.list_columns.proofs.put_columns.Tie as tie
@@ -31,8 +29,12 @@ copy-requires c κs =
     let l = c .before .before in
     let s = l .before .before .before in
     let a = s .args in
-    let h = c .before .loop-test .taken in
-    (search needs, column-fits (a .at) (a .rows .now) (a .variables) (a .plans) (a .out .now) (s .pre .0) (s .pre .1) (l .loop .x) _ h (l .loop .inv .1 .same), column-inside (a .at) (a .rows .now) (a .variables) (a .plans) (a .out .now) (s .pre .0) (s .pre .1) (l .loop .x) h)
+    let h = c .before .loop-test .taken in (
+      search needs,
+      column-fits (a .at) (a .rows .now) (a .variables) (a .plans) (a .out .now) (s .pre .0) (s .pre .1) (l .loop .x) _ h (l .loop .inv .1 .same),
+      column-inside (a .at) (a .rows .now)
+          (a .variables) (a .plans) (a .out .now) (s .pre .0) (s .pre .1) (l .loop .x) h,
+    )
 
 add-x : tie.Need-add-x Inv-loop μ-loop
 add-x c = search needs
@@ -45,8 +47,11 @@ loop-again c =
     let p = c .before .before in
     let l = p .before .before .before in
     let s = l .before .before .before in
-    let a = s .args in
-    (search needs, column-turn (a .at) (a .rows .now) (a .variables) (a .plans) (a .out .now) (s .pre .0) (s .pre .1) (l .loop .x) (p .before .before .loop-test .taken) (p .copy .kept .0) (p .copy .ensures) (l .loop .inv .1))
+    let a = s .args in (
+      search needs,
+      column-turn (a .at) (a .rows .now) (a .variables) (a .plans) (a .out .now) (s .pre .0) (s .pre .1) (l .loop .x) (p .before .before .loop-test .taken) (p .copy .kept .0)
+          (p .copy .ensures) (l .loop .inv .1),
+    )
 
 same-length : tie.Need-same-length Inv-loop μ-loop
 same-length c = c .before .loop .inv .1 .same
@@ -62,14 +67,4 @@ pub put-columns-spec : {M : Type 1} → statement M
 put-columns-spec =
     tie.close
     (tie.spec
-    Inv-loop
-    μ-loop
-    loop-holds
-    mul-copy
-    add-copy
-    copy-requires
-    add-x
-    loop-less
-    loop-again
-    same-length
-    returns)
+    Inv-loop μ-loop loop-holds mul-copy add-copy copy-requires add-x loop-less loop-again same-length returns)

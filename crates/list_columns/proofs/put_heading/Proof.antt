@@ -1,12 +1,7 @@
 -- `put_heading`: four numbers. Assumes nothing.
-use native.Mathlib.Omega.{arith}
-use Rattle.list_columns.proofs.Cells.{put-four}
-use borrow.Author.Needs.{needs}
-use Rattle.list_columns.proofs.put_heading.Statement.{statement}
+use Rattle.model.specs.Kit.{arith, needs}
+use Rattle.list_columns.proofs.{Cells.put-four, put_heading.Statement.statement}
 use Rattle.list_columns.proofs.put_heading.Tie as tie
-
-put-word-requires : tie.Need-put-word-requires
-put-word-requires c κs = search needs
 
 put-word-requires-2 : tie.Need-put-word-requires-2
 put-word-requires-2 c κs =
@@ -21,12 +16,6 @@ put-word-requires-3 c κs =
     let s = p .before .before .before in
     omega (arith, p .put-word .ensures .ends, p .put-word .kept .0, q .put-word2 .ensures .ends, q .put-word2 .kept .0, s .pre)
 
-mul-put-word : tie.Need-mul-put-word
-mul-put-word c = search needs
-
-add-put-word : tie.Need-add-put-word
-add-put-word c = search needs
-
 put-word-requires-4 : tie.Need-put-word-requires-4
 put-word-requires-4 c κs =
     let r = c .before .before .before in
@@ -34,9 +23,6 @@ put-word-requires-4 c κs =
     let p = q .before .before .before .before in
     let s = p .before .before .before in
     omega (arith, p .put-word .ensures .ends, p .put-word .kept .0, q .put-word2 .ensures .ends, q .put-word2 .kept .0, r .put-word3 .ensures .ends, r .put-word3 .kept .0, s .pre)
-
-same-length : tie.Need-same-length
-same-length c = search needs
 
 returns : tie.Need-returns
 returns c =
@@ -51,11 +37,4 @@ pub put-heading-spec : {M : Type 1} → statement M
 put-heading-spec =
     tie.close
     (tie.spec
-    put-word-requires
-    put-word-requires-2
-    put-word-requires-3
-    mul-put-word
-    add-put-word
-    put-word-requires-4
-    same-length
-    returns)
+    (λ c κs. search needs) put-word-requires-2 put-word-requires-3 (λ c. search needs) (λ c. search needs) put-word-requires-4 (λ c. search needs) returns)

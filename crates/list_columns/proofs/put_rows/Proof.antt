@@ -1,10 +1,7 @@
 -- `put_rows`: after x turns the values of the first x variables are put. Assumes nothing.
-use Prim.Native.Nat.{_-_, _≤_}
-use native.Mathlib.Nat.{suc-mul, mul-le-mul-right, le-antisymm}
-use native.Mathlib.Omega.{arith}
-use borrow.Author.Needs.{needs}
-use Rattle.list_columns.proofs.Copying.{RowsPut, put-none, row-fits, row-inside, row-turn, rows-whole}
-use Rattle.list_columns.proofs.put_rows.Statement.{statement}
+use Rattle.model.specs.Kit.{_-_, _≤_, suc-mul, mul-le-mul-right, arith, needs}
+use native.Mathlib.Nat.{le-antisymm}
+use Rattle.list_columns.proofs.{Copying.RowsPut, Copying.put-none, Copying.row-fits, Copying.row-inside, Copying.row-turn, Copying.rows-whole, put_rows.Statement.statement}
 use Rattle.list_columns.proofs.put_rows.Tie as tie
 
 abbrev Inv-loop : tie.InvT-loop
@@ -26,8 +23,12 @@ copy-requires c κs =
     let l = c .before .before in
     let s = l .before .before .before in
     let a = s .args in
-    let h = c .before .loop-test .taken in
-    (search needs, row-fits (a .columns .now) (a .variables) (a .plans) (a .out .now) (s .pre .0) (s .pre .1) (l .loop .x) _ h (l .loop .inv .1 .same), row-inside (a .columns .now) (a .variables) (a .plans) (a .out .now) (s .pre .0) (s .pre .1) (l .loop .x) h)
+    let h = c .before .loop-test .taken in (
+      search needs,
+      row-fits (a .columns .now) (a .variables) (a .plans) (a .out .now) (s .pre .0) (s .pre .1) (l .loop .x) _ h (l .loop .inv .1 .same),
+      row-inside (a .columns .now) (a .variables)
+          (a .plans) (a .out .now) (s .pre .0) (s .pre .1) (l .loop .x) h,
+    )
 
 add-x : tie.Need-add-x Inv-loop μ-loop
 add-x c = search needs
@@ -40,8 +41,11 @@ loop-again c =
     let p = c .before .before in
     let l = p .before .before .before in
     let s = l .before .before .before in
-    let a = s .args in
-    (search needs, row-turn (a .columns .now) (a .variables) (a .plans) (a .out .now) (s .pre .0) (s .pre .1) (l .loop .x) (p .before .before .loop-test .taken) (p .copy .kept .0) (p .copy .ensures) (l .loop .inv .1))
+    let a = s .args in (
+      search needs,
+      row-turn (a .columns .now) (a .variables) (a .plans) (a .out .now) (s .pre .0) (s .pre .1) (l .loop .x) (p .before .before .loop-test .taken) (p .copy .kept .0)
+          (p .copy .ensures) (l .loop .inv .1),
+    )
 
 same-length : tie.Need-same-length Inv-loop μ-loop
 same-length c = c .before .loop .inv .1 .same
@@ -57,13 +61,4 @@ pub put-rows-spec : {M : Type 1} → statement M
 put-rows-spec =
     tie.close
     (tie.spec
-    Inv-loop
-    μ-loop
-    loop-holds
-    mul-copy
-    copy-requires
-    add-x
-    loop-less
-    loop-again
-    same-length
-    returns)
+    Inv-loop μ-loop loop-holds mul-copy copy-requires add-x loop-less loop-again same-length returns)

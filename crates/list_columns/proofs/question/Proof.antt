@@ -1,10 +1,6 @@
 -- `question`: the questions one after another. Assumes nothing.
-use mathlib.Core.Path.{sym, _∙_}
-use borrow.Author.Tests.{leb-true, leb-false, not-true, not-false}
-use native.Mathlib.Omega.{arith}
-use Rattle.list_columns.proofs.Asking.{Whole, few-bytes, no-rows, large, short, passes}
-use borrow.Author.Needs.{needs}
-use Rattle.list_columns.proofs.question.Statement.{statement}
+use Rattle.model.specs.Kit.{sym, _∙_, leb-true, leb-false, not-true, not-false, arith, needs}
+use Rattle.list_columns.proofs.{Asking.Whole, Asking.few-bytes, Asking.no-rows, Asking.large, Asking.short, Asking.passes, question.Statement.statement}
 use Rattle.list_columns.proofs.question.Tie as tie
 
 -- past question 20
@@ -17,20 +13,11 @@ returns c = no-rows _ _ _ _ (λ w. omega (arith, w .some))
 returns-2 : tie.Need-returns-2
 returns-2 c = no-rows _ _ _ _ (λ w. omega (arith, w .most))
 
-rem-if3 : tie.Need-rem-if3
-rem-if3 c = search needs
-
 returns-3 : tie.Need-returns-3
 returns-3 c = no-rows _ _ _ _ (λ w. c .if3 .taken (w .whole))
 
-div-if4 : tie.Need-div-if4
-div-if4 c = search needs
-
 returns-4 : tie.Need-returns-4
 returns-4 c = no-rows _ _ _ _ (λ w. omega (arith, w .many))
-
-small-requires : tie.Need-small-requires
-small-requires c κs = search needs
 
 add-fits : tie.Need-add-fits
 add-fits c = omega (arith, few-bytes (rows (c .before)))
@@ -52,14 +39,4 @@ pub question-spec : {M : Type 1} → statement M
 question-spec =
     tie.close
     (tie.spec
-    returns
-    returns-2
-    rem-if3
-    returns-3
-    div-if4
-    returns-4
-    small-requires
-    add-fits
-    returns-5
-    returns-6
-    returns-7)
+    returns returns-2 (λ c. search needs) returns-3 (λ c. search needs) returns-4 (λ c κs. search needs) add-fits returns-5 returns-6 returns-7)

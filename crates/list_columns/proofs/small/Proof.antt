@@ -1,11 +1,6 @@
 -- `small`: no value before i is above `most`, which is below 16 where they all are. Assumes nothing.
-use mathlib.Core.Logic.{⊎-elim}
-use Prim.Native.Nat.{_≤_, _-_}
-use native.Mathlib.Omega.{arith}
-use borrow.Author.Needs.{needs}
-use lib.ListN.{length}
-use Rattle.list_columns.proofs.Asking.{Most, most-turn, small-is}
-use Rattle.list_columns.proofs.small.Statement.{statement}
+use Rattle.model.specs.Kit.{⊎-elim, _≤_, _-_, arith, needs, length}
+use Rattle.list_columns.proofs.{Asking.Most, Asking.most-turn, Asking.small-is, small.Statement.statement}
 use Rattle.list_columns.proofs.small.Tie as tie
 
 abbrev Inv-loop : tie.InvT-loop
@@ -31,8 +26,11 @@ loop-less c = search needs
 
 loop-again : tie.Need-loop-again Inv-loop μ-loop
 loop-again c =
-    let l = c .before .before .before in
-    (search needs, most-turn (l .before .args .bytes .now) (l .loop .i) (l .loop .most) (c .if1 .most) (⊎-elim (λ w. omega arith) (λ w. omega arith) (c .if1 .came)) (⊎-elim (λ w. omega arith) (λ w. omega arith) (c .if1 .came)) (λ a b. ⊎-elim (λ w. omega arith) (λ w. omega arith) (c .if1 .came)) (l .loop .inv .1))
+    let l = c .before .before .before in (
+      search needs,
+      most-turn (l .before .args .bytes .now) (l .loop .i) (l .loop .most) (c .if1 .most) (⊎-elim (λ w. omega arith) (λ w. omega arith) (c .if1 .came))
+          (⊎-elim (λ w. omega arith) (λ w. omega arith) (c .if1 .came)) (λ a b. ⊎-elim (λ w. omega arith) (λ w. omega arith) (c .if1 .came)) (l .loop .inv .1),
+    )
 
 returns : tie.Need-returns Inv-loop μ-loop
 returns c = small-is (c .before .before .args .bytes .now) (c .before .loop .most) (c .before .loop .i) (omega arith) (c .before .loop .inv .1)
@@ -41,12 +39,4 @@ pub small-spec : {M : Type 1} → statement M
 small-spec =
     tie.close
     (tie.spec
-    Inv-loop
-    μ-loop
-    loop-holds
-    shared-slice-read-if1
-    shared-slice-read-most
-    add-i
-    loop-less
-    loop-again
-    returns)
+    Inv-loop μ-loop loop-holds shared-slice-read-if1 shared-slice-read-most add-i loop-less loop-again returns)

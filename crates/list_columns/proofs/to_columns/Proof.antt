@@ -1,31 +1,24 @@
 -- `to_columns`: the questions, the header, the columns. Assumes nothing.
-use mathlib.Core.Path.{_≡_}
-use Prim.Native.Nat.{_+_, _/_, _≤_}
-use native.Mathlib.Omega.{arith}
-use lib.ListN.{length}
+use Rattle.model.specs.Kit.{_≡_, _+_, _/_, _≤_, arith, length, needs}
 use Rattle.model.specs.Verdict.{accepted}
 use Rattle.model.proofs.Room.{refused-out, none-accepted, wrote-out}
 use Rattle.list_columns.specs.Columns.{columnsOf, bytesVerdict, columnsVerdict}
-use Rattle.list_columns.proofs.Asking.{Passed, passed, cells, few-bytes}
-use Rattle.list_columns.proofs.Cells.{heading-length}
-use Rattle.list_columns.proofs.Storing.{heading-fits, columns-fit, store-fronted}
-use borrow.Author.Needs.{needs}
-use Rattle.list_columns.proofs.to_columns.Statement.{statement}
+use Rattle.list_columns.proofs.{Asking.Passed, Asking.passed, Asking.cells, Asking.few-bytes, Cells.heading-length, Storing.heading-fits, Storing.columns-fit}
+use Rattle.list_columns.proofs.{Storing.store-fronted, to_columns.Statement.statement}
 use Rattle.list_columns.proofs.to_columns.Tie as tie
 
 -- past the questions
-none : (c : tie.Else1) → bytesVerdict (c .before .before .before .before .args .n) (c .before .before .before .before .args .rows .now) (8 + length (c .before .before .before .before .args .rows .now)) (length (c .before .before .before .before .args .room .now)) ≡ accepted
+none : (c : tie.Else1) → bytesVerdict (c .before .before .before .before .args .n) (c .before .before .before .before .args .rows .now)
+    (8 + length (c .before .before .before .before .args .rows .now)) (length (c .before .before .before .before .args .room .now)) ≡ accepted
 none c = none-accepted (c .before .question .result) _ (c .if1 .left) (c .before .question .ensures)
 
-sound : (c : tie.Else1) → Passed (c .before .before .before .before .args .n) (c .before .before .before .before .args .rows .now) (8 + length (c .before .before .before .before .args .rows .now)) (length (c .before .before .before .before .args .room .now))
+sound : (c : tie.Else1) → Passed (c .before .before .before .before .args .n) (c .before .before .before .before .args .rows .now) (8 + length (c .before .before .before .before .args .rows .now))
+    (length (c .before .before .before .before .args .room .now))
 sound c = passed _ _ _ _ (none c)
-
-question-requires : tie.Need-question-requires
-question-requires c κs = search needs
 
 returns : tie.Need-returns
 unfolding columnsVerdict
-returns c = refused-out _ _ _ _ (c .if1 .taken) (c .before .question .ensures)
+returns c = let a = c .before .before .before .before .args in refused-out _ _ (columnsOf (a .n) (a .rows .now)) _ (c .if1 .taken) (c .before .question .ensures)
 
 div-plans : tie.Need-div-plans
 div-plans c = omega (arith, sound c .rows .some)
@@ -45,9 +38,6 @@ add-t14 c =
     let a = c .before .before .before .before .before .before .before .before .before .before .before .before .args in
     omega (arith, h .ensures .ends, heading-length (a .n) (length (a .rows .now) / a .n), few-bytes (sound (c .before .before .before .before .before .before .before .before) .rows))
 
-same-length : tie.Need-same-length
-same-length c = search needs
-
 returns-2 : tie.Need-returns-2
 unfolding columnsVerdict
 returns-2 c =
@@ -62,11 +52,4 @@ pub to-columns-spec : {M : Type 1} → statement M
 to-columns-spec =
     tie.close
     (tie.spec
-    question-requires
-    returns
-    div-plans
-    put-heading-requires
-    put-columns-requires
-    add-t14
-    same-length
-    returns-2)
+    (λ c κs. search needs) returns div-plans put-heading-requires put-columns-requires add-t14 (λ c. search needs) returns-2)

@@ -1,30 +1,8 @@
 -- `word_at`: two reads. Assumes nothing.
-use Rattle.model.specs.Sheet.{«word»}
-use Rattle.model.specs.Lists.{at}
-use borrow.Author.Needs.{needs}
+use Rattle.model.specs.Kit.{needs}
+use Rattle.model.specs.{Sheet.«word», Lists.at}
 use Rattle.list_columns.proofs.word_at.Statement.{statement}
 use Rattle.list_columns.proofs.word_at.Tie as tie
-
-shared-slice-read-wide : tie.Need-shared-slice-read-wide
-shared-slice-read-wide c = search needs
-
-wide-requires : tie.Need-wide-requires
-wide-requires c κs = search needs
-
-add-wide : tie.Need-add-wide
-add-wide c = search needs
-
-shared-slice-read-wide-2 : tie.Need-shared-slice-read-wide-2
-shared-slice-read-wide-2 c = search needs
-
-wide-requires-2 : tie.Need-wide-requires-2
-wide-requires-2 c κs = search needs
-
-mul-result : tie.Need-mul-result
-mul-result c = search needs
-
-add-result : tie.Need-add-result
-add-result c = search needs
 
 returns : tie.Need-returns
 unfolding «word» at
@@ -34,11 +12,4 @@ pub word-at-spec : {M : Type 1} → statement M
 word-at-spec =
     tie.close
     (tie.spec
-    shared-slice-read-wide
-    wide-requires
-    add-wide
-    shared-slice-read-wide-2
-    wide-requires-2
-    mul-result
-    add-result
-    returns)
+    (λ c. search needs) (λ c κs. search needs) (λ c. search needs) (λ c. search needs) (λ c κs. search needs) (λ c. search needs) (λ c. search needs) returns)

@@ -1,16 +1,10 @@
 -- `ascend`: what is left ascends exactly if the whole does. Assumes nothing.
-use mathlib.Core.Path.{_≡_, refl, sym, ap₂, _∙_, subst}
-use mathlib.Core.Logic.{⊎-elim}
-use Prim.Native.Nat.{ℕ, _-_, _%_, _<_}
-use borrow.Author.Needs.{needs}
-use lib.ListN.{length, take, drop}
+use Rattle.model.specs.Kit.{_≡_, refl, sym, ap₂, _∙_, subst, ⊎-elim, ℕ, _-_, _%_, _<_, needs, length, take, drop}
 use Rattle.model.specs.Room.{rowsIn}
 use Rattle.order.specs.Reordered.{earlierBy}
-use Rattle.list_merge.specs.Merge.{ascends}
-use Rattle.list_merge.specs.Inner.{wayOf}
-use Rattle.list_merge.proofs.Reading.{plain-way}
-use Rattle.list_merge.proofs.Turning.{part-is, front-a, front-after, whole-after, shorter, goes-on, equal-rows, falls, last-row}
-use Rattle.list_merge.proofs.ascend.Statement.{statement}
+use Rattle.list_merge.specs.{Merge.ascends, inner.Inner.wayOf}
+use Rattle.list_merge.proofs.{Reading.plain-way, Turning.part-is, Turning.front-a, Turning.front-after, Turning.whole-after, Turning.shorter, Turning.goes-on}
+use Rattle.list_merge.proofs.{Turning.equal-rows, Turning.falls, Turning.last-row, ascend.Statement.statement}
 use Rattle.list_merge.proofs.ascend.Tie as tie
 
 abbrev Inv-loop : tie.InvT-loop
@@ -62,7 +56,13 @@ by-words-requires c κs =
     let order = s .args .order .now in
     let after = take (length rest - n) (drop n rest) in
     let h = c .before .before .before .before .loop-test .taken in
-    record { some = s .pre .3 .words (c .before .before .if1 .taken) .some; most = s .pre .3 .most; first = sym (front-a n order rest after (s .pre .0) (l .loop .inv .0) h (part-is rest n)); second = sym (front-after n order rest after (s .pre .0) (l .loop .inv .0) h (part-is rest n)) }
+    record {
+      some = s .pre .3 .words (c .before .before .if1 .taken) .some;
+      most = s .pre .3 .most;
+      first = sym
+          (front-a n order rest after (s .pre .0) (l .loop .inv .0) h (part-is rest n));
+      second = sym (front-after n order rest after (s .pre .0) (l .loop .inv .0) h (part-is rest n));
+    }
 
 slice-aggregate-by-places : tie.Need-slice-aggregate-by-places Inv-loop μ-loop
 slice-aggregate-by-places c =
@@ -95,10 +95,21 @@ by-places-requires c κs =
     let order = s .args .order .now in
     let after = take (length rest - n) (drop n rest) in
     let h = c .before .before .before .before .loop-test .taken in
-    λ x m. (subst (λ (k : ℕ). x < k) (front-a n order rest after (s .pre .0) (l .loop .inv .0) h (part-is rest n)) (s .pre .1 .inside x m), subst (λ (k : ℕ). x < k) (front-after n order rest after (s .pre .0) (l .loop .inv .0) h (part-is rest n)) (s .pre .1 .inside x m))
+    λ x m. (
+      subst (λ (k : ℕ). x < k) (front-a n order rest after (s .pre .0) (l .loop .inv .0) h (part-is rest n)) (s .pre .1 .inside x m),
+      subst (λ (k : ℕ). x < k)
+          (front-after n order rest after (s .pre .0) (l .loop .inv .0) h (part-is rest n)) (s .pre .1 .inside x m),
+    )
 
 -- how the first two rows stand
-stood : (c : tie.Joined1 Inv-loop μ-loop) → c .if1 .way ≡ wayOf (earlierBy (c .before .before .before .before .before .before .args .order .now) (take (c .before .before .before .before .before .before .args .n) (c .before .before .before .loop .rest .now)) (take (c .before .before .before .before .before .before .args .n) (take (length (c .before .before .before .loop .rest .now) - c .before .before .before .before .before .before .args .n) (drop (c .before .before .before .before .before .before .args .n) (c .before .before .before .loop .rest .now))))) (earlierBy (c .before .before .before .before .before .before .args .order .now) (take (c .before .before .before .before .before .before .args .n) (take (length (c .before .before .before .loop .rest .now) - c .before .before .before .before .before .before .args .n) (drop (c .before .before .before .before .before .before .args .n) (c .before .before .before .loop .rest .now)))) (take (c .before .before .before .before .before .before .args .n) (c .before .before .before .loop .rest .now)))
+stood : (c : tie.Joined1 Inv-loop μ-loop) → c .if1 .way ≡ wayOf (earlierBy (c .before .before .before .before .before .before .args .order .now)
+    (take (c .before .before .before .before .before .before .args .n) (c .before .before .before .loop .rest .now))
+    (take (c .before .before .before .before .before .before .args .n) (take (length (c .before .before .before .loop .rest .now) - c .before .before .before .before .before .before .args .n)
+    (drop (c .before .before .before .before .before .before .args .n) (c .before .before .before .loop .rest .now)))))
+    (earlierBy (c .before .before .before .before .before .before .args .order .now) (take (c .before .before .before .before .before .before .args .n)
+    (take (length (c .before .before .before .loop .rest .now) - c .before .before .before .before .before .before .args .n)
+    (drop (c .before .before .before .before .before .before .args .n) (c .before .before .before .loop .rest .now))))
+    (take (c .before .before .before .before .before .before .args .n) (c .before .before .before .loop .rest .now)))
 stood c =
     let l = c .before .before .before in
     let s = l .before .before .before in
@@ -109,7 +120,8 @@ stood c =
     let h = c .before .before .loop-test .taken in
     let ea = front-a n order rest after (s .pre .0) (l .loop .inv .0) h (part-is rest n) in
     let eb = front-after n order rest after (s .pre .0) (l .loop .inv .0) h (part-is rest n) in
-    ⊎-elim (λ w. let p = s .pre .3 .words (w .0 .taken) in w .4 ∙ w .3 .ensures ∙ ap₂ wayOf (plain-way n order p (take n rest) (take n after) ea eb) (plain-way n order p (take n after) (take n rest) eb ea)) (λ w. w .4 ∙ w .3 .ensures) (c .if1 .came)
+    ⊎-elim (λ w. let p = s .pre .3 .words (w .0 .taken) in w .4 ∙ w .3 .ensures ∙ ap₂ wayOf (plain-way n order p (take n rest) (take n after) ea eb)
+    (plain-way n order p (take n after) (take n rest) eb ea)) (λ w. w .4 ∙ w .3 .ensures) (c .if1 .came)
 
 enum-told : tie.Need-enum-told Inv-loop μ-loop
 enum-told c = search needs
@@ -161,8 +173,11 @@ loop-again c =
     let rest = l .loop .rest .now in
     let order = s .args .order .now in
     let after = take (length rest - n) (drop n rest) in
-    let h = c .before .before .before .before .loop-test .taken in
-    (whole-after n order rest after (s .pre .0) (l .loop .inv .0) h (part-is rest n), l .loop .inv .1 ∙ goes-on n order rest after (s .pre .0) (l .loop .inv .0) h (part-is rest n) (c .before .before .if1 .way) (stood (c .before .before)) (c .enum-told .given .1))
+    let h = c .before .before .before .before .loop-test .taken in (
+      whole-after n order rest after (s .pre .0) (l .loop .inv .0) h (part-is rest n),
+      l .loop .inv .1 ∙ goes-on n order rest after (s .pre .0) (l .loop .inv .0) h (part-is rest n)
+          (c .before .before .if1 .way) (stood (c .before .before)) (c .enum-told .given .1),
+    )
 
 returns-3 : tie.Need-returns-3 Inv-loop μ-loop
 returns-3 c =
@@ -174,23 +189,5 @@ pub ascend-spec : {M : Type 1} → statement M
 ascend-spec =
     tie.close
     (tie.spec
-    Inv-loop
-    μ-loop
-    loop-holds
-    sub-after
-    part-after-start
-    part-after-end
-    slice-aggregate-by-words
-    slice-aggregate-by-words-2
-    by-words-requires
-    slice-aggregate-by-places
-    slice-aggregate-by-places-2
-    by-places-requires
-    enum-told
-    enum-told-2
-    returns
-    enum-told-3
-    returns-2
-    loop-less
-    loop-again
-    returns-3)
+    Inv-loop μ-loop loop-holds sub-after part-after-start part-after-end slice-aggregate-by-words slice-aggregate-by-words-2 by-words-requires
+    slice-aggregate-by-places slice-aggregate-by-places-2 by-places-requires enum-told enum-told-2 returns enum-told-3 returns-2 loop-less loop-again returns-3)

@@ -1,12 +1,6 @@
 -- `by_place`: the first i places are in their own order. Assumes nothing.
-use mathlib.Core.Path.{_≡_}
-use Prim.Native.Nat.{ℕ, _≤_, _<_, _-_}
-use native.Mathlib.Omega.{arith}
-use borrow.Author.Count.{below-more}
-use borrow.Author.Needs.{needs}
-use lib.ListN.{length, getD}
-use Rattle.list_merge.proofs.Reading.{in-place, not-plain}
-use Rattle.list_merge.proofs.by_place.Statement.{statement}
+use Rattle.model.specs.Kit.{_≡_, ℕ, _≤_, _<_, _-_, arith, below-more, needs, length, getD}
+use Rattle.list_merge.proofs.{Reading.in-place, Reading.not-plain, by_place.Statement.statement}
 use Rattle.list_merge.proofs.by_place.Tie as tie
 
 abbrev Inv-loop : tie.InvT-loop
@@ -40,20 +34,11 @@ loop-again : tie.Need-loop-again Inv-loop μ-loop
 loop-again c = (search needs, below-more (λ (k : ℕ). getD (c .before .before .before .before .before .args .order .now) k 0 ≡ k) _ (c .before .before .before .loop .inv .1) (c .if2 .left))
 
 returns-3 : tie.Need-returns-3 Inv-loop μ-loop
-returns-3 c = let l = c .before in let s = l .before .before in in-place (s .args .n) (s .args .order .now) (l .before .if1 .left) (s .pre .1) (s .pre .0) (λ k h. l .loop .inv .1 k (omega (arith, c .loop-test .left)))
+returns-3 c = let l = c .before in let s = l .before .before in in-place (s .args .n) (s .args .order .now) (l .before .if1 .left) (s .pre .1) (s .pre .0)
+    (λ k h. l .loop .inv .1 k (omega (arith, c .loop-test .left)))
 
 pub by-place-spec : {M : Type 1} → statement M
 by-place-spec =
     tie.close
     (tie.spec
-    Inv-loop
-    μ-loop
-    returns
-    loop-holds
-    shared-slice-read-if2
-    cast-if2
-    returns-2
-    add-i
-    loop-less
-    loop-again
-    returns-3)
+    Inv-loop μ-loop returns loop-holds shared-slice-read-if2 cast-if2 returns-2 add-i loop-less loop-again returns-3)

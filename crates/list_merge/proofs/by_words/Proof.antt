@@ -1,21 +1,7 @@
 -- `by_words`: the deciding four bytes as numbers. Assumes nothing.
-use mathlib.Core.Path.{_∙_}
-use Rattle.list_merge.proofs.Words.{words-way}
-use borrow.Author.Needs.{needs}
-use Rattle.list_merge.proofs.by_words.Statement.{statement}
+use Rattle.model.specs.Kit.{_∙_, needs}
+use Rattle.list_merge.proofs.{Words.words-way, by_words.Statement.statement}
 use Rattle.list_merge.proofs.by_words.Tie as tie
-
-deciding-requires : tie.Need-deciding-requires
-deciding-requires c κs = search needs
-
-word-requires : tie.Need-word-requires
-word-requires c κs = search needs
-
-word-requires-2 : tie.Need-word-requires-2
-word-requires-2 c κs = search needs
-
-way-of-requires : tie.Need-way-of-requires
-way-of-requires c κs = search needs
 
 returns : tie.Need-returns
 returns c =
@@ -25,4 +11,6 @@ returns c =
 
 pub by-words-spec : {M : Type 1} → statement M
 by-words-spec =
-    tie.close (tie.spec deciding-requires word-requires word-requires-2 way-of-requires returns)
+    tie.close
+    (tie.spec
+    (λ c κs. search needs) (λ c κs. search needs) (λ c κs. search needs) (λ c κs. search needs) returns)

@@ -1,10 +1,6 @@
 -- `short`: the sum is asked for by a difference. Assumes nothing.
-use mathlib.Core.Path.{sym}
-use Prim.Native.Nat.{_+_}
-use native.Mathlib.Omega.{arith}
-use borrow.Author.Tests.{lt-ltb}
-use Rattle.list_merge.proofs.Stepping.{less-by}
-use Rattle.list_merge.proofs.short.Statement.{statement}
+use Rattle.model.specs.Kit.{sym, _+_, arith, lt-ltb}
+use Rattle.list_merge.proofs.{Stepping.less-by, short.Statement.statement}
 use Rattle.list_merge.proofs.short.Tie as tie
 
 returns : tie.Need-returns

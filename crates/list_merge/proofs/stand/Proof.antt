@@ -1,12 +1,7 @@
 -- `stand`: a list at its end, or the two rows compared. Assumes nothing.
-use mathlib.Core.Path.{sym, ap₂, _∙_, subst}
-use Prim.Native.Nat.{ℕ, _<_}
-use lib.ListN.{take}
-use Rattle.list_merge.specs.Inner.{wayOf}
-use Rattle.list_merge.proofs.Reading.{plain-way}
-use Rattle.list_merge.proofs.Stepping.{front-length}
-use Rattle.list_merge.proofs.Turning.{stand-after, stand-before, stand-rows}
-use Rattle.list_merge.proofs.stand.Statement.{statement}
+use Rattle.model.specs.Kit.{sym, ap₂, _∙_, subst, ℕ, _<_, take}
+use Rattle.list_merge.specs.inner.Inner.{wayOf}
+use Rattle.list_merge.proofs.{Reading.plain-way, Stepping.front-length, Turning.stand-after, Turning.stand-before, Turning.stand-rows, stand.Statement.statement}
 use Rattle.list_merge.proofs.stand.Tie as tie
 
 returns : tie.Need-returns
@@ -40,7 +35,8 @@ returns-3 c =
     let p = s .pre .1 .words (c .before .before .before .if3 .taken) in
     let ea = front-length n a (s .pre .0 .first) (c .before .before .before .before .if2 .left) in
     let eb = front-length n b (s .pre .0 .second) (c .before .before .before .before .before .if1 .left) in
-    c .by-words .ensures ∙ ap₂ wayOf (plain-way n _ p (take n b) (take n a) eb ea) (plain-way n _ p (take n a) (take n b) ea eb) ∙ stand-rows n _ a b (c .before .before .before .before .before .if1 .left) (c .before .before .before .before .if2 .left)
+    c .by-words .ensures ∙ ap₂ wayOf (plain-way n _ p (take n b) (take n a) eb ea) (plain-way n _ p (take n a) (take n b) ea eb) ∙ stand-rows n _ a b
+    (c .before .before .before .before .before .if1 .left) (c .before .before .before .before .if2 .left)
 
 slice-aggregate-by-places : tie.Need-slice-aggregate-by-places
 slice-aggregate-by-places c = let s = c .before .before .before .before .before .before .before in front-length _ _ (s .pre .0 .second) (c .before .before .before .if1 .left)
@@ -63,13 +59,5 @@ pub stand-spec : {M : Type 1} → statement M
 stand-spec =
     tie.close
     (tie.spec
-    returns
-    returns-2
-    slice-aggregate-by-words
-    slice-aggregate-by-words-2
-    by-words-requires
-    returns-3
-    slice-aggregate-by-places
-    slice-aggregate-by-places-2
-    by-places-requires
-    returns-4)
+    returns returns-2 slice-aggregate-by-words slice-aggregate-by-words-2 by-words-requires returns-3 slice-aggregate-by-places slice-aggregate-by-places-2
+    by-places-requires returns-4)

@@ -1,18 +1,9 @@
 -- `walk`: the rows so far and those that are left are the whole. Assumes nothing.
-use mathlib.Core.Path.{_≡_, sym, _∙_, subst}
-use mathlib.Core.Logic.{⊎-elim, inl, inr}
-use mathlib.Core.List.{List}
-use Prim.Native.Nat.{ℕ, _+_, _-_, _≤_}
-use native.Mathlib.Omega.{arith}
-use borrow.Author.Needs.{needs}
-use lib.ListN.{length, take, drop}
-use Rattle.list_merge.specs.Merge.{mergedBy, nextRow}
-use Rattle.model.specs.Room.{Outcome}
-use Rattle.model.specs.Written.{Written}
-use Rattle.list_merge.specs.Inner.{taken, Walked}
-use Rattle.list_merge.proofs.Turning.{part-is, first-taken, second-taken, left, right, fewer}
-use Rattle.list_merge.proofs.Walking.{Walking, walking, Put, walked, has-room, width, lacks, on}
-use Rattle.list_merge.proofs.walk.Statement.{statement}
+use Rattle.model.specs.Kit.{_≡_, sym, _∙_, subst, ⊎-elim, inl, inr, List, ℕ, _+_, _-_, _≤_, arith, needs, length, take, drop}
+use Rattle.list_merge.specs.{Merge.mergedBy, Merge.nextRow, inner.Inner.taken, inner.Inner.Walked}
+use Rattle.model.specs.{Room.Outcome, Written.Written}
+use Rattle.list_merge.proofs.{Turning.part-is, Turning.first-taken, Turning.second-taken, Turning.left, Turning.right, Turning.fewer, Walking.Walking, Walking.walking}
+use Rattle.list_merge.proofs.{Walking.Put, Walking.walked, Walking.has-room, Walking.width, Walking.lacks, Walking.on, walk.Statement.statement}
 use Rattle.list_merge.proofs.walk.Tie as tie
 
 abbrev Inv-loop : tie.InvT-loop
@@ -34,51 +25,78 @@ same-length : tie.Need-same-length Inv-loop μ-loop
 same-length c = c .before .before .before .loop .inv .size
 
 -- the next row, and what it takes of each list
-row-is : (c : tie.After-next Inv-loop μ-loop) → c .next .result .now ≡ nextRow (c .before .before .before .before .before .before .before .args .n) (c .before .before .before .before .before .before .before .args .order .now) (c .before .before .loop .a .now) (c .before .before .loop .b .now)
+row-is : (c : tie.After-next Inv-loop μ-loop) → c .next .result .now ≡ nextRow (c .before .before .before .before .before .before .before .args .n)
+    (c .before .before .before .before .before .before .before .args .order .now) (c .before .before .loop .a .now) (c .before .before .loop .b .now)
 row-is c = c .next .ensures .0
 
-of-first : (c : tie.After-past-first Inv-loop μ-loop) → c .past-first .result ≡ taken (c .before .before .before .before .before .before .before .before .before .before .args .n) (c .before .before .before .before .before .loop .a .now) (c .before .before .before .next .result .now)
+of-first : (c : tie.After-past-first Inv-loop μ-loop) → c .past-first .result ≡ taken (c .before .before .before .before .before .before .before .before .before .before .args .n)
+    (c .before .before .before .before .before .loop .a .now) (c .before .before .before .next .result .now)
 of-first c =
     let l = c .before .before .before .before .before in
     let s = l .before .before .before .before .before in
     c .past-first .ensures
-    ∙ first-taken (s .args .n) (s .args .order .now) (l .loop .a .now) (l .loop .b .now) (l .loop .inv .rests .rests) (c .before .before .before .before .stand .result) (c .before .before .before .before .stand .ensures) (c .before .before .before .next .result .now) (row-is (c .before .before .before)) (c .before .before .if1 .left)
+    ∙ first-taken (s .args .n) (s .args .order .now) (l .loop .a .now) (l .loop .b .now) (l .loop .inv .rests .rests) (c .before .before .before .before .stand .result)
+    (c .before .before .before .before .stand .ensures) (c .before .before .before .next .result .now) (row-is (c .before .before .before)) (c .before .before .if1 .left)
 
-of-second : (c : tie.After-past-second Inv-loop μ-loop) → c .past-second .result ≡ taken (c .before .before .before .before .before .before .before .before .before .before .before .args .n) (c .before .before .before .before .before .before .loop .b .now) (c .before .before .before .before .next .result .now)
+of-second : (c : tie.After-past-second Inv-loop μ-loop) → c .past-second .result ≡ taken (c .before .before .before .before .before .before .before .before .before .before .before .args .n)
+    (c .before .before .before .before .before .before .loop .b .now) (c .before .before .before .before .next .result .now)
 of-second c =
     let l = c .before .before .before .before .before .before in
     let s = l .before .before .before .before .before in
     c .past-second .ensures
-    ∙ second-taken (s .args .n) (s .args .order .now) (l .loop .a .now) (l .loop .b .now) (l .loop .inv .rests .rests) (c .before .before .before .before .before .stand .result) (c .before .before .before .before .before .stand .ensures) (c .before .before .before .before .next .result .now) (row-is (c .before .before .before .before)) (c .before .before .before .if1 .left)
+    ∙ second-taken (s .args .n) (s .args .order .now) (l .loop .a .now) (l .loop .b .now) (l .loop .inv .rests .rests) (c .before .before .before .before .before .stand .result)
+    (c .before .before .before .before .before .stand .ensures) (c .before .before .before .before .next .result .now) (row-is (c .before .before .before .before))
+    (c .before .before .before .if1 .left)
 
 first-fits : (c : tie.After-past-second Inv-loop μ-loop) → c .before .past-first .result ≤ length (c .before .before .before .before .before .before .loop .a .now)
 first-fits c =
     let l = c .before .before .before .before .before .before in
     let s = l .before .before .before .before .before in
-    left (s .args .n) (s .args .order .now) (l .loop .a .now) (l .loop .b .now) (l .loop .inv .rests) (c .before .before .before .before .next .result .now) (row-is (c .before .before .before .before)) (c .before .before .before .if1 .left) (c .before .past-first .result) (c .past-second .result) (of-first (c .before)) (of-second c)
+    left (s .args .n) (s .args .order .now) (l .loop .a .now) (l .loop .b .now) (l .loop .inv .rests) (c .before .before .before .before .next .result .now)
+    (row-is (c .before .before .before .before)) (c .before .before .before .if1 .left) (c .before .past-first .result) (c .past-second .result) (of-first (c .before)) (of-second c)
 
 second-fits : (c : tie.After-past-second Inv-loop μ-loop) → c .past-second .result ≤ length (c .before .before .before .before .before .before .loop .b .now)
 second-fits c =
     let l = c .before .before .before .before .before .before in
     let s = l .before .before .before .before .before in
-    right (s .args .n) (s .args .order .now) (l .loop .a .now) (l .loop .b .now) (l .loop .inv .rests) (c .before .before .before .before .next .result .now) (row-is (c .before .before .before .before)) (c .before .before .before .if1 .left) (c .before .past-first .result) (c .past-second .result) (of-first (c .before)) (of-second c)
+    right (s .args .n) (s .args .order .now) (l .loop .a .now) (l .loop .b .now) (l .loop .inv .rests) (c .before .before .before .before .next .result .now)
+    (row-is (c .before .before .before .before)) (c .before .before .before .if1 .left) (c .before .past-first .result) (c .past-second .result) (of-first (c .before)) (of-second c)
 
-put : (c : tie.Joined2 Inv-loop μ-loop) → Put (c .before .before .before .before .before .before .before .before .before .args .n) (c .before .before .before .before .before .before .before .before .before .args .writes) (c .before .before .next .result .now) (c .before .before .before .before .loop .out) (c .before .before .before .before .loop .at) (c .if2 .out)
-put c = ⊎-elim {C = Put (c .before .before .before .before .before .before .before .before .before .args .n) (c .before .before .before .before .before .before .before .before .before .args .writes) (c .before .before .next .result .now) (c .before .before .before .before .loop .out) (c .before .before .before .before .loop .at) (c .if2 .out)} (λ w. inl (w .0 .taken, (w .2 .result, subst (λ (o : List ℕ). Written (c .before .before .before .before .loop .out) (c .before .before .before .before .loop .at) (c .before .before .next .result .now) o (w .2 .result)) (sym (w .5)) (w .2 .ensures)))) (λ w. inr (w .0 .left, w .2, w .1 .left)) (c .if2 .came)
+put : (c : tie.Joined2 Inv-loop μ-loop) → Put (c .before .before .before .before .before .before .before .before .before .args .n)
+    (c .before .before .before .before .before .before .before .before .before .args .writes) (c .before .before .next .result .now) (c .before .before .before .before .loop .out)
+    (c .before .before .before .before .loop .at) (c .if2 .out)
+put c = ⊎-elim {C = Put (c .before .before .before .before .before .before .before .before .before .args .n)
+    (c .before .before .before .before .before .before .before .before .before .args .writes) (c .before .before .next .result .now) (c .before .before .before .before .loop .out)
+    (c .before .before .before .before .loop .at) (c .if2 .out)} (λ w. inl (
+      w .0 .taken,
+      (
+        w .2 .result,
+        subst
+            (λ (o : List ℕ). Written (c .before .before .before .before .loop .out) (c .before .before .before .before .loop .at) (c .before .before .next .result .now) o (w .2 .result)) (sym (w .5))
+            (w .2 .ensures),
+      ),
+    )) (λ w. inr (w .0 .left, w .2, w .1 .left)) (c .if2 .came)
 
 returns : tie.Need-returns Inv-loop μ-loop
 returns c =
     let l = c .before .before .before in
     let s = l .before .before .before .before .before in
-    walked (s .args .n) (s .args .order .now) (s .args .writes) (s .args .out .now) _ (l .loop .a .now) (l .loop .b .now) (l .loop .out) (l .loop .at) (l .loop .inv) (c .before .next .result .now) (row-is (c .before)) (c .if1 .taken)
+    walked (s .args .n) (s .args .order .now) (s .args .writes) (s .args .out .now) _ (l .loop .a .now) (l .loop .b .now) (l .loop .out) (l .loop .at) (l .loop .inv) (c .before .next .result .now)
+    (row-is (c .before)) (c .if1 .taken)
 
 put-row-requires : tie.Need-put-row-requires Inv-loop μ-loop
 put-row-requires c κs =
     let l = c .before .before .before .before .before in
     let s = l .before .before .before .before .before in
     let r = c .before .before .before in (
-      has-room (s .args .n) (s .args .order .now) (s .args .writes) (s .args .out .now) _ (l .loop .a .now) (l .loop .b .now) (l .loop .out) (l .loop .at) (l .loop .inv) (r .next .result .now) (row-is r) (c .before .before .if1 .left) (s .pre .2 (c .before .if2 .taken)),
-      omega (arith, width (s .args .n) (s .args .order .now) (s .args .writes) (s .args .out .now) _ (l .loop .a .now) (l .loop .b .now) (l .loop .out) (l .loop .at) (l .loop .inv) (r .next .result .now) (row-is r) (c .before .before .if1 .left), s .pre .1 .most),
+      has-room (s .args .n) (s .args .order .now) (s .args .writes) (s .args .out .now) _ (l .loop .a .now) (l .loop .b .now) (l .loop .out) (l .loop .at) (l .loop .inv) (r .next .result .now)
+          (row-is r) (c .before .before .if1 .left) (s .pre .2 (c .before .if2 .taken)),
+      omega (
+        arith,
+        width (s .args .n) (s .args .order .now) (s .args .writes) (s .args .out .now) _ (l .loop .a .now) (l .loop .b .now) (l .loop .out) (l .loop .at) (l .loop .inv)
+            (r .next .result .now) (row-is r) (c .before .before .if1 .left),
+        s .pre .1 .most,
+      ),
     )
 
 sub-if3 : tie.Need-sub-if3 Inv-loop μ-loop
@@ -94,8 +112,11 @@ returns-2 : tie.Need-returns-2 Inv-loop μ-loop
 returns-2 c =
     let l = c .before .before .before .before .before .before in
     let s = l .before .before .before .before .before in
-    subst (λ (o : Outcome). Walked (s .args .writes) (s .args .out .now) (mergedBy (s .args .n) (s .args .order .now) (s .args .first .now) (s .args .second .now)) (l .loop .out) o) (sym (c .refused .ensures))
-    (lacks (s .args .n) (s .args .order .now) (s .args .writes) (s .args .out .now) _ (l .loop .a .now) (l .loop .b .now) (l .loop .out) (l .loop .at) (l .loop .inv) (c .before .before .before .before .next .result .now) (row-is (c .before .before .before .before)) (c .before .before .before .if1 .left) (c .before .before .if2 .left) (c .before .if3 .taken))
+    subst (λ (o : Outcome). Walked (s .args .writes) (s .args .out .now) (mergedBy (s .args .n) (s .args .order .now) (s .args .first .now) (s .args .second .now)) (l .loop .out) o)
+    (sym (c .refused .ensures))
+    (lacks (s .args .n) (s .args .order .now) (s .args .writes) (s .args .out .now) _ (l .loop .a .now) (l .loop .b .now) (l .loop .out) (l .loop .at) (l .loop .inv)
+    (c .before .before .before .before .next .result .now) (row-is (c .before .before .before .before)) (c .before .before .before .if1 .left) (c .before .before .if2 .left)
+    (c .before .if3 .taken))
 
 past-first-requires : tie.Need-past-first-requires Inv-loop μ-loop
 past-first-requires c κs = search needs
@@ -130,7 +151,12 @@ add-at c =
     let b = l .loop .b .now in
     let i = k .before .past-first .result in
     let j = k .past-second .result in
-    omega (arith, on (s .args .n) (s .args .order .now) (s .args .writes) (s .args .out .now) _ a b (l .loop .out) (l .loop .at) (l .loop .inv) (k .before .before .before .before .next .result .now) (row-is (k .before .before .before .before)) (k .before .before .before .if1 .left) i j (of-first (k .before)) (of-second k) (take (length a - i) (drop i a)) (take (length b - j) (drop j b)) (part-is a i) (part-is b j) (s .pre .2) (k .before .before .if2 .out) (put (k .before .before)) .0)
+    omega (
+      arith,
+      on (s .args .n) (s .args .order .now) (s .args .writes) (s .args .out .now) _ a b (l .loop .out) (l .loop .at) (l .loop .inv)
+          (k .before .before .before .before .next .result .now) (row-is (k .before .before .before .before)) (k .before .before .before .if1 .left) i j (of-first (k .before)) (of-second k)
+          (take (length a - i) (drop i a)) (take (length b - j) (drop j b)) (part-is a i) (part-is b j) (s .pre .2) (k .before .before .if2 .out) (put (k .before .before)) .0,
+    )
 
 loop-less : tie.Need-loop-less Inv-loop μ-loop
 loop-less c =
@@ -141,7 +167,8 @@ loop-less c =
     let b = l .loop .b .now in
     let i = k .before .past-first .result in
     let j = k .past-second .result in
-    fewer (s .args .n) (s .args .order .now) a b (l .loop .inv .rests) (k .before .before .before .before .next .result .now) (row-is (k .before .before .before .before)) (k .before .before .before .if1 .left) i j (of-first (k .before)) (of-second k) (take (length a - i) (drop i a)) (take (length b - j) (drop j b)) (part-is a i) (part-is b j)
+    fewer (s .args .n) (s .args .order .now) a b (l .loop .inv .rests) (k .before .before .before .before .next .result .now) (row-is (k .before .before .before .before))
+    (k .before .before .before .if1 .left) i j (of-first (k .before)) (of-second k) (take (length a - i) (drop i a)) (take (length b - j) (drop j b)) (part-is a i) (part-is b j)
 
 loop-again : tie.Need-loop-again Inv-loop μ-loop
 loop-again c =
@@ -152,32 +179,13 @@ loop-again c =
     let b = l .loop .b .now in
     let i = k .before .past-first .result in
     let j = k .past-second .result in
-    on (s .args .n) (s .args .order .now) (s .args .writes) (s .args .out .now) _ a b (l .loop .out) (l .loop .at) (l .loop .inv) (k .before .before .before .before .next .result .now) (row-is (k .before .before .before .before)) (k .before .before .before .if1 .left) i j (of-first (k .before)) (of-second k) (take (length a - i) (drop i a)) (take (length b - j) (drop j b)) (part-is a i) (part-is b j) (s .pre .2) (k .before .before .if2 .out) (put (k .before .before)) .1
+    on (s .args .n) (s .args .order .now) (s .args .writes) (s .args .out .now) _ a b (l .loop .out) (l .loop .at) (l .loop .inv) (k .before .before .before .before .next .result .now)
+    (row-is (k .before .before .before .before)) (k .before .before .before .if1 .left) i j (of-first (k .before)) (of-second k) (take (length a - i) (drop i a))
+    (take (length b - j) (drop j b)) (part-is a i) (part-is b j) (s .pre .2) (k .before .before .if2 .out) (put (k .before .before)) .1
 
 pub walk-spec : {M : Type 1} → statement M
 walk-spec =
     tie.close
     (tie.spec
-    Inv-loop
-    μ-loop
-    loop-holds
-    stand-requires
-    next-requires
-    same-length
-    returns
-    put-row-requires
-    sub-if3
-    refused-requires
-    same-length-2
-    returns-2
-    past-first-requires
-    past-second-requires
-    sub-a
-    part-a-start
-    part-a-end
-    sub-b
-    part-b-start
-    part-b-end
-    add-at
-    loop-less
-    loop-again)
+    Inv-loop μ-loop loop-holds stand-requires next-requires same-length returns put-row-requires sub-if3 refused-requires same-length-2 returns-2
+    past-first-requires past-second-requires sub-a part-a-start part-a-end sub-b part-b-start part-b-end add-at loop-less loop-again)

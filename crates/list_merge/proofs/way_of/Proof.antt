@@ -1,8 +1,6 @@
 -- `way_of`: by whether the numbers are equal, then by which is less. Assumes nothing.
-use native.Mathlib.Omega.{arith}
-use borrow.Author.Tests.{lt-ltb, le-ltb}
-use Rattle.list_merge.proofs.Stepping.{way-before, way-after, way-same, less}
-use Rattle.list_merge.proofs.way_of.Statement.{statement}
+use Rattle.model.specs.Kit.{arith, lt-ltb, le-ltb}
+use Rattle.list_merge.proofs.{Stepping.way-before, Stepping.way-after, Stepping.way-same, Stepping.less, way_of.Statement.statement}
 use Rattle.list_merge.proofs.way_of.Tie as tie
 
 returns : tie.Need-returns

@@ -1,19 +1,11 @@
 -- `length_told`: the four bytes, low byte first. Assumes nothing.
-use mathlib.Core.Path.{refl}
-use native.Mathlib.Omega.{arith}
+use Rattle.model.specs.Kit.{refl, arith, needs}
 use Rattle.model.specs.Lists.{at}
-use borrow.Author.Needs.{needs}
 use Rattle.lister.proofs.length_told.Statement.{statement}
 use Rattle.lister.proofs.length_told.Tie as tie
 
-shared-slice-read-result : tie.Need-shared-slice-read-result
-shared-slice-read-result c = search needs
-
 cast-result : tie.Need-cast-result
 cast-result c = omega (arith, c .shared-slice-known .given 4)
-
-shared-slice-read-result-2 : tie.Need-shared-slice-read-result-2
-shared-slice-read-result-2 c = search needs
 
 cast-result-2 : tie.Need-cast-result-2
 cast-result-2 c = omega (arith, c .shared-slice-known2 .given 5)
@@ -24,9 +16,6 @@ mul-result c = omega (arith, c .shared-slice-known2 .given 5)
 add-result : tie.Need-add-result
 add-result c = omega (arith, c .before .shared-slice-known .given 4, c .shared-slice-known2 .given 5)
 
-shared-slice-read-result-3 : tie.Need-shared-slice-read-result-3
-shared-slice-read-result-3 c = search needs
-
 cast-result-3 : tie.Need-cast-result-3
 cast-result-3 c = omega (arith, c .shared-slice-known3 .given 6)
 
@@ -36,9 +25,6 @@ mul-result-2 c = omega (arith, c .shared-slice-known3 .given 6)
 add-result-2 : tie.Need-add-result-2
 add-result-2 c = omega (arith, c .before .before .shared-slice-known .given 4, c .before .shared-slice-known2 .given 5, c .shared-slice-known3 .given 6)
 
-shared-slice-read-result-4 : tie.Need-shared-slice-read-result-4
-shared-slice-read-result-4 c = search needs
-
 cast-result-4 : tie.Need-cast-result-4
 cast-result-4 c = omega (arith, c .shared-slice-known4 .given 7)
 
@@ -46,7 +32,13 @@ mul-result-3 : tie.Need-mul-result-3
 mul-result-3 c = omega (arith, c .shared-slice-known4 .given 7)
 
 add-result-3 : tie.Need-add-result-3
-add-result-3 c = omega (arith, c .before .before .before .shared-slice-known .given 4, c .before .before .shared-slice-known2 .given 5, c .before .shared-slice-known3 .given 6, c .shared-slice-known4 .given 7)
+add-result-3 c = omega (
+  arith,
+  c .before .before .before .shared-slice-known .given 4,
+  c .before .before .shared-slice-known2 .given 5,
+  c .before .shared-slice-known3 .given 6,
+  c .shared-slice-known4 .given 7,
+)
 
 returns : tie.Need-returns
 unfolding at
@@ -56,18 +48,5 @@ pub length-told-spec : {M : Type 1} → statement M
 length-told-spec =
     tie.close
     (tie.spec
-    shared-slice-read-result
-    cast-result
-    shared-slice-read-result-2
-    cast-result-2
-    mul-result
-    add-result
-    shared-slice-read-result-3
-    cast-result-3
-    mul-result-2
-    add-result-2
-    shared-slice-read-result-4
-    cast-result-4
-    mul-result-3
-    add-result-3
-    returns)
+    (λ c. search needs) cast-result (λ c. search needs) cast-result-2 mul-result add-result (λ c. search needs) cast-result-3 mul-result-2 add-result-2
+    (λ c. search needs) cast-result-4 mul-result-3 add-result-3 returns)

@@ -1,9 +1,5 @@
 -- `read_input`: the bytes read lie at the front of the buffer, whose length stays; each turn leaves less of it. Assumes nothing.
-use mathlib.Core.Path.{_≡_, sym}
-use lib.Seq.{length-take-le}
-use Prim.Native.Nat.{_≤_, _-_}
-use lib.ListN.{length}
-use borrow.Author.Needs.{needs}
+use Rattle.model.specs.Kit.{_≡_, sym, length-take-le, _≤_, _-_, length, needs}
 use Rattle.lister.proofs.read_input.Statement.{statement}
 use Rattle.lister.proofs.read_input.Tie as tie
 
@@ -71,23 +67,5 @@ pub read-input-spec : {M : Type 1} → statement M
 read-input-spec =
     tie.close
     (tie.spec
-    Inv-loop
-    μ-loop
-    loop-holds
-    sub-read
-    part-read-start
-    part-read-end
-    read-requires
-    same-length
-    returns
-    sub-count
-    part-count-start
-    part-count-end
-    count-requires
-    add-done
-    loop-less
-    loop-again
-    same-length-2
-    returns-2
-    same-length-3
-    returns-3)
+    Inv-loop μ-loop loop-holds sub-read part-read-start part-read-end read-requires same-length returns sub-count part-count-start part-count-end count-requires
+    add-done loop-less loop-again same-length-2 returns-2 same-length-3 returns-3)

@@ -1,14 +1,9 @@
 -- One pair after another. Assumes nothing.
-use mathlib.Core.Path.{_≡_, refl}
-use Prim.Native.Nat.{_+_, _*_, _/_, _-_, _≤_}
-use native.Mathlib.Omega.{arith}
-use lib.ListN.{length}
-use borrow.Author.Needs.{needs}
+use Rattle.model.specs.Kit.{_≡_, refl, _+_, _*_, _/_, _-_, _≤_, arith, length, needs}
 use Rattle.model.specs.Lists.{at}
 use Rattle.model.proofs.Members.{one-has}
-use Rattle.order.specs.Settled.{Befores}
-use Rattle.order.proofs.Placing.{below-64, befores-begin, befores-turn, befores-end}
-use Rattle.order.proofs.forerunners.Statement.{statement}
+use Rattle.order.specs.inner.Settled.{Befores}
+use Rattle.order.proofs.{Placing.below-64, Placing.befores-begin, Placing.befores-turn, Placing.befores-end, forerunners.Statement.statement}
 use Rattle.order.proofs.forerunners.Tie as tie
 
 abbrev Inv-loop : tie.InvT-loop
@@ -67,7 +62,12 @@ loop-less c = search needs
 
 loop-again : tie.Need-loop-again Inv-loop μ-loop
 unfolding at
-loop-again c = (search needs, refl, befores-turn _ _ _ _ (c .before .before .before .before .loop .inv .2) (c .before .before .before .before .before .pre .0 _ (omega arith)) (omega arith) (λ y. one-has 64 _ y (below-64 _ (c .before .before .before .before .before .pre .0 _ (omega arith)))))
+loop-again c = (
+  search needs,
+  refl,
+  befores-turn _ _ _ _ (c .before .before .before .before .loop .inv .2) (c .before .before .before .before .before .pre .0 _ (omega arith)) (omega arith)
+      (λ y. one-has 64 _ y (below-64 _ (c .before .before .before .before .before .pre .0 _ (omega arith)))),
+)
 
 returns : tie.Need-returns Inv-loop μ-loop
 returns c = befores-end _ _ _ _ (search needs) (search needs) (c .before .loop .inv .2)
@@ -76,22 +76,5 @@ pub forerunners-spec : {M : Type 1} → statement M
 forerunners-spec =
     tie.close
     (tie.spec
-    Inv-loop
-    μ-loop
-    loop-holds
-    mul-y
-    add-y
-    shared-slice-read-y
-    cast-y
-    mul-befores
-    element-copy-out-befores
-    mul-befores-2
-    shared-slice-read-befores
-    cast-befores
-    shl-befores
-    mul-befores-3
-    element-write-befores
-    add-i
-    loop-less
-    loop-again
-    returns)
+    Inv-loop μ-loop loop-holds mul-y add-y shared-slice-read-y cast-y mul-befores element-copy-out-befores mul-befores-2 shared-slice-read-befores cast-befores
+    shl-befores mul-befores-3 element-write-befores add-i loop-less loop-again returns)

@@ -1,16 +1,8 @@
 -- No place below y can follow. Assumes nothing.
-use mathlib.Core.Bool.{false}
-use mathlib.Core.List.{List}
-use mathlib.Core.Path.{_≡_, sym, _∙_}
-use Prim.Native.Nat.{ℕ, _/_, _-_, _≤_, _<_}
-use native.Mathlib.Omega.{arith}
-use lib.ListN.{length}
-use borrow.Author.Needs.{needs}
-use Rattle.order.specs.Order.{canFollow}
+use Rattle.model.specs.Kit.{false, List, _≡_, sym, _∙_, ℕ, _/_, _-_, _≤_, _<_, arith, length, needs}
+use Rattle.order.specs.{Order.canFollow, inner.Settled.Holds, inner.Settled.Befores}
 use Rattle.model.proofs.Masks.{least-at, least-none}
-use Rattle.order.specs.Settled.{Holds, Befores}
-use Rattle.order.proofs.Placing.{more-no}
-use Rattle.order.proofs.next.Statement.{statement}
+use Rattle.order.proofs.{Placing.more-no, next.Statement.statement}
 use Rattle.order.proofs.next.Tie as tie
 
 abbrev Inv-loop : tie.InvT-loop
@@ -44,12 +36,4 @@ pub next-spec : {M : Type 1} → statement M
 next-spec =
     tie.close
     (tie.spec
-    Inv-loop
-    μ-loop
-    loop-holds
-    can-follow-requires
-    returns
-    add-y
-    loop-less
-    loop-again
-    returns-2)
+    Inv-loop μ-loop loop-holds can-follow-requires returns add-y loop-less loop-again returns-2)

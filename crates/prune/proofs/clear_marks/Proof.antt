@@ -1,9 +1,6 @@
 -- Sixteen marks are cleared, one after another. Assumes nothing.
-use Prim.Native.Nat.{_+_, _*_, _-_, _≤_}
-use native.Mathlib.Omega.{arith}
-use borrow.Author.Needs.{needs}
-use Rattle.prune.proofs.Copies.{Filled, filled-begin, filled-turn, stored}
-use Rattle.prune.proofs.clear_marks.Statement.{statement}
+use Rattle.model.specs.Kit.{_+_, _*_, _-_, _≤_, arith, needs}
+use Rattle.prune.proofs.{Copies.Filled, Copies.filled-begin, Copies.filled-turn, Copies.stored, clear_marks.Statement.statement}
 use Rattle.prune.proofs.clear_marks.Tie as tie
 
 abbrev Inv-loop : tie.InvT-loop
@@ -46,15 +43,4 @@ pub clear-marks-spec : {M : Type 1} → statement M
 clear-marks-spec =
     tie.close
     (tie.spec
-    Inv-loop
-    μ-loop
-    loop-holds
-    mul-work
-    add-work
-    add-work-2
-    mul-work-2
-    element-write-work
-    add-e
-    loop-less
-    loop-again
-    returns)
+    Inv-loop μ-loop loop-holds mul-work add-work add-work-2 mul-work-2 element-write-work add-e loop-less loop-again returns)

@@ -1,13 +1,11 @@
 -- The loop: only the constraints left and those by variable of the variables that moved may take something. Assumes nothing.
-use mathlib.Core.Path.{refl}
-use native.Mathlib.Nat.{lt-of-lt-of-le}
-use borrow.Author.Needs.{needs}
+use Rattle.model.specs.Kit.{refl, lt-of-lt-of-le, needs}
 use Rattle.model.specs.Problem.{Problem}
 use Rattle.model.proofs.Sets.{size}
 use Rattle.prune_pairs.proofs.Settled.{none-settled}
-use Rattle.prune.specs.Steps.{ArraysHold, Pending, PrunedSoFar}
-use Rattle.prune.proofs.Pending.{pruned-none, ended-more, all-constrained-dead, all-constrained-live, nothing-due, arcs-pending, arcs-pruned, arcs-size, arcs-turn, constraints-pending, pending-turn, pruned-turn, pending-less}
-use Rattle.prune.proofs.constrain.Statement.{statement}
+use Rattle.prune.specs.inner.Steps.{ArraysHold, Pending, PrunedSoFar}
+use Rattle.prune.proofs.Pending.{pruned-none, ended-more, all-constrained-dead, all-constrained-live, nothing-due, arcs-pending, arcs-pruned, arcs-size, arcs-turn}
+use Rattle.prune.proofs.{Pending.constraints-pending, Pending.pending-turn, Pending.pruned-turn, Pending.pending-less, constrain.Statement.statement}
 use Rattle.prune.proofs.constrain.Tie as tie
 
 abbrev Inv-loop : tie.InvT-loop
@@ -36,8 +34,11 @@ unfolding Rattle.model.specs.Lists.at
 constrain-requires c κs =
     let h = c .before .before .before .before .before in
     let q = h .before .pre in
-    let i = h .loop .inv (q .0) (q .1) (q .2) in
-    (q .0, constraints-pending (q .1) (arcs-turn (q .1) (i .1) (c .before .before .before .arcs .ensures (q .0) (arcs-pending (q .1) (i .1))) (c .before .before .if1 .left) (c .before .touched .ensures) refl))
+    let i = h .loop .inv (q .0) (q .1) (q .2) in (
+      q .0,
+      constraints-pending (q .1) (arcs-turn (q .1) (i .1) (c .before .before .before .arcs .ensures (q .0) (arcs-pending (q .1) (i .1))) (c .before .before .if1 .left)
+          (c .before .touched .ensures) refl),
+    )
 
 returns-2 : tie.Need-returns-2 Inv-loop μ-loop
 returns-2 c = λ p s w.
@@ -70,7 +71,8 @@ loop-less c =
     let l = c .before .before .before .before .before .before .before .arcs .ensures (q .0) (arcs-pending (q .1) (i .1)) in
     let live = c .before .before .before .before .before .before .if1 .left in
     let n = arcs-turn (q .1) (i .1) l live (c .before .before .before .before .before .touched .ensures) refl in
-    lt-of-lt-of-le (pending-less (q .1) n (c .before .before .before .constrain .ensures (q .0) (constraints-pending (q .1) n)) (c .before .before .if2 .left) refl (search needs) (c .if3 .left)) (arcs-size (q .1) (i .1) l live)
+    lt-of-lt-of-le (pending-less (q .1) n (c .before .before .before .constrain .ensures (q .0) (constraints-pending (q .1) n)) (c .before .before .if2 .left) refl (search needs) (c .if3 .left))
+    (arcs-size (q .1) (i .1) l live)
 
 loop-again : tie.Need-loop-again Inv-loop μ-loop
 unfolding Rattle.model.specs.Lists.at
@@ -87,15 +89,4 @@ pub constrain-spec : {M : Type 1} → statement M
 constrain-spec =
     tie.close
     (tie.spec
-    Inv-loop
-    μ-loop
-    loop-holds
-    arcs-requires
-    returns
-    touched-requires
-    constrain-requires
-    returns-2
-    element-copy-out-moved
-    returns-3
-    loop-less
-    loop-again)
+    Inv-loop μ-loop loop-holds arcs-requires returns touched-requires constrain-requires returns-2 element-copy-out-moved returns-3 loop-less loop-again)

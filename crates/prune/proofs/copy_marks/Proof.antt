@@ -1,11 +1,8 @@
 -- The marks of a depth are stored for the next, one after another; without symmetries there are none. Assumes nothing.
-use Prim.Native.Nat.{_+_, _*_, _-_, _≤_}
-use native.Mathlib.Omega.{arith}
-use borrow.Author.Needs.{needs}
+use Rattle.model.specs.Kit.{_+_, _*_, _-_, _≤_, arith, needs}
 use Rattle.model.specs.Lists.{at}
-use Rattle.arrays.specs.Places.{MARKS}
-use Rattle.prune.proofs.Copies.{Filled, filled-begin, filled-with, stored, copied, copied-none}
-use Rattle.prune.proofs.copy_marks.Statement.{statement}
+use Rattle.arrays.specs.inner.Places.{MARKS}
+use Rattle.prune.proofs.{Copies.Filled, Copies.filled-begin, Copies.filled-with, Copies.stored, Copies.copied, Copies.copied-none, copy_marks.Statement.statement}
 use Rattle.prune.proofs.copy_marks.Tie as tie
 
 abbrev Inv-loop : tie.InvT-loop
@@ -76,23 +73,5 @@ pub copy-marks-spec : {M : Type 1} → statement M
 copy-marks-spec =
     tie.close
     (tie.spec
-    Inv-loop
-    μ-loop
-    element-copy-out-if1
-    returns
-    loop-holds
-    mul-here
-    add-here
-    add-here-2
-    add-next
-    mul-next
-    add-next-2
-    add-next-3
-    mul-work
-    element-copy-out-work
-    mul-work-2
-    element-write-work
-    add-e
-    loop-less
-    loop-again
-    returns-2)
+    Inv-loop μ-loop element-copy-out-if1 returns loop-holds mul-here add-here add-here-2 add-next mul-next add-next-2 add-next-3 mul-work element-copy-out-work
+    mul-work-2 element-write-work add-e loop-less loop-again returns-2)

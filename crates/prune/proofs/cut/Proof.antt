@@ -1,10 +1,5 @@
 -- The loop: the sets of the variables passed have lost the values below v. Assumes nothing.
-use mathlib.Core.Path.{sym, _∙_}
-use Prim.Native.Nat.{_<_}
-use native.Mathlib.Omega.{arith}
-use lib.Count.{trailingZeros}
-use borrow.Author.Needs.{needs}
-use borrow.Author.Tests.{eqb-true, eqb-false}
+use Rattle.model.specs.Kit.{sym, _∙_, _<_, arith, trailingZeros, needs, eqb-true, eqb-false}
 use Rattle.model.specs.Lists.{at}
 use Rattle.model.proofs.Members.{rest-less}
 use Rattle.prune.proofs.BlockCut.{Cutting, cutting-begin, low-16, cutting-dead, cutting-turn, cutting-end}
@@ -42,7 +37,8 @@ returns : tie.Need-returns Inv-loop μ-loop
 unfolding at
 returns c =
     let i = c .before .before .before .before in
-    cutting-dead _ _ _ (i .before .before .pre .0) (i .before .before .pre .2) (i .before .loop .inv) (i .loop-test .taken) _ (c .before .before .not-below .ensures) (eqb-true _ 0 (sym (c .before .is-empty .ensures) ∙ c .if1 .taken)) _
+    cutting-dead _ _ _ (i .before .before .pre .0) (i .before .before .pre .2) (i .before .loop .inv) (i .loop-test .taken) _ (c .before .before .not-below .ensures)
+    (eqb-true _ 0 (sym (c .before .is-empty .ensures) ∙ c .if1 .taken)) _
 
 mul-sets : tie.Need-mul-sets Inv-loop μ-loop
 mul-sets c = omega (arith, low (c .before .before .before .before))
@@ -64,7 +60,8 @@ unfolding at
 loop-again c =
     let e = c .before in
     let i = e .before .before .before .before in
-    cutting-turn _ _ _ (i .before .before .pre .0) (i .before .before .pre .2) (i .before .loop .inv) (i .loop-test .taken) _ (e .before .before .not-below .ensures) (eqb-false _ 0 (sym (e .before .is-empty .ensures) ∙ e .if1 .left)) _ (c .moved .ensures)
+    cutting-turn _ _ _ (i .before .before .pre .0) (i .before .before .pre .2) (i .before .loop .inv) (i .loop-test .taken) _ (e .before .before .not-below .ensures)
+    (eqb-false _ 0 (sym (e .before .is-empty .ensures) ∙ e .if1 .left)) _ (c .moved .ensures)
 
 returns-2 : tie.Need-returns-2 Inv-loop μ-loop
 returns-2 c = cutting-end _ _ _ (c .before .before .pre .0) (c .before .before .pre .2) (c .before .loop .inv) (c .loop-test .left)
@@ -73,19 +70,5 @@ pub cut-spec : {M : Type 1} → statement M
 cut-spec =
     tie.close
     (tie.spec
-    Inv-loop
-    μ-loop
-    loop-holds
-    cast-y
-    mul-t11
-    element-copy-out-t14
-    not-below-requires
-    is-empty-requires
-    returns
-    mul-sets
-    element-write-sets
-    moved-requires
-    sub-left
-    loop-less
-    loop-again
-    returns-2)
+    Inv-loop μ-loop loop-holds cast-y mul-t11 element-copy-out-t14 not-below-requires is-empty-requires returns mul-sets element-write-sets moved-requires
+    sub-left loop-less loop-again returns-2)

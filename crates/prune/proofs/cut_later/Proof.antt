@@ -1,22 +1,19 @@
 -- The block's variables after k, where k is one of them. Assumes nothing.
-use mathlib.Core.Path.{refl}
-use borrow.Author.Needs.{needs}
+use Rattle.model.specs.Kit.{refl, needs}
 use Rattle.prune_pairs.proofs.OneCut.{bit-in}
-use Rattle.prune.proofs.BlockCut.{bit-out, two-some, later-small, after-none, after-some}
-use Rattle.prune.proofs.cut_later.Statement.{statement}
+use Rattle.prune.proofs.{BlockCut.bit-out, BlockCut.two-some, BlockCut.later-small, BlockCut.after-none, BlockCut.after-some, cut_later.Statement.statement}
 use Rattle.prune.proofs.cut_later.Tie as tie
-
-shr-if1 : tie.Need-shr-if1
-shr-if1 c = search needs
-
-shl-cut : tie.Need-shl-cut
-shl-cut c = search needs
 
 sub-cut : tie.Need-sub-cut
 sub-cut c = two-some _ (c .before .before .pre .1)
 
 cut-requires : tie.Need-cut-requires
-cut-requires c κs = let q = c .before .before .pre in let a = c .before .before .args in (q .0, q .2, later-small (a .block) (a .k) (a .v) (a .sets .now) (q .0) (q .1) (bit-in _ _ (c .before .if1 .taken)) (q .3) _ refl)
+cut-requires c κs = let q = c .before .before .pre in let a = c .before .before .args in (
+  q .0,
+  q .2,
+  later-small (a .block) (a .k) (a .v) (a .sets .now) (q .0) (q .1)
+      (bit-in _ _ (c .before .if1 .taken)) (q .3) _ refl,
+)
 
 returns : tie.Need-returns
 returns c = let q = c .before .before .before .pre in after-some _ _ _ _ (q .0) (q .1) (bit-in _ _ (c .before .before .if1 .taken)) (q .3) _ refl (c .cut .ensures)
@@ -25,4 +22,7 @@ returns-2 : tie.Need-returns-2
 returns-2 c = after-none _ _ _ _ (c .before .pre .0) (bit-out _ _ (c .if1 .left))
 
 pub cut-later-spec : {M : Type 1} → statement M
-cut-later-spec = tie.close (tie.spec shr-if1 shl-cut sub-cut cut-requires returns returns-2)
+cut-later-spec =
+    tie.close
+    (tie.spec
+    (λ c. search needs) (λ c. search needs) sub-cut cut-requires returns returns-2)

@@ -1,41 +1,9 @@
 -- The sets of depth k, with one value kept of variable k's set and the block's later variables cut, are on the way to those of the longer prefix.
 -- Assumes nothing.
-use native.Mathlib.Omega.{arith}
-use borrow.Author.Needs.{needs}
+use Rattle.model.specs.Kit.{arith, needs}
 use Rattle.model.specs.Lists.{at}
-use Rattle.prune.proofs.Descent.{descent-sixteen, descent-dead, descent-unpruned, descent-reached}
-use Rattle.prune.proofs.descend.Statement.{statement}
+use Rattle.prune.proofs.{Descent.descent-sixteen, Descent.descent-dead, Descent.descent-unpruned, Descent.descent-reached, descend.Statement.statement}
 use Rattle.prune.proofs.descend.Tie as tie
-
-load-requires : tie.Need-load-requires
-load-requires c κs = search needs
-
-mul-t14 : tie.Need-mul-t14
-mul-t14 c = search needs
-
-array-read-t17 : tie.Need-array-read-t17
-array-read-t17 c = search needs
-
-mul-v : tie.Need-mul-v
-mul-v c = search needs
-
-element-copy-out-v : tie.Need-element-copy-out-v
-element-copy-out-v c = search needs
-
-cast-v : tie.Need-cast-v
-cast-v c = search needs
-
-only-requires : tie.Need-only-requires
-only-requires c κs = search needs
-
-mul-sets : tie.Need-mul-sets
-mul-sets c = search needs
-
-array-write-sets : tie.Need-array-write-sets
-array-write-sets c = search needs
-
-element-copy-out-cut-later : tie.Need-element-copy-out-cut-later
-element-copy-out-cut-later c = search needs
 
 cut-later-requires : tie.Need-cut-later-requires
 unfolding at
@@ -50,9 +18,6 @@ unfolding at
 returns c = λ p gs a.
     let l = c .before .before .before .before .before .before .load in
     descent-dead a (l .last .1 .1 .0) (l .ensures) (c .before .before .before .before .only .ensures) (c .before .cut-later .ensures) (c .if1 .taken)
-
-add-prune-all : tie.Need-add-prune-all
-add-prune-all c = search needs
 
 prune-all-requires : tie.Need-prune-all-requires
 unfolding at
@@ -74,18 +39,5 @@ pub descend-spec : {M : Type 1} → statement M
 descend-spec =
     tie.close
     (tie.spec
-    load-requires
-    mul-t14
-    array-read-t17
-    mul-v
-    element-copy-out-v
-    cast-v
-    only-requires
-    mul-sets
-    array-write-sets
-    element-copy-out-cut-later
-    cut-later-requires
-    returns
-    add-prune-all
-    prune-all-requires
-    returns-2)
+    (λ c κs. search needs) (λ c. search needs) (λ c. search needs) (λ c. search needs) (λ c. search needs) (λ c. search needs) (λ c κs. search needs)
+    (λ c. search needs) (λ c. search needs) (λ c. search needs) cut-later-requires returns (λ c. search needs) prune-all-requires returns-2)

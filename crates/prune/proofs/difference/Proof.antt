@@ -1,9 +1,7 @@
 -- The variables whose sets differ are gathered, one after another. Assumes nothing.
-use Prim.Native.Nat.{_-_, _≤_}
-use borrow.Author.Needs.{needs}
+use Rattle.model.specs.Kit.{_-_, _≤_, needs}
 use Rattle.model.specs.Lists.{at}
-use Rattle.prune.proofs.Copies.{Differing, differing-begin, differing-turn, differing-end}
-use Rattle.prune.proofs.difference.Statement.{statement}
+use Rattle.prune.proofs.{Copies.Differing, Copies.differing-begin, Copies.differing-turn, Copies.differing-end, difference.Statement.statement}
 use Rattle.prune.proofs.difference.Tie as tie
 
 abbrev Inv-loop : tie.InvT-loop
@@ -38,7 +36,11 @@ loop-less c = search needs
 
 loop-again : tie.Need-loop-again Inv-loop μ-loop
 unfolding at
-loop-again c = (search needs, differing-turn (c .before .before .before .before .before .args .old .now) (c .before .before .before .before .before .args .new .now) _ _ _ (c .before .before .before .before .loop .inv .1) (c .moved .ensures))
+loop-again c = (
+  search needs,
+  differing-turn (c .before .before .before .before .before .args .old .now) (c .before .before .before .before .before .args .new .now) _ _ _
+      (c .before .before .before .before .loop .inv .1) (c .moved .ensures),
+)
 
 returns : tie.Need-returns Inv-loop μ-loop
 returns c = differing-end _ _ _ _ (search needs) (c .before .loop .inv .1)
@@ -47,15 +49,4 @@ pub difference-spec : {M : Type 1} → statement M
 difference-spec =
     tie.close
     (tie.spec
-    Inv-loop
-    μ-loop
-    loop-holds
-    mul-t7
-    element-copy-out-t10
-    mul-t12
-    element-copy-out-t15
-    moved-requires
-    add-i
-    loop-less
-    loop-again
-    returns)
+    Inv-loop μ-loop loop-holds mul-t7 element-copy-out-t10 mul-t12 element-copy-out-t15 moved-requires add-i loop-less loop-again returns)

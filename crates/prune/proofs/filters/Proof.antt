@@ -1,24 +1,16 @@
 -- The loop over the symmetries. Assumes nothing.
-use mathlib.Core.Path.{_≡_, refl, sym, _∙_, subst}
-use mathlib.Core.Logic.{⊎-elim}
-use mathlib.Core.List.{List}
-use Prim.Native.Nat.{ℕ, _+_, _*_, _-_, _≤_, _<_}
-use native.Mathlib.Omega.{arith}
-use borrow.Author.Needs.{needs}
-use lib.ListN.{set, take}
-use Rattle.model.specs.Lists.{at}
-use Rattle.model.specs.Problem.{Problem}
-use Rattle.arrays.specs.Places.{MARKS, SYMMETRIES}
-use Rattle.arrays.specs.Pruning.{setsOf}
-use Rattle.prune.specs.Node.{MarksRight}
-use Rattle.prune.specs.Steps.{ArraysHold, PrefixHeld, LiveSets}
+use Rattle.model.specs.Kit.{_≡_, refl, sym, _∙_, subst, ⊎-elim, List, ℕ, _+_, _*_, _-_, _≤_, _<_, arith, needs, set, take}
+use Rattle.model.specs.{Lists.at, Problem.Problem}
+use Rattle.arrays.specs.{inner.Places.MARKS, inner.Places.SYMMETRIES, inner.Pruning.setsOf}
+use Rattle.prune.specs.{inner.Node.MarksRight, inner.Steps.ArraysHold, inner.Steps.PrefixHeld, inner.Steps.LiveSets}
 use Rattle.prune.proofs.FilterLoop.{FilteredSoFar, filtered-begin, filtered-end, filtered-skip, filtered-turn, filtered-dead, levelled, e-few, k-few}
 use Rattle.prune.proofs.filters.Statement.{statement}
 use Rattle.prune.proofs.filters.Tie as tie
 
 abbrev Inv-loop : tie.InvT-loop
 Inv-loop sets₀ work₀ tables numbers k g e₀ sets work e =
-    (g ≡ at numbers SYMMETRIES) × ((p : Problem) (supports : List ℕ) → ArraysHold p supports tables numbers → PrefixHeld p work₀ k → LiveSets p sets₀ → MarksRight p (setsOf p sets₀) (take k work₀) work₀ k → FilteredSoFar p k work₀ sets₀ work sets e)
+    (g ≡ at numbers SYMMETRIES) × ((p : Problem) (supports : List ℕ) → ArraysHold p supports tables numbers → PrefixHeld p work₀ k → LiveSets p sets₀ → MarksRight p (setsOf p sets₀)
+    (take k work₀) work₀ k → FilteredSoFar p k work₀ sets₀ work sets e)
 
 abbrev μ-loop : tie.MeasureT-loop
 μ-loop sets₀ work₀ tables numbers k g e₀ sets work e = g - e
@@ -105,8 +97,11 @@ loop-again c = (
       let r = i .before .loop .inv .1 p su s g l m in
       let Next : List ℕ → List ℕ → Type 0 = λ work sets. FilteredSoFar p (a .k) (a .work .now) (a .sets .now) work sets (i .before .loop .e + 1) in
       ⊎-elim {C = Next (c .if1 .work) (c .if1 .sets)}
-      (λ w. subst (λ (z : List ℕ). Next z (c .if1 .sets)) (sym (w .6)) (subst (λ (z : List ℕ). Next (set (i .before .loop .work) (16 * a .k + MARKS + i .before .loop .e) (w .3 .result)) z) (sym (w .5)) (filtered-turn s g (a .sets .now) (turn i) r (sym (c .before .due .ensures) ∙ w .0 .taken) (w .3 .ensures p (levelled s g (a .sets .now) (turn i) r (sym (c .before .due .ensures) ∙ w .0 .taken))) (w .4 .left))))
-      (λ w. subst (λ (z : List ℕ). Next z (c .if1 .sets)) (sym (w .2)) (subst (λ (z : List ℕ). Next (i .before .loop .work) z) (sym (w .1)) (filtered-skip s g (a .sets .now) (turn i) r (sym (c .before .due .ensures) ∙ w .0 .left))))
+      (λ w. subst (λ (z : List ℕ). Next z (c .if1 .sets)) (sym (w .6)) (subst (λ (z : List ℕ). Next (set (i .before .loop .work) (16 * a .k + MARKS + i .before .loop .e) (w .3 .result)) z)
+      (sym (w .5)) (filtered-turn s g (a .sets .now) (turn i) r (sym (c .before .due .ensures) ∙ w .0 .taken)
+      (w .3 .ensures p (levelled s g (a .sets .now) (turn i) r (sym (c .before .due .ensures) ∙ w .0 .taken))) (w .4 .left))))
+      (λ w. subst (λ (z : List ℕ). Next z (c .if1 .sets)) (sym (w .2)) (subst (λ (z : List ℕ). Next (i .before .loop .work) z) (sym (w .1))
+      (filtered-skip s g (a .sets .now) (turn i) r (sym (c .before .due .ensures) ∙ w .0 .left))))
       (c .if1 .came),
 )
 
@@ -117,24 +112,5 @@ pub filters-spec : {M : Type 1} → statement M
 filters-spec =
     tie.close
     (tie.spec
-    Inv-loop
-    μ-loop
-    element-copy-out-g
-    loop-holds
-    mul-start
-    add-start
-    add-start-2
-    mul-start-2
-    element-copy-out-start
-    due-requires
-    filter-requires
-    returns
-    mul-work
-    add-work
-    add-work-2
-    mul-work-2
-    element-write-work
-    add-e
-    loop-less
-    loop-again
-    returns-2)
+    Inv-loop μ-loop element-copy-out-g loop-holds mul-start add-start add-start-2 mul-start-2 element-copy-out-start due-requires filter-requires returns
+    mul-work add-work add-work-2 mul-work-2 element-write-work add-e loop-less loop-again returns-2)

@@ -1,20 +1,12 @@
 -- The look-ups and the cuts by variable, the constraints that are due then, and the rest from there. Assumes nothing.
-use mathlib.Core.Path.{refl, sym, subst}
-use mathlib.Core.Logic.{⊎-elim}
-use mathlib.Core.List.{List}
-use Prim.Native.Nat.{ℕ, _+_, _-_, _^_, _<_}
-use native.Mathlib.Omega.{arith}
-use lib.Bits.{bitAnd, bitOr}
-use borrow.Author.Needs.{needs}
-use Rattle.model.specs.Lists.{at}
-use Rattle.model.specs.Problem.{Problem}
-use Rattle.arrays.specs.Places.{LINKED, LOOKS}
-use Rattle.prune_constraints.specs.LookUps.{LookUpsPending}
+use Rattle.model.specs.Kit.{refl, sym, subst, ⊎-elim, List, ℕ, _+_, _-_, _^_, _<_, arith, bitAnd, bitOr, needs}
+use Rattle.model.specs.{Lists.at, Problem.Problem}
+use Rattle.arrays.specs.inner.Places.{LINKED, LOOKS}
+use Rattle.prune_constraints.specs.inner.LookUps.{LookUpsPending}
 use Rattle.prune_constraints.proofs.Touching.{touchedOf}
-use Rattle.prune.specs.Steps.{ArraysHold, Blocked, AllConstrained, BeforeFixpoint}
-use Rattle.prune.proofs.Pending.{pruned-none, nothing-due, arcs-pending}
-use Rattle.prune.proofs.Starts.{some-one}
-use Rattle.prune.proofs.FixpointLoop.{constrained-dead, constrained-done, looks-pending, looks-settled, looks-done, cuts-done, bare-end}
+use Rattle.prune.specs.inner.Steps.{ArraysHold, Blocked, AllConstrained, BeforeFixpoint}
+use Rattle.prune.proofs.{Pending.pruned-none, Pending.nothing-due, Pending.arcs-pending, Starts.some-one, FixpointLoop.constrained-dead, FixpointLoop.constrained-done}
+use Rattle.prune.proofs.FixpointLoop.{looks-pending, looks-settled, looks-done, cuts-done, bare-end}
 use Rattle.prune.proofs.fixpoint.Statement.{statement}
 use Rattle.prune.proofs.fixpoint.Tie as tie
 
@@ -25,44 +17,43 @@ wide : (c : tie.Start) → c .args .todo < 2 ^ 64
 wide c = search needs
 
 -- ready for the look-ups
-looks : (c : tie.Start) → let d = c .args in (p : Problem) (gs : List (List ℕ)) → ArraysHold p (d .supports .now) (d .tables .now) (d .numbers .now) → Blocked p gs (d .numbers .now) → BeforeFixpoint p gs (d .work .now) (d .numbers .now) (d .sets .now) (d .k) (d .todo) (d .dirty) →
+looks : (c : tie.Start) → let d = c .args in (p : Problem) (gs : List (List ℕ)) → ArraysHold p (d .supports .now) (d .tables .now) (d .numbers .now) → Blocked p gs (d .numbers .now)
+    → BeforeFixpoint p gs (d .work .now) (d .numbers .now) (d .sets .now) (d .k) (d .todo) (d .dirty) →
     LookUpsPending p (d .numbers .now) (d .supports .now) (d .sets .now) (d .todo) (bitAnd (d .todo) (at (d .numbers .now) (LOOKS + d .k))) (d .v)
 looks c p gs s b n = looks-pending s b n (wide c) (c .pre .5)
 
 -- what is due after the look-ups
-looks-made : (c : tie.Else1) → let d = c .before .before .before .before .args in (p : Problem) (gs : List (List ℕ)) → ArraysHold p (d .supports .now) (d .tables .now) (d .numbers .now) → Blocked p gs (d .numbers .now) → BeforeFixpoint p gs (d .work .now) (d .numbers .now) (d .sets .now) (d .k) (d .todo) (d .dirty) →
-    BeforeFixpoint p gs (d .work .now) (d .numbers .now) (c .before .look-ups .last .0) (d .k) (bitOr (bitAnd (d .todo) ((2 ^ 64 - 1) - bitAnd (d .todo) (at (d .numbers .now) (LOOKS + d .k)))) (touchedOf (d .numbers .now) (c .before .look-ups .result)))
+looks-made : (c : tie.Else1) → let d = c .before .before .before .before .args in (p : Problem) (gs : List (List ℕ)) → ArraysHold p (d .supports .now) (d .tables .now) (d .numbers .now)
+    → Blocked p gs (d .numbers .now) → BeforeFixpoint p gs (d .work .now) (d .numbers .now) (d .sets .now) (d .k) (d .todo) (d .dirty) →
+    BeforeFixpoint p gs (d .work .now) (d .numbers .now) (c .before .look-ups .last .0) (d .k)
+    (bitOr (bitAnd (d .todo) ((2 ^ 64 - 1) - bitAnd (d .todo) (at (d .numbers .now) (LOOKS + d .k)))) (touchedOf (d .numbers .now) (c .before .look-ups .result)))
     (bitOr (d .dirty) (bitAnd (c .before .look-ups .result) (at (d .numbers .now) LINKED)))
 unfolding at
 looks-made c p gs s b n = looks-done s b n (c .before .look-ups .ensures p _ (looks (c .before .before .before .before) p gs s b n)) (c .if1 .left)
 
 -- and after the cuts
-cuts-made : (c : tie.After-touched) → let d = c .before .before .before .before .before .before .before .before .before .args in (p : Problem) (gs : List (List ℕ)) → ArraysHold p (d .supports .now) (d .tables .now) (d .numbers .now) → Blocked p gs (d .numbers .now) → BeforeFixpoint p gs (d .work .now) (d .numbers .now) (d .sets .now) (d .k) (d .todo) (d .dirty) →
-    BeforeFixpoint p gs (d .work .now) (d .numbers .now) (c .before .before .arcs .last .0) (d .k) (bitOr (bitAnd (d .todo) ((2 ^ 64 - 1) - bitAnd (d .todo) (at (d .numbers .now) (LOOKS + d .k)))) (c .touched .result)) 0
+cuts-made : (c : tie.After-touched) → let d = c .before .before .before .before .before .before .before .before .before .args in (p : Problem) (gs : List (List ℕ)) → ArraysHold p
+    (d .supports .now) (d .tables .now) (d .numbers .now) → Blocked p gs (d .numbers .now) → BeforeFixpoint p gs (d .work .now) (d .numbers .now) (d .sets .now) (d .k) (d .todo) (d .dirty) →
+    BeforeFixpoint p gs (d .work .now) (d .numbers .now) (c .before .before .arcs .last .0) (d .k)
+    (bitOr (bitAnd (d .todo) ((2 ^ 64 - 1) - bitAnd (d .todo) (at (d .numbers .now) (LOOKS + d .k)))) (c .touched .result)) 0
 unfolding at
 cuts-made c p gs s b n =
     let d = c .before .before .before .before .before .before .before .before .before in
     let m = looks-made (c .before .before .before .before .before) p gs s b n in
-    cuts-done s b n (wide d) (c .before .before .before .before .before .before .look-ups .ensures p _ (looks d p gs s b n)) (c .before .before .before .before .before .if1 .left) (c .before .before .arcs .ensures p (arcs-pending s (m .startable .pending))) (c .before .if2 .left) (search needs) (c .touched .ensures)
+    cuts-done s b n (wide d) (c .before .before .before .before .before .before .look-ups .ensures p _ (looks d p gs s b n)) (c .before .before .before .before .before .if1 .left)
+    (c .before .before .arcs .ensures p (arcs-pending s (m .startable .pending))) (c .before .if2 .left) (search needs) (c .touched .ensures)
 
 -- and where the sets rest
-rested : (c : tie.Joined3) → let d = c .before .before .before .before .before .before .before .before .before .before .args in (p : Problem) (gs : List (List ℕ)) → ArraysHold p (d .supports .now) (d .tables .now) (d .numbers .now) → Blocked p gs (d .numbers .now) → BeforeFixpoint p gs (d .work .now) (d .numbers .now) (d .sets .now) (d .k) (d .todo) (d .dirty) →
+rested : (c : tie.Joined3) → let d = c .before .before .before .before .before .before .before .before .before .before .args in (p : Problem) (gs : List (List ℕ)) → ArraysHold p (d .supports .now)
+    (d .tables .now) (d .numbers .now) → Blocked p gs (d .numbers .now) → BeforeFixpoint p gs (d .work .now) (d .numbers .now) (d .sets .now) (d .k) (d .todo) (d .dirty) →
     BeforeFixpoint p gs (d .work .now) (d .numbers .now) (c .if3 .sets) (d .k) 0 0
 unfolding at
 rested c p gs s b n =
     let m = cuts-made (c .before) p gs s b n in
     constrained-done s b m
-    (⊎-elim {C = AllConstrained p (c .before .before .before .arcs .last .0) (c .if3 .sets)} (λ w. subst (AllConstrained p _) (sym (w .4)) (w .2 .ensures p s (m .startable .pending) .all-constrained (w .3 .left)))
+    (⊎-elim {C = AllConstrained p (c .before .before .before .arcs .last .0) (c .if3 .sets)}
+    (λ w. subst (AllConstrained p _) (sym (w .4)) (w .2 .ensures p s (m .startable .pending) .all-constrained (w .3 .left)))
     (λ w. subst (AllConstrained p _) (sym (w .1)) (nothing-due s (pruned-none p _) (m .startable .pending) (w .0 .left) refl)) (c .if3 .came))
-
-add-looks : tie.Need-add-looks
-add-looks c = search needs
-
-mul-looks : tie.Need-mul-looks
-mul-looks c = search needs
-
-element-copy-out-looks : tie.Need-element-copy-out-looks
-element-copy-out-looks c = search needs
 
 look-ups-requires : tie.Need-look-ups-requires
 unfolding at
@@ -72,25 +63,21 @@ returns : tie.Need-returns
 unfolding at
 returns c = λ p gs s b n. constrained-dead s b n _ (c .before .look-ups .ensures p _ (looks (c .before .before .before .before) p gs s b n) .ended (c .if1 .taken))
 
-element-copy-out-moved : tie.Need-element-copy-out-moved
-element-copy-out-moved c = search needs
-
 sub-arcs : tie.Need-sub-arcs
 sub-arcs c = c .before .before .before .before .before .before .pre .5 .some
 
 arcs-requires : tie.Need-arcs-requires
 unfolding at
 arcs-requires c κs = let q = c .before .before .before .before .before .before .pre in (
-  looks-settled (q .2) (q .3) (q .4) (q .5) (c .before .before .before .look-ups .ensures (q .0) _ (looks (c .before .before .before .before .before .before) (q .0) (q .1) (q .2) (q .3) (q .4))) (c .before .before .if1 .left),
+  looks-settled (q .2) (q .3) (q .4) (q .5) (c .before .before .before .look-ups .ensures (q .0) _ (looks (c .before .before .before .before .before .before) (q .0) (q .1) (q .2) (q .3) (q .4)))
+      (c .before .before .if1 .left),
   (q .0, arcs-pending (q .2) (looks-made (c .before .before) (q .0) (q .1) (q .2) (q .3) (q .4) .startable .pending)),
 )
 
 returns-2 : tie.Need-returns-2
 unfolding at
-returns-2 c = λ p gs s b n. let m = looks-made (c .before .before .before .before) p gs s b n in constrained-dead s b m _ (c .before .arcs .ensures p (arcs-pending s (m .startable .pending)) .ended (c .if2 .taken))
-
-touched-requires : tie.Need-touched-requires
-touched-requires c κs = search needs
+returns-2 c = λ p gs s b n. let m = looks-made (c .before .before .before .before) p gs s b n in constrained-dead s b m _
+    (c .before .arcs .ensures p (arcs-pending s (m .startable .pending)) .ended (c .if2 .taken))
 
 shl-constrain : tie.Need-shl-constrain
 shl-constrain c = few (c .before .before .before .before .before .before .before .before .before .before .before)
@@ -100,14 +87,13 @@ sub-constrain c = some-one _ (few (c .before .before .before .before .before .be
 
 constrain-requires : tie.Need-constrain-requires
 unfolding at
-constrain-requires c κs = let q = c .before .before .before .before .before .before .before .before .before .before .before .pre in (q .0, q .2, cuts-made (c .before .before) (q .0) (q .1) (q .2) (q .3) (q .4) .startable .pending)
+constrain-requires c κs = let q = c .before .before .before .before .before .before .before .before .before .before .before .pre in
+    (q .0, q .2, cuts-made (c .before .before) (q .0) (q .1) (q .2) (q .3) (q .4) .startable .pending)
 
 returns-3 : tie.Need-returns-3
 unfolding at
-returns-3 c = λ p gs s b n. let m = cuts-made (c .before .before .before .before) p gs s b n in constrained-dead s b m _ (c .before .constrain .ensures p s (m .startable .pending) .ended (c .if4 .taken))
-
-element-copy-out-if5 : tie.Need-element-copy-out-if5
-element-copy-out-if5 c = search needs
+returns-3 c = λ p gs s b n. let m = cuts-made (c .before .before .before .before) p gs s b n in constrained-dead s b m _
+    (c .before .constrain .ensures p s (m .startable .pending) .ended (c .if4 .taken))
 
 returns-4 : tie.Need-returns-4
 unfolding at
@@ -115,7 +101,9 @@ returns-4 c = λ p gs s b n. bare-end s b (rested (c .before .before) p gs s b n
 
 alternate-requires : tie.Need-alternate-requires
 unfolding at
-alternate-requires c κs = let q = c .before .before .before .before .before .before .before .before .before .before .before .before .before .before .pre in (q .0, q .1, q .2, q .3, rested (c .before .before .before .before) (q .0) (q .1) (q .2) (q .3) (q .4))
+alternate-requires c κs =
+    let c10 = c .before .before .before .before .before .before .before .before .before .before in
+    let q = c10 .before .before .before .before .pre in (q .0, q .1, q .2, q .3, rested (c .before .before .before .before) (q .0) (q .1) (q .2) (q .3) (q .4))
 
 returns-5 : tie.Need-returns-5
 unfolding at
@@ -125,21 +113,5 @@ pub fixpoint-spec : {M : Type 1} → statement M
 fixpoint-spec =
     tie.close
     (tie.spec
-    add-looks
-    mul-looks
-    element-copy-out-looks
-    look-ups-requires
-    returns
-    element-copy-out-moved
-    sub-arcs
-    arcs-requires
-    returns-2
-    touched-requires
-    shl-constrain
-    sub-constrain
-    constrain-requires
-    returns-3
-    element-copy-out-if5
-    returns-4
-    alternate-requires
-    returns-5)
+    (λ c. search needs) (λ c. search needs) (λ c. search needs) look-ups-requires returns (λ c. search needs) sub-arcs arcs-requires returns-2
+    (λ c κs. search needs) shl-constrain sub-constrain constrain-requires returns-3 (λ c. search needs) returns-4 alternate-requires returns-5)

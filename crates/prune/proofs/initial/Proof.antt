@@ -1,11 +1,8 @@
 -- Sixteen initial sets are read, one after another. Assumes nothing.
-use Prim.Native.Nat.{_+_, _-_, _%_, _≤_}
-use native.Mathlib.Omega.{arith}
-use borrow.Author.Needs.{needs}
+use Rattle.model.specs.Kit.{_+_, _-_, _%_, _≤_, arith, needs}
 use Rattle.model.specs.Lists.{at}
-use Rattle.arrays.specs.Places.{INITIAL}
-use Rattle.prune.proofs.Copies.{Filled, filled-begin, filled-turn, from-start}
-use Rattle.prune.proofs.initial.Statement.{statement}
+use Rattle.arrays.specs.inner.Places.{INITIAL}
+use Rattle.prune.proofs.{Copies.Filled, Copies.filled-begin, Copies.filled-turn, Copies.from-start, initial.Statement.statement}
 use Rattle.prune.proofs.initial.Tie as tie
 
 abbrev Inv-loop : tie.InvT-loop
@@ -52,16 +49,4 @@ pub initial-spec : {M : Type 1} → statement M
 initial-spec =
     tie.close
     (tie.spec
-    Inv-loop
-    μ-loop
-    loop-holds
-    add-sets
-    mul-sets
-    element-copy-out-sets
-    cast-sets
-    mul-sets-2
-    element-write-sets
-    add-i
-    loop-less
-    loop-again
-    returns)
+    Inv-loop μ-loop loop-holds add-sets mul-sets element-copy-out-sets cast-sets mul-sets-2 element-write-sets add-i loop-less loop-again returns)

@@ -1,10 +1,7 @@
 -- Sixteen sets are read from a depth of the stack, one after another. Assumes nothing.
-use Prim.Native.Nat.{_+_, _*_, _-_, _≤_}
-use native.Mathlib.Omega.{arith}
-use borrow.Author.Needs.{needs}
+use Rattle.model.specs.Kit.{_+_, _*_, _-_, _≤_, arith, needs}
 use Rattle.model.specs.Lists.{at}
-use Rattle.prune.proofs.Copies.{Filled, filled-begin, filled-turn, from-start}
-use Rattle.prune.proofs.load.Statement.{statement}
+use Rattle.prune.proofs.{Copies.Filled, Copies.filled-begin, Copies.filled-turn, Copies.from-start, load.Statement.statement}
 use Rattle.prune.proofs.load.Tie as tie
 
 abbrev Inv-loop : tie.InvT-loop
@@ -51,16 +48,4 @@ pub load-spec : {M : Type 1} → statement M
 load-spec =
     tie.close
     (tie.spec
-    Inv-loop
-    μ-loop
-    loop-holds
-    mul-sets
-    add-sets
-    mul-sets-2
-    element-copy-out-sets
-    mul-sets-3
-    element-write-sets
-    add-i
-    loop-less
-    loop-again
-    returns)
+    Inv-loop μ-loop loop-holds mul-sets add-sets mul-sets-2 element-copy-out-sets mul-sets-3 element-write-sets add-i loop-less loop-again returns)

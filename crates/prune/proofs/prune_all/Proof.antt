@@ -1,17 +1,10 @@
 -- All constraints are due, and then every filter from its first level on. Assumes nothing.
-use mathlib.Core.Path.{refl}
-use mathlib.Core.List.{List}
-use Prim.Native.Nat.{ℕ}
-use native.Mathlib.Omega.{arith}
-use borrow.Author.Needs.{needs}
-use Rattle.model.specs.Lists.{at}
-use Rattle.model.specs.Problem.{Problem}
-use Rattle.arrays.specs.Places.{LINKED}
-use Rattle.prune.specs.Node.{Ready}
-use Rattle.prune.specs.Steps.{BeforeFixpoint, Unpruned}
-use Rattle.prune.proofs.FixpointLoop.{constrained-dead, constrained-done}
-use Rattle.prune.proofs.Starts.{some-few, some-one, arrays-hold, blocked, unpruned-few, unpruned-start, unpruned-dead, unpruned-live}
-use Rattle.prune.proofs.prune_all.Statement.{statement}
+use Rattle.model.specs.Kit.{refl, List, ℕ, arith, needs}
+use Rattle.model.specs.{Lists.at, Problem.Problem}
+use Rattle.arrays.specs.inner.Places.{LINKED}
+use Rattle.prune.specs.{inner.Node.Ready, inner.Steps.BeforeFixpoint, inner.Steps.Unpruned}
+use Rattle.prune.proofs.{FixpointLoop.constrained-dead, FixpointLoop.constrained-done, Starts.some-few, Starts.some-one, Starts.arrays-hold, Starts.blocked}
+use Rattle.prune.proofs.{Starts.unpruned-few, Starts.unpruned-start, Starts.unpruned-dead, Starts.unpruned-live, prune_all.Statement.statement}
 use Rattle.prune.proofs.prune_all.Tie as tie
 
 -- all is due
@@ -30,12 +23,6 @@ rested c p gs r n =
     let b = started (c .before .before .before .before) p gs r n in
     constrained-done (arrays-hold r) (blocked r) b (c .before .constrain .ensures p (arrays-hold r) (b .startable .pending) .all-constrained (c .if1 .left))
 
-clear-marks-requires : tie.Need-clear-marks-requires
-clear-marks-requires c κs = search needs
-
-element-copy-out-touched : tie.Need-element-copy-out-touched
-element-copy-out-touched c = search needs
-
 shl-touched : tie.Need-shl-touched
 unfolding at
 shl-touched c = some-few (c .before .before .before .pre .2)
@@ -43,15 +30,6 @@ shl-touched c = some-few (c .before .before .before .pre .2)
 sub-touched : tie.Need-sub-touched
 unfolding at
 sub-touched c = some-one _ (some-few (c .before .before .before .pre .2))
-
-touched-requires : tie.Need-touched-requires
-touched-requires c κs = search needs
-
-element-copy-out-linked : tie.Need-element-copy-out-linked
-element-copy-out-linked c = search needs
-
-shl-settled : tie.Need-shl-settled
-shl-settled c = search needs
 
 sub-settled : tie.Need-sub-settled
 unfolding at
@@ -81,9 +59,6 @@ returns-2 c = λ p gs r n.
     unpruned-dead r n _ refl _ (e .before .before .before .before .touched .ensures) _ (e .before .before .before .before .before .before .clear-marks .ensures) _ _ _
     (c .before .alternate .ensures p gs (arrays-hold r) (blocked r) (rested e p gs r n)) (c .if2 .taken)
 
-store-requires : tie.Need-store-requires
-store-requires c κs = search needs
-
 returns-3 : tie.Need-returns-3
 unfolding at
 returns-3 c = λ p gs r n.
@@ -95,17 +70,5 @@ pub prune-all-spec : {M : Type 1} → statement M
 prune-all-spec =
     tie.close
     (tie.spec
-    clear-marks-requires
-    element-copy-out-touched
-    shl-touched
-    sub-touched
-    touched-requires
-    element-copy-out-linked
-    shl-settled
-    sub-settled
-    constrain-requires
-    returns
-    alternate-requires
-    returns-2
-    store-requires
-    returns-3)
+    (λ c κs. search needs) (λ c. search needs) shl-touched sub-touched (λ c κs. search needs) (λ c. search needs) (λ c. search needs) sub-settled
+    constrain-requires returns alternate-requires returns-2 (λ c κs. search needs) returns-3)

@@ -1,12 +1,8 @@
 -- The initial sets are on the way to those of the empty prefix. Assumes nothing.
-use borrow.Author.Needs.{needs}
+use Rattle.model.specs.Kit.{needs}
 use Rattle.model.specs.Lists.{at}
-use Rattle.prune.proofs.Starts.{root-unpruned}
-use Rattle.prune.proofs.root.Statement.{statement}
+use Rattle.prune.proofs.{Starts.root-unpruned, root.Statement.statement}
 use Rattle.prune.proofs.root.Tie as tie
-
-initial-requires : tie.Need-initial-requires
-initial-requires c κs = search needs
 
 prune-all-requires : tie.Need-prune-all-requires
 unfolding at
@@ -17,4 +13,4 @@ unfolding at
 returns c = λ p gs r. let i = c .before .before .before .before .initial .ensures in c .prune-all .ensures p gs r (root-unpruned r _ (i .0) (i .1))
 
 pub root-spec : {M : Type 1} → statement M
-root-spec = tie.close (tie.spec initial-requires prune-all-requires returns)
+root-spec = tie.close (tie.spec (λ c κs. search needs) prune-all-requires returns)

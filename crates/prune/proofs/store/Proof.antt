@@ -1,11 +1,7 @@
 -- Sixteen sets are stored at a depth of the stack, one after another. Assumes nothing.
-use mathlib.Core.Path.{refl}
-use Prim.Native.Nat.{_*_, _-_, _≤_}
-use native.Mathlib.Omega.{arith}
-use borrow.Author.Needs.{needs}
+use Rattle.model.specs.Kit.{refl, _*_, _-_, _≤_, arith, needs}
 use Rattle.model.specs.Lists.{at}
-use Rattle.prune.proofs.Copies.{Filled, filled-begin, filled-turn, stored}
-use Rattle.prune.proofs.store.Statement.{statement}
+use Rattle.prune.proofs.{Copies.Filled, Copies.filled-begin, Copies.filled-turn, Copies.stored, store.Statement.statement}
 use Rattle.prune.proofs.store.Tie as tie
 
 abbrev Inv-loop : tie.InvT-loop
@@ -52,16 +48,4 @@ pub store-spec : {M : Type 1} → statement M
 store-spec =
     tie.close
     (tie.spec
-    Inv-loop
-    μ-loop
-    loop-holds
-    mul-stack
-    element-copy-out-stack
-    mul-stack-2
-    add-stack
-    mul-stack-3
-    element-write-stack
-    add-i
-    loop-less
-    loop-again
-    returns)
+    Inv-loop μ-loop loop-holds mul-stack element-copy-out-stack mul-stack-2 add-stack mul-stack-3 element-write-stack add-i loop-less loop-again returns)

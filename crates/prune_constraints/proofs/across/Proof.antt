@@ -1,30 +1,26 @@
 -- The first two sets each along the lanes by its variable, the third along those by the second. Assumes nothing.
-use mathlib.Core.Path.{refl, subst}
-use mathlib.Core.List.{List}
-use Prim.Native.Nat.{ℕ, _<_}
-use native.Mathlib.Omega.{arith}
-use borrow.Author.Needs.{needs}
+use Rattle.model.specs.Kit.{refl, subst, List, ℕ, _<_, arith, needs}
 use Rattle.model.specs.Lists.{at}
-use Rattle.arrays.specs.Tables.{Words}
-use Rattle.prune_constraints.specs.Lanes.{LaneUnion, InLanes}
-use Rattle.prune_constraints.proofs.Scopes.{of-three}
-use Rattle.prune_constraints.proofs.Unions.{of-first, of-second, union-both}
-use Rattle.prune_constraints.proofs.Stores.{three-same}
-use Rattle.prune_constraints.proofs.across.Statement.{statement}
+use Rattle.arrays.specs.inner.Tables.{Words}
+use Rattle.prune_constraints.specs.inner.Lanes.{LaneUnion, InLanes}
+use Rattle.prune_constraints.proofs.{Scopes.of-three, Unions.of-first, Unions.of-second, Unions.union-both, Stores.three-same, across.Statement.statement}
 use Rattle.prune_constraints.proofs.across.Tie as tie
 
 inside : (c : tie.Start) → (c .args .x < 16) × (c .args .y < 16) × (c .args .z < 16)
 inside c = of-three refl (c .pre .1 .0 .4 .inside)
 
 -- the lanes by the first variable
-first-lanes : (c : tie.After-in-lanes) → let d = c .before .before .before .before .args in (su : List ℕ) → Words (d .numbers .now) su → InLanes (at (d .sets .now) (d .y)) (at (d .sets .now) (d .x)) (at (d .sets .now) (d .z)) (of-second su (d .k)) (c .in-lanes .result)
+first-lanes : (c : tie.After-in-lanes) → let d = c .before .before .before .before .args in (su : List ℕ) → Words (d .numbers .now) su → InLanes (at (d .sets .now) (d .y))
+    (at (d .sets .now) (d .x)) (at (d .sets .now) (d .z)) (of-second su (d .k)) (c .in-lanes .result)
 unfolding at
 first-lanes c su w = let d = c .before .before .before .before in c .in-lanes .ensures (of-second su (d .args .k)) (λ h m. w .by-second (d .args .k) h m (d .pre .1 .0 .4 .room) (d .pre .1 .0 .2))
 
 -- those by the second
-second-lanes : (c : tie.After-in-lanes2) → let d = c .before .before .before .before .before .args in (su : List ℕ) → Words (d .numbers .now) su → InLanes (at (d .sets .now) (d .x)) (at (d .sets .now) (d .y)) (at (d .sets .now) (d .z)) (of-first su (d .k)) (c .in-lanes2 .result)
+second-lanes : (c : tie.After-in-lanes2) → let d = c .before .before .before .before .before .args in (su : List ℕ) → Words (d .numbers .now) su → InLanes (at (d .sets .now) (d .x))
+    (at (d .sets .now) (d .y)) (at (d .sets .now) (d .z)) (of-first su (d .k)) (c .in-lanes2 .result)
 unfolding at
-second-lanes c su w = let d = c .before .before .before .before .before in c .in-lanes2 .ensures (of-first su (d .args .k)) (λ h m. w .by-first (d .args .k) h m (d .pre .1 .0 .4 .room) (d .pre .1 .0 .2))
+second-lanes c su w = let d = c .before .before .before .before .before in c .in-lanes2 .ensures (of-first su (d .args .k))
+    (λ h m. w .by-first (d .args .k) h m (d .pre .1 .0 .4 .room) (d .pre .1 .0 .2))
 
 mul-t14 : tie.Need-mul-t14
 mul-t14 c = omega (arith, inside c)
@@ -44,31 +40,13 @@ mul-t14-3 c = omega (arith, inside (c .before .before))
 element-copy-out-t17-3 : tie.Need-element-copy-out-t17-3
 element-copy-out-t17-3 c = inside (c .before .before) .2
 
-mul-in-lanes : tie.Need-mul-in-lanes
-mul-in-lanes c = search needs
-
-add-in-lanes : tie.Need-add-in-lanes
-add-in-lanes c = search needs
-
-add-in-lanes-2 : tie.Need-add-in-lanes-2
-add-in-lanes-2 c = search needs
-
 in-lanes-requires : tie.Need-in-lanes-requires
 unfolding at
 in-lanes-requires c κs = let d = c .before .before .before in let h = d .pre .1 .1 .1 in (omega (arith, d .pre .1 .0 .4 .room), ((h .1, h .0, h .2), (_, d .pre .1 .0 .1)))
 
-mul-in-lanes-2 : tie.Need-mul-in-lanes-2
-mul-in-lanes-2 c = search needs
-
-add-in-lanes-3 : tie.Need-add-in-lanes-3
-add-in-lanes-3 c = search needs
-
 in-lanes-requires-2 : tie.Need-in-lanes-requires-2
 unfolding at
 in-lanes-requires-2 c κs = let d = c .before .before .before .before in (omega (arith, d .pre .1 .0 .4 .room), (d .pre .1 .1 .1, (_, d .pre .1 .0 .1)))
-
-union-of-requires : tie.Need-union-of-requires
-union-of-requires c κs = search needs
 
 fills-requires : tie.Need-fills-requires
 unfolding at
@@ -84,13 +62,10 @@ returns c =
     let o = c .before .before .before .before .before .before .before in
     let d = o .before .before .before .before .before .before in
     let h = d .pre .1 .1 .1 in λ e su w q.
-    three-same q _ (d .pre .0) _ _ _ (d .pre .0 .1 _) (d .pre .0 .1 _) (d .pre .0 .1 _) (union-both su _ _ _ _ (h .1) (h .2) (second-lanes (o .before) su w) (c .before .before .before .before .fills2 .ensures (c .before .before .before .if2 .taken)) (subst (LaneUnion _) (c .if3 .taken) (o .union-of .ensures)) (h .0) (first-lanes (o .before .before) su w) (c .before .before .before .before .before .before .fills .ensures (c .before .before .before .before .before .if1 .taken))) refl refl refl (d .pre .1 .1 .0)
-
-full-lanes-requires : tie.Need-full-lanes-requires
-full-lanes-requires c κs = search needs
-
-full-lanes-requires-2 : tie.Need-full-lanes-requires-2
-full-lanes-requires-2 c κs = search needs
+    three-same q _ (d .pre .0) _ _ _ (d .pre .0 .1 _) (d .pre .0 .1 _) (d .pre .0 .1 _) (union-both su _ _ _ _ (h .1) (h .2) (second-lanes (o .before) su w)
+    (c .before .before .before .before .fills2 .ensures (c .before .before .before .if2 .taken)) (subst (LaneUnion _) (c .if3 .taken) (o .union-of .ensures)) (h .0)
+    (first-lanes (o .before .before) su w) (c .before .before .before .before .before .before .fills .ensures (c .before .before .before .before .before .if1 .taken))) refl refl refl
+    (d .pre .1 .1 .0)
 
 leave-requires : tie.Need-leave-requires
 unfolding at
@@ -102,30 +77,13 @@ returns-2 c =
     let o = c .before .before .before .before .before .before in
     let d = o .before .before .before .before .before .before in
     let h = d .pre .1 .1 .1 in λ e su w q.
-    c .leave .ensures _ _ _ q (union-both su _ _ _ _ (h .1) (h .2) (second-lanes (o .before) su w) (c .before .before .full-lanes2 .ensures) (o .union-of .ensures) (h .0) (first-lanes (o .before .before) su w) (c .before .before .before .full-lanes .ensures))
+    c .leave .ensures _ _ _ q (union-both su _ _ _ _ (h .1) (h .2) (second-lanes (o .before) su w) (c .before .before .full-lanes2 .ensures) (o .union-of .ensures) (h .0)
+    (first-lanes (o .before .before) su w) (c .before .before .before .full-lanes .ensures))
 
 pub across-spec : {M : Type 1} → statement M
 across-spec =
     tie.close
     (tie.spec
-    mul-t14
-    element-copy-out-t17
-    mul-t14-2
-    element-copy-out-t17-2
-    mul-t14-3
-    element-copy-out-t17-3
-    mul-in-lanes
-    add-in-lanes
-    add-in-lanes-2
-    in-lanes-requires
-    mul-in-lanes-2
-    add-in-lanes-3
-    in-lanes-requires-2
-    union-of-requires
-    fills-requires
-    fills-requires-2
-    returns
-    full-lanes-requires
-    full-lanes-requires-2
-    leave-requires
-    returns-2)
+    mul-t14 element-copy-out-t17 mul-t14-2 element-copy-out-t17-2 mul-t14-3 element-copy-out-t17-3 (λ c. search needs) (λ c. search needs) (λ c. search needs)
+    in-lanes-requires (λ c. search needs) (λ c. search needs) in-lanes-requires-2 (λ c κs. search needs) fills-requires fills-requires-2 returns
+    (λ c κs. search needs) (λ c κs. search needs) leave-requires returns-2)

@@ -1,23 +1,17 @@
 -- Both ways along the lanes by the second variable. Assumes nothing.
-use mathlib.Core.Path.{refl}
-use mathlib.Core.List.{List}
-use Prim.Native.Nat.{ℕ, _<_}
-use native.Mathlib.Omega.{arith}
-use borrow.Author.Needs.{needs}
+use Rattle.model.specs.Kit.{refl, List, ℕ, _<_, arith, needs}
 use Rattle.model.specs.Lists.{at}
-use Rattle.arrays.specs.Tables.{Words}
-use Rattle.prune_constraints.specs.Lanes.{InLanes}
-use Rattle.prune_constraints.proofs.Scopes.{of-three}
-use Rattle.prune_constraints.proofs.Unions.{of-first}
-use Rattle.prune_constraints.proofs.OneWord.{along-dead, along-same, along-cut}
-use Rattle.prune_constraints.proofs.along.Statement.{statement}
+use Rattle.arrays.specs.inner.Tables.{Words}
+use Rattle.prune_constraints.specs.inner.Lanes.{InLanes}
+use Rattle.prune_constraints.proofs.{Scopes.of-three, Unions.of-first, OneWord.along-dead, OneWord.along-same, OneWord.along-cut, along.Statement.statement}
 use Rattle.prune_constraints.proofs.along.Tie as tie
 
 inside : (c : tie.Start) → (c .args .x < 16) × (c .args .y < 16) × (c .args .z < 16)
 inside c = of-three refl (c .pre .1 .0 .4 .inside)
 
 -- the lanes
-lanes : (c : tie.After-in-lanes) → let d = c .before .before .before .before .args in (su : List ℕ) → Words (d .numbers .now) su → InLanes (at (d .sets .now) (d .x)) (at (d .sets .now) (d .y)) (at (d .sets .now) (d .z)) (of-first su (d .k)) (c .in-lanes .result)
+lanes : (c : tie.After-in-lanes) → let d = c .before .before .before .before .args in (su : List ℕ) → Words (d .numbers .now) su → InLanes (at (d .sets .now) (d .x)) (at (d .sets .now) (d .y))
+    (at (d .sets .now) (d .z)) (of-first su (d .k)) (c .in-lanes .result)
 unfolding at
 lanes c su w = let d = c .before .before .before .before in c .in-lanes .ensures (of-first su (d .args .k)) (λ h m. w .by-first (d .args .k) h m (d .pre .1 .0 .4 .room) (d .pre .1 .0 .2))
 
@@ -39,12 +33,6 @@ mul-t13-3 c = omega (arith, inside (c .before .before))
 element-copy-out-t16-3 : tie.Need-element-copy-out-t16-3
 element-copy-out-t16-3 c = inside (c .before .before) .2
 
-mul-in-lanes : tie.Need-mul-in-lanes
-mul-in-lanes c = search needs
-
-add-in-lanes : tie.Need-add-in-lanes
-add-in-lanes c = search needs
-
 in-lanes-requires : tie.Need-in-lanes-requires
 unfolding at
 in-lanes-requires c κs = let d = c .before .before .before in (omega (arith, d .pre .1 .0 .4 .room), (d .pre .1 .1 .1, (_, d .pre .1 .0 .1)))
@@ -52,9 +40,6 @@ in-lanes-requires c κs = let d = c .before .before .before in (omega (arith, d 
 returns : tie.Need-returns
 unfolding at
 returns c = let d = c .before .before .before .before .before in λ e su w q. along-dead q (d .args .sets .now) (d .pre .0) (d .pre .1 .1 .0) (d .pre .1 .1 .1) (lanes (c .before) su w) (c .if1 .taken)
-
-union-of-requires : tie.Need-union-of-requires
-union-of-requires c κs = search needs
 
 fills-requires : tie.Need-fills-requires
 unfolding at
@@ -65,10 +50,8 @@ unfolding at
 returns-2 c =
     let i = c .before .before .before .before .before in
     let d = i .before .before .before .before .before .before in λ e su w q.
-    along-same q (d .args .sets .now) (d .pre .0) (d .pre .1 .1 .0) (d .pre .1 .1 .1) (lanes (i .before .before) su w) (search needs) (i .before .if1 .left) (i .union-of .ensures) (c .before .before .if2 .taken) (c .before .fills .ensures (c .if3 .taken))
-
-full-lanes-requires : tie.Need-full-lanes-requires
-full-lanes-requires c κs = search needs
+    along-same q (d .args .sets .now) (d .pre .0) (d .pre .1 .1 .0) (d .pre .1 .1 .1) (lanes (i .before .before) su w) (search needs) (i .before .if1 .left) (i .union-of .ensures)
+    (c .before .before .if2 .taken) (c .before .fills .ensures (c .if3 .taken))
 
 mul-sets : tie.Need-mul-sets
 mul-sets c = omega (arith, inside (c .before .before .before .before .before .before .before .before .before .before))
@@ -93,30 +76,13 @@ unfolding at
 returns-3 c =
     let i = c .before .before .before .before .before .before in
     let d = i .before .before .before .before .before .before in λ e su w q.
-    along-cut q (d .args .sets .now) (d .pre .0) (d .pre .1 .1 .0) (d .pre .1 .1 .1) (lanes (i .before .before) su w) (search needs) (i .before .if1 .left) (i .union-of .ensures) _ _ _ (search needs) (search needs) (c .before .before .full-lanes .ensures) (c .before .moved .ensures) (c .moved2 .ensures)
+    along-cut q (d .args .sets .now) (d .pre .0) (d .pre .1 .1 .0) (d .pre .1 .1 .1) (lanes (i .before .before) su w) (search needs) (i .before .if1 .left) (i .union-of .ensures) _ _ _
+    (search needs) (search needs) (c .before .before .full-lanes .ensures) (c .before .moved .ensures) (c .moved2 .ensures)
 
 pub along-spec : {M : Type 1} → statement M
 along-spec =
     tie.close
     (tie.spec
-    mul-t13
-    element-copy-out-t16
-    mul-t13-2
-    element-copy-out-t16-2
-    mul-t13-3
-    element-copy-out-t16-3
-    mul-in-lanes
-    add-in-lanes
-    in-lanes-requires
-    returns
-    union-of-requires
-    fills-requires
-    returns-2
-    full-lanes-requires
-    mul-sets
-    element-write-sets
-    mul-sets-2
-    element-write-sets-2
-    moved-requires
-    moved-requires-2
-    returns-3)
+    mul-t13 element-copy-out-t16 mul-t13-2 element-copy-out-t16-2 mul-t13-3 element-copy-out-t16-3 (λ c. search needs) (λ c. search needs) in-lanes-requires
+    returns (λ c κs. search needs) fills-requires returns-2 (λ c κs. search needs) mul-sets element-write-sets mul-sets-2 element-write-sets-2 moved-requires
+    moved-requires-2 returns-3)

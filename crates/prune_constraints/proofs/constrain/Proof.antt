@@ -1,11 +1,8 @@
 -- By the number of values. Assumes nothing.
-use borrow.Author.Needs.{needs}
+use Rattle.model.specs.Kit.{needs}
 use Rattle.model.specs.Lists.{at}
 use Rattle.prune_constraints.proofs.constrain.Statement.{statement}
 use Rattle.prune_constraints.proofs.constrain.Tie as tie
-
-element-copy-out-if1 : tie.Need-element-copy-out-if1
-element-copy-out-if1 c = search needs
 
 constrain8-requires : tie.Need-constrain8-requires
 unfolding at
@@ -14,11 +11,11 @@ constrain8-requires c κs = search needs
 returns : tie.Need-returns
 returns c = search needs
 
-constrain16-requires : tie.Need-constrain16-requires
-constrain16-requires c κs = search needs
-
 returns-2 : tie.Need-returns-2
 returns-2 c = search needs
 
 pub constrain-spec : {M : Type 1} → statement M
-constrain-spec = tie.close (tie.spec element-copy-out-if1 constrain8-requires returns constrain16-requires returns-2)
+constrain-spec =
+    tie.close
+    (tie.spec
+    (λ c. search needs) constrain8-requires returns (λ c κs. search needs) returns-2)

@@ -1,10 +1,7 @@
 -- The loop: only the constraints left of this round, and those of the next, may take something. Assumes nothing.
-use mathlib.Core.Logic.{⊎-elim, inr}
-use Prim.Native.Nat.{_<_}
-use native.Mathlib.Omega.{arith}
-use borrow.Author.Needs.{needs}
-use lib.Count.{trailingZeros}
-use Rattle.prune_constraints.proofs.ConstrainLoop.{Chosen, all-due, chosen-some, SoFar, measure, constrained-begin, constrained-end, k-lt, k-few, k-full, constrained-dead, constrained-more, more-less, constrained-same, same-less}
+use Rattle.model.specs.Kit.{⊎-elim, inr, _<_, arith, needs, trailingZeros}
+use Rattle.prune_constraints.proofs.ConstrainLoop.{Chosen, all-due, chosen-some, SoFar, measure, constrained-begin, constrained-end, k-lt, k-few, k-full, constrained-dead}
+use Rattle.prune_constraints.proofs.ConstrainLoop.{constrained-more, more-less, constrained-same, same-less}
 use Rattle.prune_constraints.proofs.constrain16.Statement.{statement}
 use Rattle.prune_constraints.proofs.constrain16.Tie as tie
 
@@ -34,7 +31,8 @@ revise16-requires : tie.Need-revise16-requires Inv-loop μ-loop
 revise16-requires c κs = let w = c .before .before .before .pre .1 in let i = c .before .before .loop .inv _ w in let o = choice (c .before) in (i .sixteen, (_, i .held, k-lt i o, k-full i o))
 
 returns-2 : tie.Need-returns-2 Inv-loop μ-loop
-returns-2 c = let o = choice (c .before .before .before) in λ p w. let i = c .before .before .before .before .loop .inv p w in constrained-dead i o (c .before .revise16 .ensures p (i .held) (k-lt i o)) (c .if3 .taken)
+returns-2 c = let o = choice (c .before .before .before) in λ p w. let i = c .before .before .before .before .loop .inv p w in constrained-dead i o
+    (c .before .revise16 .ensures p (i .held) (k-lt i o)) (c .if3 .taken)
 
 sub-left : tie.Need-sub-left Inv-loop μ-loop
 sub-left c = let n = chosen-some (choice (c .before .before .before .before)) in omega arith
@@ -43,31 +41,25 @@ waiting-requires : tie.Need-waiting-requires Inv-loop μ-loop
 waiting-requires c κs = omega (arith, few (c .before .before .before .before .before))
 
 loop-less : tie.Need-loop-less Inv-loop μ-loop
-loop-less c = let o = choice (c .before .before .before .before .before .before .before) in let i = c .before .before .before .before .before .before .before .before .loop .inv _ (c .before .before .before .before .before .before .before .before .before .pre .1) in more-less i o (c .before .before .before .before .before .revise16 .ensures _ (i .held) (k-lt i o)) (c .before .before .before .before .if3 .left) (search needs) (c .before .waiting .ensures) (search needs) (c .before .before .if4 .taken)
+loop-less c = let o = choice (c .before .before .before .before .before .before .before) in let i = c .before .before .before .before .before .before .before .before .loop .inv _
+    (c .before .before .before .before .before .before .before .before .before .pre .1) in more-less i o (c .before .before .before .before .before .revise16 .ensures _ (i .held) (k-lt i o))
+    (c .before .before .before .before .if3 .left) (search needs) (c .before .waiting .ensures) (search needs) (c .before .before .if4 .taken)
 
 loop-again : tie.Need-loop-again Inv-loop μ-loop
-loop-again c = let o = choice (c .before .before .before .before .before .before .before) in λ p w. let i = c .before .before .before .before .before .before .before .before .loop .inv p w in constrained-more i o (c .before .before .before .before .before .revise16 .ensures p (i .held) (k-lt i o)) (c .before .before .before .before .if3 .left) (search needs) (c .before .waiting .ensures)
+loop-again c = let o = choice (c .before .before .before .before .before .before .before) in λ p w. let i = c .before .before .before .before .before .before .before .before .loop .inv p w in
+    constrained-more i o (c .before .before .before .before .before .revise16 .ensures p (i .held) (k-lt i o)) (c .before .before .before .before .if3 .left) (search needs)
+    (c .before .waiting .ensures)
 
 loop-less-2 : tie.Need-loop-less-2 Inv-loop μ-loop
-loop-less-2 c = let o = choice (c .before .before .before .before .before) in let i = c .before .before .before .before .before .before .loop .inv _ (c .before .before .before .before .before .before .before .pre .1) in same-less i o (c .before .before .before .revise16 .ensures _ (i .held) (k-lt i o)) (c .before .before .if3 .left)
+loop-less-2 c = let o = choice (c .before .before .before .before .before) in let i = c .before .before .before .before .before .before .loop .inv _
+    (c .before .before .before .before .before .before .before .pre .1) in same-less i o (c .before .before .before .revise16 .ensures _ (i .held) (k-lt i o)) (c .before .before .if3 .left)
 
 loop-again-2 : tie.Need-loop-again-2 Inv-loop μ-loop
-loop-again-2 c = let o = choice (c .before .before .before .before .before) in λ p w. let i = c .before .before .before .before .before .before .loop .inv p w in constrained-same i o (c .before .before .before .revise16 .ensures p (i .held) (k-lt i o)) (c .before .before .if3 .left) (c .if4 .left)
+loop-again-2 c = let o = choice (c .before .before .before .before .before) in λ p w. let i = c .before .before .before .before .before .before .loop .inv p w in constrained-same i o
+    (c .before .before .before .revise16 .ensures p (i .held) (k-lt i o)) (c .before .before .if3 .left) (c .if4 .left)
 
 pub constrain16-spec : {M : Type 1} → statement M
 constrain16-spec =
     tie.close
     (tie.spec
-    Inv-loop
-    μ-loop
-    loop-holds
-    returns
-    cast-revise16
-    revise16-requires
-    returns-2
-    sub-left
-    waiting-requires
-    loop-less
-    loop-again
-    loop-less-2
-    loop-again-2)
+    Inv-loop μ-loop loop-holds returns cast-revise16 revise16-requires returns-2 sub-left waiting-requires loop-less loop-again loop-less-2 loop-again-2)

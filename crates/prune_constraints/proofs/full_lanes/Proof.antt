@@ -1,7 +1,6 @@
 -- The lanes that are not empty. Assumes nothing.
-use borrow.Author.Needs.{needs}
-use Rattle.prune_constraints.proofs.Lanes.{full-lanes, byte-fits}
-use Rattle.prune_constraints.proofs.full_lanes.Statement.{statement}
+use Rattle.model.specs.Kit.{needs}
+use Rattle.prune_constraints.proofs.{Lanes.full-lanes, Lanes.byte-fits, full_lanes.Statement.statement}
 use Rattle.prune_constraints.proofs.full_lanes.Tie as tie
 
 cast-t10 : tie.Need-cast-t10

@@ -1,6 +1,5 @@
 -- The first bit of every lane that is not empty. Assumes nothing.
-use Rattle.prune_constraints.proofs.Lanes.{full-heads}
-use Rattle.prune_constraints.proofs.heads.Statement.{statement}
+use Rattle.prune_constraints.proofs.{Lanes.full-heads, heads.Statement.statement}
 use Rattle.prune_constraints.proofs.heads.Tie as tie
 
 returns : tie.Need-returns

@@ -1,18 +1,8 @@
 -- The loop: the values passed of a, and what of b goes together with them. The measure is the set of the values left, as a number. Assumes nothing.
-use mathlib.Core.Path.{_≡_, sym, ap, _∙_}
-use mathlib.Core.Bool.{Bool, not}
-use Prim.Native.Nat.{ℕ, _+_, _^_, _<_}
-use native.Mathlib.Omega.{arith}
-use lib.Dec.{eqb}
-use lib.Bits.{bitAnd, bitOr}
-use borrow.Author.Needs.{needs}
-use borrow.Author.Tests.{eqb-true, eqb-false, not-true, not-false}
-use Rattle.model.specs.Lists.{at}
-use Rattle.model.specs.ValueSets.{oneIf}
-use Rattle.model.proofs.Masks.{union-op}
-use Rattle.model.proofs.Members.{common-op-r, lowest-left, others-less}
-use Rattle.prune_constraints.proofs.Unions.{small, Joining, joining-begin, joining-turn, joining-end}
-use Rattle.prune_constraints.proofs.joined.Statement.{statement}
+use Rattle.model.specs.Kit.{_≡_, sym, ap, _∙_, Bool, not, ℕ, _+_, _^_, _<_, arith, eqb, bitAnd, bitOr, needs, eqb-true, eqb-false, not-true, not-false}
+use Rattle.model.specs.{Lists.at, ValueSets.oneIf}
+use Rattle.model.proofs.{Masks.union-op, Members.common-op-r, Members.lowest-left, Members.others-less}
+use Rattle.prune_constraints.proofs.{Unions.small, Unions.Joining, Unions.joining-begin, Unions.joining-turn, Unions.joining-end, joined.Statement.statement}
 use Rattle.prune_constraints.proofs.joined.Tie as tie
 
 abbrev Inv-loop : tie.InvT-loop
@@ -28,7 +18,8 @@ low : (c : tie.After-lowest Inv-loop μ-loop) → c .lowest .result < 16
 low c = lowest-left _ _ _ (c .before .before .before .loop .inv .1 .rest) (some (c .before)) (c .lowest .ensures) .1
 
 -- what of b goes together with the lowest value
-support-is : (c : tie.After-common Inv-loop μ-loop) → let d = c .before .before .before .before .before .before .args in c .common .result .bits ≡ bitAnd (at (d .supports .now) (d .base + c .before .before .lowest .result)) (d .b .bits)
+support-is : (c : tie.After-common Inv-loop μ-loop) → let d = c .before .before .before .before .before .before .args in c .common .result .bits ≡ bitAnd
+    (at (d .supports .now) (d .base + c .before .before .lowest .result)) (d .b .bits)
 unfolding at
 support-is c = c .common .ensures ∙ sym (common-op-r _ _ (search needs))
 
@@ -93,21 +84,5 @@ pub joined-spec : {M : Type 1} → statement M
 joined-spec =
     tie.close
     (tie.spec
-    Inv-loop
-    μ-loop
-    loop-holds
-    is-empty-requires
-    lowest-requires
-    cast-t13
-    add-t14
-    mul-t15
-    element-copy-out-t18
-    common-requires
-    is-empty-requires-2
-    one-if-requires
-    union-requires
-    union-requires-2
-    without-lowest-requires
-    loop-less
-    loop-again
-    returns)
+    Inv-loop μ-loop loop-holds is-empty-requires lowest-requires cast-t13 add-t14 mul-t15 element-copy-out-t18 common-requires is-empty-requires-2
+    one-if-requires union-requires union-requires-2 without-lowest-requires loop-less loop-again returns)

@@ -1,14 +1,8 @@
 -- The loop: the values passed of a, and the values of b and e that go together with them. The measure is the set of the values left, as a number. Assumes nothing.
-use mathlib.Core.Path.{_≡_, sym, ap, _∙_}
-use mathlib.Core.Bool.{Bool, not}
-use Prim.Native.Nat.{_^_, _<_}
-use native.Mathlib.Omega.{arith}
-use borrow.Author.Needs.{needs}
-use borrow.Author.Tests.{eqb-true, eqb-false, not-true, not-false}
+use Rattle.model.specs.Kit.{_≡_, sym, ap, _∙_, Bool, not, _^_, _<_, arith, needs, eqb-true, eqb-false, not-true, not-false}
 use Rattle.model.specs.ValueSets.{oneIf}
 use Rattle.model.proofs.Members.{lowest-left, others-less}
-use Rattle.prune_constraints.proofs.Unions.{Joining3, joining3-begin, joining3-turn, joining3-end}
-use Rattle.prune_constraints.proofs.joined3.Statement.{statement}
+use Rattle.prune_constraints.proofs.{Unions.Joining3, Unions.joining3-begin, Unions.joining3-turn, Unions.joining3-end, joined3.Statement.statement}
 use Rattle.prune_constraints.proofs.joined3.Tie as tie
 
 abbrev Inv-loop : tie.InvT-loop
@@ -72,7 +66,8 @@ loop-less c = others-less _ _ (search needs) (some (c .before .before .before .b
 loop-again : tie.Need-loop-again Inv-loop μ-loop
 loop-again c =
     let l = c .before .before .before .before .before .before .before .before .before in
-    joining3-turn _ _ _ _ _ _ _ _ (l .before .before .before .loop .inv) (some (l .before)) (l .lowest .ensures) (c .without-lowest .ensures) (narrow (c .before .before .before .before .before .before .before .before) .0) (narrow (c .before .before .before .before .before .before .before .before) .1)
+    joining3-turn _ _ _ _ _ _ _ _ (l .before .before .before .loop .inv) (some (l .before)) (l .lowest .ensures) (c .without-lowest .ensures)
+    (narrow (c .before .before .before .before .before .before .before .before) .0) (narrow (c .before .before .before .before .before .before .before .before) .1)
     (c .before .before .before .before .before .before .before .before .joined .ensures)
     (c .before .before .before .before .one-if .ensures ∙ ap (λ (z : Bool). oneIf (not z) (l .lowest .result)) (c .before .before .before .before .before .is-empty2 .ensures))
     (c .before .before .before .union .ensures) (c .before .before .union2 .ensures) (c .before .union3 .ensures)
@@ -84,21 +79,5 @@ pub joined3-spec : {M : Type 1} → statement M
 joined3-spec =
     tie.close
     (tie.spec
-    Inv-loop
-    μ-loop
-    loop-holds
-    is-empty-requires
-    lowest-requires
-    cast-joined
-    mul-joined
-    add-joined
-    joined-requires
-    is-empty-requires-2
-    one-if-requires
-    union-requires
-    union-requires-2
-    union-requires-3
-    without-lowest-requires
-    loop-less
-    loop-again
-    returns)
+    Inv-loop μ-loop loop-holds is-empty-requires lowest-requires cast-joined mul-joined add-joined joined-requires is-empty-requires-2 one-if-requires
+    union-requires union-requires-2 union-requires-3 without-lowest-requires loop-less loop-again returns)

@@ -1,38 +1,13 @@
 -- All three sets are cut to the values that go together, if there are any. Assumes nothing.
-use mathlib.Core.Path.{sym, _∙_}
-use Prim.Native.Nat.{_^_, _<_}
-use borrow.Author.Needs.{needs}
-use borrow.Author.Tests.{eqb-true, eqb-false}
+use Rattle.model.specs.Kit.{sym, _∙_, _^_, _<_, needs, eqb-true, eqb-false}
 use Rattle.model.specs.Lists.{at}
 use Rattle.model.proofs.Members.{or-zero-e, xor-zero-e}
-use Rattle.prune_constraints.proofs.Stores.{three, three-same, three-dead}
-use Rattle.prune_constraints.proofs.leave.Statement.{statement}
+use Rattle.prune_constraints.proofs.{Stores.three, Stores.three-same, Stores.three-dead, leave.Statement.statement}
 use Rattle.prune_constraints.proofs.leave.Tie as tie
 
 -- what goes together are three sets
 narrow : (c : tie.Start) → (c .args .t .first .bits < 2 ^ 16) × (c .args .t .second .bits < 2 ^ 16) × (c .args .t .last .bits < 2 ^ 16)
 narrow c = (search needs, search needs, search needs)
-
-mul-if2 : tie.Need-mul-if2
-mul-if2 c = search needs
-
-element-copy-out-if2 : tie.Need-element-copy-out-if2
-element-copy-out-if2 c = search needs
-
-mul-if2-2 : tie.Need-mul-if2-2
-mul-if2-2 c = search needs
-
-element-copy-out-if2-2 : tie.Need-element-copy-out-if2-2
-element-copy-out-if2-2 c = search needs
-
-mul-if2-3 : tie.Need-mul-if2-3
-mul-if2-3 c = search needs
-
-element-copy-out-if2-3 : tie.Need-element-copy-out-if2-3
-element-copy-out-if2-3 c = search needs
-
-is-empty-requires : tie.Need-is-empty-requires
-is-empty-requires c κs = search needs
 
 returns : tie.Need-returns
 unfolding at
@@ -49,34 +24,8 @@ returns-2 c =
     let e = c .before .before .before .before .before .before .before .before in
     let s = e .before .before .before .before .before .before .before in
     let n = narrow s in λ d supports k q j.
-    three-same q _ (s .pre .0) _ _ _ (n .0) (n .1) (n .2) j (xor-zero-e _ _ (i .0)) (xor-zero-e _ _ (i .1)) (xor-zero-e _ _ (o .1)) (eqb-false _ 0 (sym (e .is-empty .ensures) ∙ c .before .before .before .before .before .before .before .if1 .left))
-
-mul-sets : tie.Need-mul-sets
-mul-sets c = search needs
-
-element-write-sets : tie.Need-element-write-sets
-element-write-sets c = search needs
-
-mul-sets-2 : tie.Need-mul-sets-2
-mul-sets-2 c = search needs
-
-element-write-sets-2 : tie.Need-element-write-sets-2
-element-write-sets-2 c = search needs
-
-mul-sets-3 : tie.Need-mul-sets-3
-mul-sets-3 c = search needs
-
-element-write-sets-3 : tie.Need-element-write-sets-3
-element-write-sets-3 c = search needs
-
-moved-requires : tie.Need-moved-requires
-moved-requires c κs = search needs
-
-moved-requires-2 : tie.Need-moved-requires-2
-moved-requires-2 c κs = search needs
-
-moved-requires-3 : tie.Need-moved-requires-3
-moved-requires-3 c κs = search needs
+    three-same q _ (s .pre .0) _ _ _ (n .0) (n .1) (n .2) j (xor-zero-e _ _ (i .0)) (xor-zero-e _ _ (i .1)) (xor-zero-e _ _ (o .1))
+    (eqb-false _ 0 (sym (e .is-empty .ensures) ∙ c .before .before .before .before .before .before .before .if1 .left))
 
 returns-3 : tie.Need-returns-3
 unfolding at
@@ -84,28 +33,13 @@ returns-3 c =
     let e = c .before .before .before .before .before .before .before .before .before .before .before in
     let s = e .before .before .before .before .before .before .before in
     let n = narrow s in λ d supports k q j.
-    three q _ (s .pre .0) _ _ _ (n .0) (n .1) (n .2) j _ _ _ (c .before .before .moved .ensures) (c .before .moved2 .ensures) (c .moved3 .ensures) (eqb-false _ 0 (sym (e .is-empty .ensures) ∙ c .before .before .before .before .before .before .before .before .before .before .if1 .left))
+    three q _ (s .pre .0) _ _ _ (n .0) (n .1) (n .2) j _ _ _ (c .before .before .moved .ensures) (c .before .moved2 .ensures) (c .moved3 .ensures)
+    (eqb-false _ 0 (sym (e .is-empty .ensures) ∙ c .before .before .before .before .before .before .before .before .before .before .if1 .left))
 
 pub leave-spec : {M : Type 1} → statement M
 leave-spec =
     tie.close
     (tie.spec
-    mul-if2
-    element-copy-out-if2
-    mul-if2-2
-    element-copy-out-if2-2
-    mul-if2-3
-    element-copy-out-if2-3
-    is-empty-requires
-    returns
-    returns-2
-    mul-sets
-    element-write-sets
-    mul-sets-2
-    element-write-sets-2
-    mul-sets-3
-    element-write-sets-3
-    moved-requires
-    moved-requires-2
-    moved-requires-3
-    returns-3)
+    (λ c. search needs) (λ c. search needs) (λ c. search needs) (λ c. search needs) (λ c. search needs) (λ c. search needs) (λ c κs. search needs) returns
+    returns-2 (λ c. search needs) (λ c. search needs) (λ c. search needs) (λ c. search needs) (λ c. search needs) (λ c. search needs) (λ c κs. search needs)
+    (λ c κs. search needs) (λ c κs. search needs) returns-3)

@@ -1,22 +1,22 @@
 -- The loop: only the constraints left, those due that are not looked up, and those of the changed variables may take something. Assumes nothing.
-use Prim.Native.Nat.{ℕ}
-use native.Mathlib.Omega.{arith}
-use borrow.Author.Needs.{needs}
+use Rattle.model.specs.Kit.{ℕ, arith, needs}
 use Rattle.model.specs.Problem.{Problem}
 use Rattle.model.proofs.Members.{rest-less}
-use Rattle.prune_constraints.specs.LookUps.{LookUpsPending}
+use Rattle.prune_constraints.specs.inner.LookUps.{LookUpsPending}
 use Rattle.prune_constraints.proofs.LookUpLoop.{LookedSoFar, looked-begin, looked-end, look-few, look-next, looked-dead, looked-turn}
 use Rattle.prune_constraints.proofs.look_ups.Statement.{statement}
 use Rattle.prune_constraints.proofs.look_ups.Tie as tie
 
 abbrev Inv-loop : tie.InvT-loop
-Inv-loop sets₀ numbers supports some v all₀ left₀ sets all left = (p : Problem) (todo : ℕ) → LookUpsPending p numbers supports sets₀ todo some v → LookedSoFar p numbers supports sets₀ sets todo some left all
+Inv-loop sets₀ numbers supports some v all₀ left₀ sets all left = (p : Problem) (todo : ℕ) → LookUpsPending p numbers supports sets₀ todo some v
+    → LookedSoFar p numbers supports sets₀ sets todo some left all
 
 abbrev μ-loop : tie.MeasureT-loop
 μ-loop sets₀ numbers supports some v all₀ left₀ sets all left = left
 
 -- the invariant, for the problem of the `requires`
-so-far : (c : tie.In-loop Inv-loop μ-loop) → let d = c .before .before in LookedSoFar (d .pre .0) (d .args .numbers .now) (d .args .supports .now) (d .args .sets .now) (c .before .loop .sets) (d .pre .1) (d .args .some) (c .before .loop .left) (c .before .loop .all)
+so-far : (c : tie.In-loop Inv-loop μ-loop) → let d = c .before .before in LookedSoFar (d .pre .0) (d .args .numbers .now) (d .args .supports .now) (d .args .sets .now) (c .before .loop .sets)
+    (d .pre .1) (d .args .some) (c .before .loop .left) (c .before .loop .all)
 so-far c = let q = c .before .before .pre in c .before .loop .inv (q .0) (q .1) (q .2)
 
 loop-holds : tie.Need-loop-holds Inv-loop μ-loop
@@ -55,13 +55,4 @@ pub look-ups-spec : {M : Type 1} → statement M
 look-ups-spec =
     tie.close
     (tie.spec
-    Inv-loop
-    μ-loop
-    loop-holds
-    cast-look-up
-    look-up-requires
-    returns
-    sub-left
-    loop-less
-    loop-again
-    returns-2)
+    Inv-loop μ-loop loop-holds cast-look-up look-up-requires returns sub-left loop-less loop-again returns-2)

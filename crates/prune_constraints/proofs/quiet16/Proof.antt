@@ -1,16 +1,10 @@
 -- The loop: each value passed of b goes together with something of e, and what goes together with them. The measure is the set of the values left, as
 -- a number. Assumes nothing.
-use mathlib.Core.Path.{_≡_, refl, sym, _∙_, subst}
-use Prim.Native.Nat.{_<_}
-use native.Mathlib.Omega.{arith}
-use borrow.Author.Needs.{needs}
-use borrow.Author.Tests.{eqb-true, eqb-false, not-true, not-false}
-use lib.Dec.{T}
+use Rattle.model.specs.Kit.{_≡_, refl, sym, _∙_, subst, _<_, arith, needs, eqb-true, eqb-false, not-true, not-false, T}
 use Rattle.model.specs.Lists.{at}
 use Rattle.model.proofs.Members.{lowest-left, others-less}
-use Rattle.prune_constraints.specs.Steps.{Joined}
-use Rattle.prune_constraints.proofs.Unions.{Passing, passing-begin, passing-turn, passing-end}
-use Rattle.prune_constraints.proofs.quiet16.Statement.{statement}
+use Rattle.prune_constraints.specs.inner.Steps.{Joined}
+use Rattle.prune_constraints.proofs.{Unions.Passing, Unions.passing-begin, Unions.passing-turn, Unions.passing-end, quiet16.Statement.statement}
 use Rattle.prune_constraints.proofs.quiet16.Tie as tie
 
 abbrev Inv-loop : tie.InvT-loop
@@ -62,23 +56,12 @@ loop-again c =
     passing-turn _ _ _ _ 16 _ _ _ (l .before .before .before .loop .inv) (some (l .before)) (l .lowest .ensures) (c .without-lowest .ensures) (search needs) (c .before .if2 .left) refl
 
 returns-2 : tie.Need-returns-2 Inv-loop μ-loop
-returns-2 c = λ q. subst (Joined _ _ _ _ _) (eqb-true _ _ q) (passing-end _ _ _ _ _ _ (eqb-true _ 0 (sym (c .before .before .is-empty .ensures) ∙ not-false _ (c .before .if1 .left))) (c .before .before .before .loop .inv))
+returns-2 c = λ q. subst (Joined _ _ _ _ _) (eqb-true _ _ q) (passing-end _ _ _ _ _ _ (eqb-true _ 0 (sym (c .before .before .is-empty .ensures) ∙ not-false _ (c .before .if1 .left)))
+    (c .before .before .before .loop .inv))
 
 pub quiet16-spec : {M : Type 1} → statement M
 quiet16-spec =
     tie.close
     (tie.spec
-    Inv-loop
-    μ-loop
-    loop-holds
-    is-empty-requires
-    lowest-requires
-    cast-t
-    add-t
-    mul-t
-    element-copy-out-t
-    returns
-    without-lowest-requires
-    loop-less
-    loop-again
+    Inv-loop μ-loop loop-holds is-empty-requires lowest-requires cast-t add-t mul-t element-copy-out-t returns without-lowest-requires loop-less loop-again
     returns-2)

@@ -1,47 +1,37 @@
 -- One constraint, by its arity: two sets of one value leave a cut of the third, one may leave nothing lost, else all three are cut. Assumes nothing.
-use mathlib.Core.Path.{refl}
-use Prim.Native.Nat.{_+_, _/_, _%_, _<_}
-use native.Mathlib.Omega.{arith}
-use borrow.Author.Needs.{needs}
-use Rattle.model.specs.Lists.{at}
+use Rattle.model.specs.Kit.{refl, _+_, _/_, _%_, _<_, arith, needs}
+use Rattle.model.specs.{Lists.at, Problem.constraintAt}
 use Rattle.model.proofs.Members.{lowest-left, rest-begin}
-use Rattle.arrays.specs.Places.{SCOPES}
-use Rattle.arrays.specs.Layout.{constraintAt}
-use Rattle.prune_constraints.specs.Steps.{OneValue, Scoped}
-use Rattle.prune_constraints.proofs.Scopes.{scope3, of-three, scoped-3}
-use Rattle.prune_constraints.proofs.Unions.{one-value, joined3-one}
-use Rattle.prune_constraints.proofs.Stores.{three-same}
-use Rattle.prune_constraints.proofs.revise16.Statement.{statement}
+use Rattle.arrays.specs.inner.Places.{SCOPES}
+use Rattle.prune_constraints.specs.inner.Steps.{OneValue, Scoped}
+use Rattle.prune_constraints.proofs.{Scopes.scope3, Scopes.of-three, Scopes.scoped-3, Unions.one-value, Unions.joined3-one, Stores.three-same, revise16.Statement.statement}
 use Rattle.prune_constraints.proofs.revise16.Tie as tie
 
 -- the scope
-three : (c : tie.Else1) → let d = c .before .before in Scoped (constraintAt (d .pre .1 .0) (d .args .k)) (d .args .supports .now) (d .args .k) (scope3 (at (d .args .numbers .now) (SCOPES + d .args .k)))
+three : (c : tie.Else1) → let d = c .before .before in Scoped (constraintAt (d .pre .1 .0) (d .args .k)) (d .args .supports .now) (d .args .k)
+    (scope3 (at (d .args .numbers .now) (SCOPES + d .args .k)))
 unfolding at
 three c = let q = c .before .before .pre .1 in scoped-3 (q .1) _ (q .2) (c .if1 .left)
 
 -- the first set has one value
 one : (c : tie.Then2) → let d = c .before .before .before .before .before .before .before .before .args in OneValue (at (d .sets .now) (at (d .numbers .now) (SCOPES + d .k) / 256 % 256))
 unfolding at
-one c = let d = c .before .before .before .before .before .before .before .before in one-value _ _ _ (d .pre .0 .1 _) (of-three (three (c .before .before .before .before .before .before) .is) (d .pre .1 .3) .0) (c .before .before .without-lowest .ensures) (c .before .is-empty .ensures) (c .if2 .taken)
+one c = let d = c .before .before .before .before .before .before .before .before in one-value _ _ _ (d .pre .0 .1 _)
+    (of-three (three (c .before .before .before .before .before .before) .is) (d .pre .1 .3) .0) (c .before .before .without-lowest .ensures) (c .before .is-empty .ensures) (c .if2 .taken)
 
 -- the value is below 16
 low : (c : tie.After-lowest) → c .lowest .result < 16
 unfolding at
-low c = lowest-left _ _ _ (rest-begin 16 _ (c .before .before .before .before .before .before .before .before .before .before .before .before .pre .0 .1 _)) (one (c .before .before .before .before) .some) (c .lowest .ensures) .1
+low c = lowest-left _ _ _ (rest-begin 16 _ (c .before .before .before .before .before .before .before .before .before .before .before .before .pre .0 .1 _))
+    (one (c .before .before .before .before) .some) (c .lowest .ensures) .1
 
 -- the second set has one value
-one-y : (c : tie.Then3) → let d = c .before .before .before .before .before .before .before .before .before .before .before .args in OneValue (at (d .sets .now) (at (d .numbers .now) (SCOPES + d .k) / 65536 % 256))
+one-y : (c : tie.Then3) → let d = c .before .before .before .before .before .before .before .before .before .before .before .args in OneValue
+    (at (d .sets .now) (at (d .numbers .now) (SCOPES + d .k) / 65536 % 256))
 unfolding at
-one-y c = let d = c .before .before .before .before .before .before .before .before .before .before .before in one-value _ _ _ (d .pre .0 .1 _) (of-three (three (c .before .before .before .before .before .before .before .before .before) .is) (d .pre .1 .3) .1) (c .before .before .without-lowest2 .ensures) (c .before .is-empty2 .ensures) (c .if3 .taken)
-
-add-w : tie.Need-add-w
-add-w c = search needs
-
-mul-w : tie.Need-mul-w
-mul-w c = search needs
-
-element-copy-out-w : tie.Need-element-copy-out-w
-element-copy-out-w c = search needs
+one-y c = let d = c .before .before .before .before .before .before .before .before .before .before .before in one-value _ _ _ (d .pre .0 .1 _)
+    (of-three (three (c .before .before .before .before .before .before .before .before .before) .is) (d .pre .1 .3) .1) (c .before .before .without-lowest2 .ensures)
+    (c .before .is-empty2 .ensures) (c .if3 .taken)
 
 revise-few-requires : tie.Need-revise-few-requires
 unfolding at
@@ -50,61 +40,27 @@ revise-few-requires c κs = let q = c .before .before .before .pre in (q .0, (c 
 returns : tie.Need-returns
 returns c = search needs
 
-mul-t13 : tie.Need-mul-t13
-mul-t13 c = search needs
-
 element-copy-out-t23 : tie.Need-element-copy-out-t23
 unfolding at
 element-copy-out-t23 c = of-three refl (three c .inside) .0
-
-mul-t14 : tie.Need-mul-t14
-mul-t14 c = search needs
 
 element-copy-out-t23-2 : tie.Need-element-copy-out-t23-2
 unfolding at
 element-copy-out-t23-2 c = of-three refl (three (c .before) .inside) .1
 
-mul-t13-2 : tie.Need-mul-t13-2
-mul-t13-2 c = search needs
-
 element-copy-out-t23-3 : tie.Need-element-copy-out-t23-3
 unfolding at
 element-copy-out-t23-3 c = of-three refl (three (c .before .before) .inside) .2
 
-without-lowest-requires : tie.Need-without-lowest-requires
-without-lowest-requires c κs = search needs
-
-is-empty-requires : tie.Need-is-empty-requires
-is-empty-requires c κs = search needs
-
-without-lowest-requires-2 : tie.Need-without-lowest-requires-2
-without-lowest-requires-2 c κs = search needs
-
-is-empty-requires-2 : tie.Need-is-empty-requires-2
-is-empty-requires-2 c κs = search needs
-
 revise-last-requires : tie.Need-revise-last-requires
 unfolding at
-revise-last-requires c κs = (c .before .before .before .before .before .before .before .before .before .before .before .before .pre .0, ((one (c .before .before .before .before), one-y (c .before)), (_, three (c .before .before .before .before .before .before .before .before .before .before))))
+revise-last-requires c κs =
+    let c10 = c .before .before .before .before .before .before .before .before .before .before in
+    (c10 .before .before .pre .0, ((one (c .before .before .before .before), one-y (c .before)), (_, three (c10))))
 
 returns-2 : tie.Need-returns-2
 unfolding at
 returns-2 c = λ p g h. c .revise-last .ensures _ (scoped-3 g _ h (c .before .before .before .before .before .before .before .before .before .before .before .if1 .left))
-
-mul-quiet16 : tie.Need-mul-quiet16
-mul-quiet16 c = search needs
-
-lowest-requires : tie.Need-lowest-requires
-lowest-requires c κs = search needs
-
-cast-quiet16 : tie.Need-cast-quiet16
-cast-quiet16 c = search needs
-
-mul-quiet16-2 : tie.Need-mul-quiet16-2
-mul-quiet16-2 c = search needs
-
-add-quiet16 : tie.Need-add-quiet16
-add-quiet16 c = search needs
 
 quiet16-requires : tie.Need-quiet16-requires
 unfolding at
@@ -116,18 +72,18 @@ unfolding at
 returns-3 c =
     let d = c .before .before .before .before .before .before .before .before .before .before .before .before .before .before in
     let n = of-three (three (c .before .before .before .before .before .before .before .before .before .before .before .before) .is) (d .pre .1 .3) in λ p g h.
-    three-same (scoped-3 g _ h (c .before .before .before .before .before .before .before .before .before .before .before .before .if1 .left)) _ (d .pre .0) _ _ _ (d .pre .0 .1 _) (d .pre .0 .1 _) (d .pre .0 .1 _)
-    (joined3-one _ _ _ _ _ _ (d .pre .0 .1 _) (one (c .before .before .before .before .before .before)) (c .before .before .lowest .ensures) (d .pre .0 .1 _) (n .1) (c .before .quiet16 .ensures (c .if4 .taken))) refl refl refl (n .2)
-
-mul-joined3 : tie.Need-mul-joined3
-mul-joined3 c = search needs
-
-joined3-requires : tie.Need-joined3-requires
-joined3-requires c κs = search needs
+    three-same (scoped-3 g _ h (c .before .before .before .before .before .before .before .before .before .before .before .before .if1 .left)) _ (d .pre .0) _ _ _ (d .pre .0 .1 _) (d .pre .0 .1 _)
+    (d .pre .0 .1 _)
+    (joined3-one _ _ _ _ _ _ (d .pre .0 .1 _) (one (c .before .before .before .before .before .before)) (c .before .before .lowest .ensures) (d .pre .0 .1 _) (n .1)
+    (c .before .quiet16 .ensures (c .if4 .taken))) refl refl refl (n .2)
 
 leave-requires : tie.Need-leave-requires
 unfolding at
-leave-requires c κs = (c .before .before .before .before .before .before .before .before .before .before .pre .0, of-three refl (three (c .before .before .before .before .before .before .before .before) .inside))
+leave-requires c κs = (
+  c .before .before .before .before .before .before .before .before .before .before .pre .0,
+  of-three refl
+      (three (c .before .before .before .before .before .before .before .before) .inside),
+)
 
 returns-4 : tie.Need-returns-4
 unfolding at
@@ -137,31 +93,7 @@ pub revise16-spec : {M : Type 1} → statement M
 revise16-spec =
     tie.close
     (tie.spec
-    add-w
-    mul-w
-    element-copy-out-w
-    revise-few-requires
-    returns
-    mul-t13
-    element-copy-out-t23
-    mul-t14
-    element-copy-out-t23-2
-    mul-t13-2
-    element-copy-out-t23-3
-    without-lowest-requires
-    is-empty-requires
-    without-lowest-requires-2
-    is-empty-requires-2
-    revise-last-requires
-    returns-2
-    mul-quiet16
-    lowest-requires
-    cast-quiet16
-    mul-quiet16-2
-    add-quiet16
-    quiet16-requires
-    returns-3
-    mul-joined3
-    joined3-requires
-    leave-requires
-    returns-4)
+    (λ c. search needs) (λ c. search needs) (λ c. search needs) revise-few-requires returns (λ c. search needs) element-copy-out-t23 (λ c. search needs)
+    element-copy-out-t23-2 (λ c. search needs) element-copy-out-t23-3 (λ c κs. search needs) (λ c κs. search needs) (λ c κs. search needs)
+    (λ c κs. search needs) revise-last-requires returns-2 (λ c. search needs) (λ c κs. search needs) (λ c. search needs) (λ c. search needs) (λ c. search needs)
+    quiet16-requires returns-3 (λ c. search needs) (λ c κs. search needs) leave-requires returns-4)

@@ -1,22 +1,8 @@
 -- A constraint on one or two variables, by its arity. Assumes nothing.
-use mathlib.Core.Path.{refl}
-use mathlib.Core.List.{List·Memᴰ·head}
-use native.Mathlib.Omega.{arith}
+use Rattle.model.specs.Kit.{refl, List·Memᴰ·head, arith, needs}
 use Rattle.model.specs.Lists.{at}
-use Rattle.prune_constraints.proofs.Scopes.{scoped-1, scoped-2}
-use Rattle.prune_constraints.proofs.Stores.{one}
-use borrow.Author.Needs.{needs}
-use Rattle.prune_constraints.proofs.revise_few.Statement.{statement}
+use Rattle.prune_constraints.proofs.{Scopes.scoped-1, Scopes.scoped-2, Stores.one, revise_few.Statement.statement}
 use Rattle.prune_constraints.proofs.revise_few.Tie as tie
-
-add-w : tie.Need-add-w
-add-w c = search needs
-
-mul-w : tie.Need-mul-w
-mul-w c = search needs
-
-element-copy-out-w : tie.Need-element-copy-out-w
-element-copy-out-w c = search needs
 
 revise-two-requires : tie.Need-revise-two-requires
 unfolding at
@@ -26,12 +12,10 @@ returns : tie.Need-returns
 unfolding at
 returns c = λ p g h. c .revise-two .ensures _ (scoped-2 g _ h (c .before .before .if1 .taken))
 
-mul-revise-one : tie.Need-mul-revise-one
-mul-revise-one c = search needs
-
 revise-one-requires : tie.Need-revise-one-requires
 unfolding at
-revise-one-requires c κs = let q = c .before .before .before .pre in let s = scoped-1 (q .1 .1 .1) _ (q .1 .1 .2) (q .1 .0) (c .before .if1 .left) in (q .0, (s .inside _ (List·Memᴰ·head refl), omega (arith, s .room)))
+revise-one-requires c κs = let q = c .before .before .before .pre in let s = scoped-1 (q .1 .1 .1) _ (q .1 .1 .2) (q .1 .0) (c .before .if1 .left) in
+    (q .0, (s .inside _ (List·Memᴰ·head refl), omega (arith, s .room)))
 
 returns-2 : tie.Need-returns-2
 unfolding at
@@ -41,11 +25,4 @@ pub revise-few-spec : {M : Type 1} → statement M
 revise-few-spec =
     tie.close
     (tie.spec
-    add-w
-    mul-w
-    element-copy-out-w
-    revise-two-requires
-    returns
-    mul-revise-one
-    revise-one-requires
-    returns-2)
+    (λ c. search needs) (λ c. search needs) (λ c. search needs) revise-two-requires returns (λ c. search needs) revise-one-requires returns-2)

@@ -1,12 +1,7 @@
 -- Two sets of one value leave a cut of the third. Assumes nothing.
-use mathlib.Core.Path.{refl, ap₂}
-use mathlib.Core.List.{List·Memᴰ·head, List·Memᴰ·tail}
-use Prim.Native.Nat.{ℕ, _+_, _*_, _<_}
-use native.Mathlib.Omega.{arith}
-use borrow.Author.Needs.{needs}
+use Rattle.model.specs.Kit.{refl, ap₂, List·Memᴰ·head, List·Memᴰ·tail, ℕ, _+_, _*_, _<_, arith, needs}
 use Rattle.model.specs.Lists.{at}
-use Rattle.prune_constraints.proofs.Stores.{three-last, u-has, v-has}
-use Rattle.prune_constraints.proofs.revise_last.Statement.{statement}
+use Rattle.prune_constraints.proofs.{Stores.three-last, Stores.u-has, Stores.v-has, revise_last.Statement.statement}
 use Rattle.prune_constraints.proofs.revise_last.Tie as tie
 
 x-lt : (c : tie.Start) → c .args .x < 16
@@ -33,35 +28,11 @@ mul-t10 c = omega (arith, x-lt c)
 element-copy-out-t13 : tie.Need-element-copy-out-t13
 element-copy-out-t13 c = x-lt c
 
-lowest-requires : tie.Need-lowest-requires
-lowest-requires c κs = search needs
-
-cast-u : tie.Need-cast-u
-cast-u c = search needs
-
 mul-t10-2 : tie.Need-mul-t10-2
 mul-t10-2 c = omega (arith, y-lt (c .before .before))
 
 element-copy-out-t13-2 : tie.Need-element-copy-out-t13-2
 element-copy-out-t13-2 c = y-lt (c .before .before)
-
-lowest-requires-2 : tie.Need-lowest-requires-2
-lowest-requires-2 c κs = search needs
-
-cast-v : tie.Need-cast-v
-cast-v c = search needs
-
-mul-revise-one : tie.Need-mul-revise-one
-mul-revise-one c = search needs
-
-mul-revise-one-2 : tie.Need-mul-revise-one-2
-mul-revise-one-2 c = search needs
-
-add-revise-one : tie.Need-add-revise-one
-add-revise-one c = search needs
-
-add-revise-one-2 : tie.Need-add-revise-one-2
-add-revise-one-2 c = search needs
 
 revise-one-requires : tie.Need-revise-one-requires
 unfolding at
@@ -72,23 +43,12 @@ unfolding at
 returns c =
     let v = c .before .before in
     let d = v .before .before .before .before in λ e q.
-    three-last q _ (d .pre .0) (d .pre .1 .0 .0) (d .pre .1 .0 .1) _ (ap₂ (λ (u v : ℕ). 256 * d .args .k + 16 * u + v) (v .before .before .lowest .ensures) (v .lowest2 .ensures)) _ _ (c .revise-one .ensures)
+    three-last q _ (d .pre .0) (d .pre .1 .0 .0) (d .pre .1 .0 .1) _ (ap₂ (λ (u v : ℕ). 256 * d .args .k + 16 * u + v) (v .before .before .lowest .ensures) (v .lowest2 .ensures)) _ _
+    (c .revise-one .ensures)
 
 pub revise-last-spec : {M : Type 1} → statement M
 revise-last-spec =
     tie.close
     (tie.spec
-    mul-t10
-    element-copy-out-t13
-    lowest-requires
-    cast-u
-    mul-t10-2
-    element-copy-out-t13-2
-    lowest-requires-2
-    cast-v
-    mul-revise-one
-    mul-revise-one-2
-    add-revise-one
-    add-revise-one-2
-    revise-one-requires
-    returns)
+    mul-t10 element-copy-out-t13 (λ c κs. search needs) (λ c. search needs) mul-t10-2 element-copy-out-t13-2 (λ c κs. search needs) (λ c. search needs)
+    (λ c. search needs) (λ c. search needs) (λ c. search needs) (λ c. search needs) revise-one-requires returns)

@@ -1,13 +1,7 @@
 -- Both sets are cut to the values that go together, if there are any. Assumes nothing.
-use mathlib.Core.Path.{refl, sym, _∙_}
-use mathlib.Core.List.{List·Memᴰ·head, List·Memᴰ·tail}
-use Prim.Native.Nat.{_^_, _<_}
-use native.Mathlib.Omega.{arith}
-use borrow.Author.Needs.{needs}
-use borrow.Author.Tests.{eqb-true, eqb-false}
+use Rattle.model.specs.Kit.{refl, sym, _∙_, List·Memᴰ·head, List·Memᴰ·tail, _^_, _<_, arith, needs, eqb-true, eqb-false}
 use Rattle.model.specs.Lists.{at}
-use Rattle.prune_constraints.proofs.Stores.{two, two-dead}
-use Rattle.prune_constraints.proofs.revise_two.Statement.{statement}
+use Rattle.prune_constraints.proofs.{Stores.two, Stores.two-dead, revise_two.Statement.statement}
 use Rattle.prune_constraints.proofs.revise_two.Tie as tie
 
 x-lt : (c : tie.Start) → c .args .x < 16
@@ -30,15 +24,6 @@ mul-t11-2 c = omega (arith, y-lt (c .before))
 
 element-copy-out-t14-2 : tie.Need-element-copy-out-t14-2
 element-copy-out-t14-2 c = y-lt (c .before)
-
-mul-joined : tie.Need-mul-joined
-mul-joined c = search needs
-
-joined-requires : tie.Need-joined-requires
-joined-requires c κs = search needs
-
-is-empty-requires : tie.Need-is-empty-requires
-is-empty-requires c κs = search needs
 
 returns : tie.Need-returns
 unfolding at
@@ -71,24 +56,12 @@ returns-2 c =
     let i = c .before .before .before in
     let j = i .before .before .before in
     let s = j .before .before .before in λ d q.
-    two q _ (s .pre .0) _ _ (narrow j .0) (narrow j .1) (j .joined .ensures) _ _ (c .before .moved .ensures) (c .moved2 .ensures) (eqb-false _ 0 (sym (i .is-empty .ensures) ∙ c .before .before .if1 .left))
+    two q _ (s .pre .0) _ _ (narrow j .0) (narrow j .1) (j .joined .ensures) _ _ (c .before .moved .ensures) (c .moved2 .ensures)
+    (eqb-false _ 0 (sym (i .is-empty .ensures) ∙ c .before .before .if1 .left))
 
 pub revise-two-spec : {M : Type 1} → statement M
 revise-two-spec =
     tie.close
     (tie.spec
-    mul-t11
-    element-copy-out-t14
-    mul-t11-2
-    element-copy-out-t14-2
-    mul-joined
-    joined-requires
-    is-empty-requires
-    returns
-    mul-sets
-    element-write-sets
-    mul-sets-2
-    element-write-sets-2
-    moved-requires
-    moved-requires-2
-    returns-2)
+    mul-t11 element-copy-out-t14 mul-t11-2 element-copy-out-t14-2 (λ c. search needs) (λ c κs. search needs) (λ c κs. search needs) returns mul-sets
+    element-write-sets mul-sets-2 element-write-sets-2 moved-requires moved-requires-2 returns-2)

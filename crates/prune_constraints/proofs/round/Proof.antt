@@ -1,5 +1,5 @@
 -- A round is not empty, and due. Assumes nothing.
-use borrow.Author.Needs.{needs}
+use Rattle.model.specs.Kit.{needs}
 use Rattle.model.proofs.Members.{and-e}
 use Rattle.prune_constraints.proofs.round.Statement.{statement}
 use Rattle.prune_constraints.proofs.round.Tie as tie

@@ -1,12 +1,8 @@
 -- The loop: the union of what the variables passed have. Assumes nothing.
-use Prim.Native.Nat.{_<_}
-use lib.Count.{trailingZeros}
+use Rattle.model.specs.Kit.{_<_, trailingZeros, arith, needs}
 use Rattle.model.specs.Lists.{at}
-use native.Mathlib.Omega.{arith}
-use borrow.Author.Needs.{needs}
 use Rattle.model.proofs.Members.{Rest, rest-begin, rest-low, rest-turn, rest-less, Union, union-begin, union-turn}
-use Rattle.prune_constraints.proofs.Unions.{Touches, touched-all}
-use Rattle.prune_constraints.proofs.touched.Statement.{statement}
+use Rattle.prune_constraints.proofs.{Unions.Touches, Unions.touched-all, touched.Statement.statement}
 use Rattle.prune_constraints.proofs.touched.Tie as tie
 
 abbrev Inv-loop : tie.InvT-loop
@@ -41,7 +37,11 @@ loop-less c = rest-less _ (c .before .loop-test .taken)
 
 loop-again : tie.Need-loop-again Inv-loop μ-loop
 unfolding at
-loop-again c = (rest-turn 64 _ _ (c .before .before .loop .inv .0) (c .before .loop-test .taken), union-turn _ 64 _ _ _ _ (c .before .before .loop .inv .0) (c .before .loop-test .taken) (c .before .before .loop .inv .1) (λ w q. q) (λ w q. q))
+loop-again c = (
+  rest-turn 64 _ _ (c .before .before .loop .inv .0) (c .before .loop-test .taken),
+  union-turn _ 64 _ _ _ _ (c .before .before .loop .inv .0) (c .before .loop-test .taken)
+      (c .before .before .loop .inv .1) (λ w q. q) (λ w q. q),
+)
 
 returns : tie.Need-returns Inv-loop μ-loop
 returns c = touched-all _ _ _ _ (c .loop-test .left) (c .before .loop .inv .1)
@@ -50,14 +50,4 @@ pub touched-spec : {M : Type 1} → statement M
 touched-spec =
     tie.close
     (tie.spec
-    Inv-loop
-    μ-loop
-    loop-holds
-    cast-all
-    add-all
-    mul-all
-    element-copy-out-all
-    sub-m
-    loop-less
-    loop-again
-    returns)
+    Inv-loop μ-loop loop-holds cast-all add-all mul-all element-copy-out-all sub-m loop-less loop-again returns)

@@ -1,7 +1,6 @@
 -- The union of the lanes. Assumes nothing.
-use borrow.Author.Needs.{needs}
-use Rattle.prune_constraints.proofs.Lanes.{lane-union, byte-fits}
-use Rattle.prune_constraints.proofs.union_of.Statement.{statement}
+use Rattle.model.specs.Kit.{needs}
+use Rattle.prune_constraints.proofs.{Lanes.lane-union, Lanes.byte-fits, union_of.Statement.statement}
 use Rattle.prune_constraints.proofs.union_of.Tie as tie
 
 cast-t7 : tie.Need-cast-t7

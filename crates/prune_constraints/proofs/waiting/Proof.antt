@@ -1,20 +1,10 @@
 -- Those touched, without number k and those left. Assumes nothing.
-use mathlib.Core.Path.{_≡_, refl, sym, ap, subst}
-use mathlib.Core.Bool.{Bool, true, false, not}
-use mathlib.Core.Logic.{_⊎_, inl, inr, ⊎-elim}
-use mathlib.Core.List.{List}
-use Prim.Native.Nat.{ℕ, _-_, _*_, _%_, _^_, _<_}
-use lib.Dec.{T, eqb→eq}
-use lib.Bits.{bitAnd, bitOr, or-lt}
-use lib.Pow.{pow-lt}
-use borrow.Author.Needs.{needs}
+use Rattle.model.specs.Kit.{_≡_, refl, sym, ap, subst, Bool, true, false, not, _⊎_, inl, inr, ⊎-elim, List, ℕ, _-_, _*_, _%_, _^_, _<_, T, eqb→eq, bitAnd, bitOr, or-lt, pow-lt}
+use Rattle.model.specs.Kit.{needs}
 use Rattle.model.specs.ValueSets.{has}
-use Rattle.model.proofs.Lists.{T-of, both-i}
-use Rattle.model.proofs.Sets.{has-lt}
-use Rattle.model.proofs.Members.{one-bit, one-has, or-e, and-e}
-use Rattle.prune_constraints.specs.Steps.{Touched, Waiting}
-use Rattle.prune_constraints.proofs.Bits.{without-has}
-use Rattle.prune_constraints.proofs.waiting.Statement.{statement}
+use Rattle.model.proofs.{Lists.T-of, Lists.both-i, Sets.has-lt, Members.one-bit, Members.one-has, Members.or-e, Members.and-e}
+use Rattle.prune_constraints.specs.inner.Steps.{Touched, Waiting}
+use Rattle.prune_constraints.proofs.{Bits.without-has, waiting.Statement.statement}
 use Rattle.prune_constraints.proofs.waiting.Tie as tie
 
 module _ (k left g : ℕ) (h : k < 64) (i : left < 2 ^ 64) (w : g < 2 ^ 64) where
@@ -34,14 +24,8 @@ module _ (k left g : ℕ) (h : k < 64) (i : left < 2 ^ 64) (w : g < 2 ^ 64) wher
   waits : {numbers : List ℕ} {changed : ℕ} → Touched numbers changed g → Waiting numbers changed k left (bitAnd g ((2 ^ 64 - 1) - bitOr (1 * 2 ^ k % 2 ^ 64) left))
   waits u = record { waiting-i = λ x j q o. new j (u .touched-i x j q o); waiting-e = λ j q. u .touched-e j (and-e g ((2 ^ 64 - 1) - done) j q .0) }
 
-touched-requires : tie.Need-touched-requires
-touched-requires c κs = search needs
-
-shl-result : tie.Need-shl-result
-shl-result c = search needs
-
 returns : tie.Need-returns
 returns c = waits _ _ _ (search needs) (search needs) (search needs) (c .touched .ensures)
 
 pub waiting-spec : {M : Type 1} → statement M
-waiting-spec = tie.close (tie.spec touched-requires shl-result returns)
+waiting-spec = tie.close (tie.spec (λ c κs. search needs) (λ c. search needs) returns)

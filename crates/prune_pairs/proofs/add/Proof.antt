@@ -1,9 +1,7 @@
 -- The loop: of sixteen sets those before y have got theirs of the tables, the others are as they came. Assumes nothing.
-use Prim.Native.Nat.{_-_}
-use native.Mathlib.Omega.{arith}
+use Rattle.model.specs.Kit.{_-_, arith}
 use Rattle.model.specs.Lists.{at}
-use Rattle.prune_pairs.proofs.Covers.{Adding, adding-begin, adding-turn, adding-end}
-use Rattle.prune_pairs.proofs.add.Statement.{statement}
+use Rattle.prune_pairs.proofs.{Covers.Adding, Covers.adding-begin, Covers.adding-turn, Covers.adding-end, add.Statement.statement}
 use Rattle.prune_pairs.proofs.add.Tie as tie
 
 abbrev Inv-loop : tie.InvT-loop
@@ -53,17 +51,5 @@ pub add-spec : {M : Type 1} → statement M
 add-spec =
     tie.close
     (tie.spec
-    Inv-loop
-    μ-loop
-    loop-holds
-    mul-cover
-    element-copy-out-cover
-    add-cover
-    mul-cover-2
-    element-copy-out-cover-2
-    mul-cover-3
-    element-write-cover
-    add-y
-    loop-less
-    loop-again
-    returns)
+    Inv-loop μ-loop loop-holds mul-cover element-copy-out-cover add-cover mul-cover-2 element-copy-out-cover-2 mul-cover-3 element-write-cover add-y loop-less
+    loop-again returns)

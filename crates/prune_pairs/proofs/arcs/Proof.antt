@@ -1,11 +1,8 @@
 -- The loop: only the variables that are left may refuse a value. The measure is the number of values in all sets, then the set of those left. Assumes nothing.
-use Prim.Native.Nat.{_+_, _*_, _^_}
-use native.Mathlib.Omega.{arith}
-use borrow.Author.Needs.{needs}
-use Rattle.model.specs.Lists.{at}
-use Rattle.model.specs.Problem.{Problem}
+use Rattle.model.specs.Kit.{_+_, _*_, _^_, arith, needs}
+use Rattle.model.specs.{Lists.at, Problem.Problem}
 use Rattle.model.proofs.Sets.{size}
-use Rattle.prune_pairs.specs.Links.{ArcsPending}
+use Rattle.prune_pairs.specs.inner.Links.{ArcsPending}
 use Rattle.prune_pairs.proofs.ArcsLoop.{ArcsSoFar, arcs-begin, arcs-end, arcs-lt, arcs-ready, arcs-dead, arcs-turn, arcs-less}
 use Rattle.prune_pairs.proofs.arcs.Statement.{statement}
 use Rattle.prune_pairs.proofs.arcs.Tie as tie
@@ -17,7 +14,8 @@ abbrev μ-loop : tie.MeasureT-loop
 μ-loop sets₀ tables numbers dirty low left₀ all₀ sets left all = size sets * 2 ^ 64 + left
 
 -- the invariant in a turn, for the problem of the `requires`
-so-far : (c : tie.In-loop Inv-loop μ-loop) → let d = c .before .before in ArcsSoFar (d .pre .1 .0) (d .args .sets .now) (c .before .loop .sets) (c .before .loop .left) (c .before .loop .all) (d .args .low)
+so-far : (c : tie.In-loop Inv-loop μ-loop) → let d = c .before .before in ArcsSoFar (d .pre .1 .0) (d .args .sets .now) (c .before .loop .sets) (c .before .loop .left) (c .before .loop .all)
+    (d .args .low)
 so-far c = let q = c .before .before .pre .1 in c .before .loop .inv (q .0) (q .1)
 
 loop-holds : tie.Need-loop-holds Inv-loop μ-loop
@@ -65,14 +63,4 @@ pub arcs-spec : {M : Type 1} → statement M
 arcs-spec =
     tie.close
     (tie.spec
-    Inv-loop
-    μ-loop
-    loop-holds
-    cast-x
-    element-copy-out-cut-by
-    cut-by-requires
-    returns
-    sub-left
-    loop-less
-    loop-again
-    returns-2)
+    Inv-loop μ-loop loop-holds cast-x element-copy-out-cut-by cut-by-requires returns sub-left loop-less loop-again returns-2)

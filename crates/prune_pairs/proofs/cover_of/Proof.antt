@@ -1,13 +1,7 @@
 -- The loop: the cover of the values that are passed. The measure is the set of the values left, as a number. Assumes nothing.
-use mathlib.Core.Path.{_≡_, refl, sym, _∙_}
-use Prim.Native.Nat.{_<_}
-use lib.ListN.{replicate}
-use native.Mathlib.Omega.{arith}
-use borrow.Author.Needs.{needs}
-use borrow.Author.Tests.{eqb-true, eqb-false, not-true, not-false}
+use Rattle.model.specs.Kit.{_≡_, refl, sym, _∙_, _<_, replicate, arith, needs, eqb-true, eqb-false, not-true, not-false}
 use Rattle.model.specs.Lists.{at}
-use Rattle.model.proofs.Members.{lowest-left, others-less}
-use Rattle.model.proofs.Lists.{at-replicate}
+use Rattle.model.proofs.{Members.lowest-left, Members.others-less, Lists.at-replicate}
 use Rattle.prune_pairs.proofs.Covers.{Covering, covering-begin, covering-turn, covering-end, zeros, narrow-at}
 use Rattle.prune_pairs.proofs.cover_of.Statement.{statement}
 use Rattle.prune_pairs.proofs.cover_of.Tie as tie
@@ -56,7 +50,8 @@ loop-less : tie.Need-loop-less Inv-loop μ-loop
 loop-less c = others-less _ _ (search needs) (some (c .before .before .before .before)) (c .without-lowest .ensures)
 
 loop-again : tie.Need-loop-again Inv-loop μ-loop
-loop-again c = covering-turn (c .before .before .before .before .before .before .loop .inv) (some (c .before .before .before .before)) (c .before .before .before .lowest .ensures) _ (c .before .add .ensures) (c .without-lowest .ensures)
+loop-again c = covering-turn (c .before .before .before .before .before .before .loop .inv) (some (c .before .before .before .before)) (c .before .before .before .lowest .ensures) _
+    (c .before .add .ensures) (c .without-lowest .ensures)
 
 returns : tie.Need-returns Inv-loop μ-loop
 returns c = covering-end (c .before .before .loop .inv) (eqb-true _ 0 (sym (c .before .is-empty .ensures) ∙ not-false _ (c .if1 .left)))
@@ -65,17 +60,5 @@ pub cover-of-spec : {M : Type 1} → statement M
 cover-of-spec =
     tie.close
     (tie.spec
-    Inv-loop
-    μ-loop
-    loop-holds
-    is-empty-requires
-    lowest-requires
-    cast-v
-    mul-add
-    mul-add-2
-    add-add
-    add-requires
-    without-lowest-requires
-    loop-less
-    loop-again
+    Inv-loop μ-loop loop-holds is-empty-requires lowest-requires cast-v mul-add mul-add-2 add-add add-requires without-lowest-requires loop-less loop-again
     returns)

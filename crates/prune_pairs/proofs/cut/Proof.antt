@@ -1,8 +1,7 @@
 -- The loop: the sets from y on are cut, those before are as they came, and `changed` has those that are smaller. Assumes nothing.
-use native.Mathlib.Omega.{arith}
+use Rattle.model.specs.Kit.{arith}
 use Rattle.model.specs.Lists.{at}
-use Rattle.prune_pairs.proofs.Cuts.{Cutting, cutting-begin, cutting-end, cutting-dead, cutting-less, cutting-same}
-use Rattle.prune_pairs.proofs.cut.Statement.{statement}
+use Rattle.prune_pairs.proofs.{Cuts.Cutting, Cuts.cutting-begin, Cuts.cutting-end, Cuts.cutting-dead, Cuts.cutting-less, Cuts.cutting-same, cut.Statement.statement}
 use Rattle.prune_pairs.proofs.cut.Tie as tie
 
 abbrev Inv-loop : tie.InvT-loop
@@ -63,20 +62,5 @@ pub cut-spec : {M : Type 1} → statement M
 cut-spec =
     tie.close
     (tie.spec
-    Inv-loop
-    μ-loop
-    loop-holds
-    sub-y
-    mul-old
-    element-copy-out-old
-    mul-new
-    element-copy-out-new
-    returns
-    mul-sets
-    element-write-sets
-    shl-changed
-    loop-less
-    loop-again
-    loop-less-2
-    loop-again-2
-    returns-2)
+    Inv-loop μ-loop loop-holds sub-y mul-old element-copy-out-old mul-new element-copy-out-new returns mul-sets element-write-sets shl-changed loop-less
+    loop-again loop-less-2 loop-again-2 returns-2)

@@ -1,51 +1,9 @@
 -- One value cuts the sets by its row. A loose variable with two values and a cover of all sets leave nothing to do; else the sets are cut. Assumes nothing.
-use mathlib.Core.Path.{sym, _∙_}
-use native.Mathlib.Omega.{arith}
-use borrow.Author.Needs.{needs}
-use borrow.Author.Tests.{eqb-true, eqb-false}
+use Rattle.model.specs.Kit.{sym, _∙_, arith, needs, eqb-true, eqb-false}
 use Rattle.model.specs.Lists.{at}
 use Rattle.prune_pairs.proofs.OneCut.{x-lt, low-lt, ready-narrow, bit-in, by-loose, by-covered, by-cut, row-spared, by-row}
 use Rattle.prune_pairs.proofs.cut_by.Statement.{statement}
 use Rattle.prune_pairs.proofs.cut_by.Tie as tie
-
-mul-t10 : tie.Need-mul-t10
-mul-t10 c = search needs
-
-element-copy-out-t13 : tie.Need-element-copy-out-t13
-element-copy-out-t13 c = search needs
-
-without-lowest-requires : tie.Need-without-lowest-requires
-without-lowest-requires c κs = search needs
-
-is-empty-requires : tie.Need-is-empty-requires
-is-empty-requires c κs = search needs
-
-mul-base : tie.Need-mul-base
-mul-base c = search needs
-
-lowest-requires : tie.Need-lowest-requires
-lowest-requires c κs = search needs
-
-cast-base : tie.Need-cast-base
-cast-base c = search needs
-
-mul-base-2 : tie.Need-mul-base-2
-mul-base-2 c = search needs
-
-add-base : tie.Need-add-base
-add-base c = search needs
-
-add-cut-row : tie.Need-add-cut-row
-add-cut-row c = search needs
-
-mul-cut-row : tie.Need-mul-cut-row
-mul-cut-row c = search needs
-
-sub-cut-row : tie.Need-sub-cut-row
-sub-cut-row c = search needs
-
-part-cut-row-start : tie.Need-part-cut-row-start
-part-cut-row-start c = search needs
 
 part-cut-row-end : tie.Need-part-cut-row-end
 unfolding at
@@ -58,8 +16,12 @@ cut-row-requires : tie.Need-cut-row-requires
 unfolding at
 cut-row-requires c κs =
     let i = c .before .before .before in
-    let w = i .before .before .before .before .before .pre .1 in
-    (search needs, search needs, row-spared w (i .lowest .ensures) (sym (i .before .before .before .without-lowest .ensures) ∙ eqb-true _ 0 (sym (i .before .before .is-empty .ensures) ∙ i .before .if1 .taken)) (part-cut-row-end (c .before)))
+    let w = i .before .before .before .before .before .pre .1 in (
+      search needs,
+      search needs,
+      row-spared w (i .lowest .ensures) (sym (i .before .before .before .without-lowest .ensures) ∙ eqb-true _ 0
+          (sym (i .before .before .is-empty .ensures) ∙ i .before .if1 .taken)) (part-cut-row-end (c .before)),
+    )
 
 returns : tie.Need-returns
 unfolding at
@@ -67,9 +29,6 @@ returns c =
     let i = c .before .before .before .before in
     let e = eqb-true _ 0 (sym (i .before .before .is-empty .ensures) ∙ i .before .if1 .taken) in
     λ p w. by-row w (i .lowest .ensures) (sym (i .before .before .before .without-lowest .ensures) ∙ e) (part-cut-row-end (c .before .before)) (c .cut-row .ensures)
-
-shr-if2 : tie.Need-shr-if2
-shr-if2 c = search needs
 
 returns-2 : tie.Need-returns-2
 unfolding at
@@ -79,12 +38,6 @@ returns-2 c =
 
 cover-of-requires : tie.Need-cover-of-requires
 cover-of-requires c κs = let w = c .before .before .before .before .before .pre .1 in (x-lt w, ready-narrow w)
-
-exceeds-requires : tie.Need-exceeds-requires
-exceeds-requires c κs = search needs
-
-cut-requires : tie.Need-cut-requires
-cut-requires c κs = search needs
 
 returns-3 : tie.Need-returns-3
 unfolding at
@@ -98,26 +51,6 @@ pub cut-by-spec : {M : Type 1} → statement M
 cut-by-spec =
     tie.close
     (tie.spec
-    mul-t10
-    element-copy-out-t13
-    without-lowest-requires
-    is-empty-requires
-    mul-base
-    lowest-requires
-    cast-base
-    mul-base-2
-    add-base
-    add-cut-row
-    mul-cut-row
-    sub-cut-row
-    part-cut-row-start
-    part-cut-row-end
-    cut-row-requires
-    returns
-    shr-if2
-    returns-2
-    cover-of-requires
-    exceeds-requires
-    cut-requires
-    returns-3
-    returns-4)
+    (λ c. search needs) (λ c. search needs) (λ c κs. search needs) (λ c κs. search needs) (λ c. search needs) (λ c κs. search needs) (λ c. search needs)
+    (λ c. search needs) (λ c. search needs) (λ c. search needs) (λ c. search needs) (λ c. search needs) (λ c. search needs) part-cut-row-end cut-row-requires
+    returns (λ c. search needs) returns-2 cover-of-requires (λ c κs. search needs) (λ c κs. search needs) returns-3 returns-4)

@@ -1,8 +1,7 @@
 -- The loop, as in `cut`, over a row: the sets from y on are cut, those before are as they came (of those below `low` nothing would go), and `changed` has those that are smaller. Assumes nothing.
-use native.Mathlib.Omega.{arith}
+use Rattle.model.specs.Kit.{arith}
 use Rattle.model.specs.Lists.{at}
-use Rattle.prune_pairs.proofs.Cuts.{Cutting, cutting-begin, cutting-end, cutting-dead, cutting-less, cutting-same}
-use Rattle.prune_pairs.proofs.cut_row.Statement.{statement}
+use Rattle.prune_pairs.proofs.{Cuts.Cutting, Cuts.cutting-begin, Cuts.cutting-end, Cuts.cutting-dead, Cuts.cutting-less, Cuts.cutting-same, cut_row.Statement.statement}
 use Rattle.prune_pairs.proofs.cut_row.Tie as tie
 
 abbrev Inv-loop : tie.InvT-loop
@@ -63,20 +62,5 @@ pub cut-row-spec : {M : Type 1} → statement M
 cut-row-spec =
     tie.close
     (tie.spec
-    Inv-loop
-    μ-loop
-    loop-holds
-    sub-y
-    mul-old
-    element-copy-out-old
-    mul-new
-    shared-slice-read-new
-    returns
-    mul-sets
-    element-write-sets
-    shl-changed
-    loop-less
-    loop-again
-    loop-less-2
-    loop-again-2
-    returns-2)
+    Inv-loop μ-loop loop-holds sub-y mul-old element-copy-out-old mul-new shared-slice-read-new returns mul-sets element-write-sets shl-changed loop-less
+    loop-again loop-less-2 loop-again-2 returns-2)

@@ -1,9 +1,7 @@
 -- The loop: a value outside the cover, of the sets passed, is in `over`. Assumes nothing.
-use Prim.Native.Nat.{_-_}
-use native.Mathlib.Omega.{arith}
+use Rattle.model.specs.Kit.{_-_, arith}
 use Rattle.model.specs.Lists.{at}
-use Rattle.prune_pairs.proofs.Covers.{Compared, compared-begin, compared-turn, compared-end, ne-false}
-use Rattle.prune_pairs.proofs.exceeds.Statement.{statement}
+use Rattle.prune_pairs.proofs.{Covers.Compared, Covers.compared-begin, Covers.compared-turn, Covers.compared-end, Covers.ne-false, exceeds.Statement.statement}
 use Rattle.prune_pairs.proofs.exceeds.Tie as tie
 
 abbrev Inv-loop : tie.InvT-loop
@@ -44,14 +42,4 @@ pub exceeds-spec : {M : Type 1} → statement M
 exceeds-spec =
     tie.close
     (tie.spec
-    Inv-loop
-    μ-loop
-    loop-holds
-    mul-over
-    element-copy-out-over
-    mul-over-2
-    element-copy-out-over-2
-    add-y
-    loop-less
-    loop-again
-    returns)
+    Inv-loop μ-loop loop-holds mul-over element-copy-out-over mul-over-2 element-copy-out-over-2 add-y loop-less loop-again returns)

@@ -1,22 +1,7 @@
 -- Nothing is stored where no set has a value of the table's. Assumes nothing.
-use mathlib.Core.Path.{refl}
-use native.Mathlib.Omega.{arith}
-use Rattle.prune_symmetries.proofs.ImageTables.{first-lt, cut-missed, cut-taken}
-use borrow.Author.Needs.{needs}
-use Rattle.prune_symmetries.proofs.cut.Statement.{statement}
+use Rattle.model.specs.Kit.{refl, arith, needs}
+use Rattle.prune_symmetries.proofs.{ImageTables.first-lt, ImageTables.cut-missed, ImageTables.cut-taken, cut.Statement.statement}
 use Rattle.prune_symmetries.proofs.cut.Tie as tie
-
-mul-first : tie.Need-mul-first
-mul-first c = search needs
-
-add-first : tie.Need-add-first
-add-first c = search needs
-
-mul-first-2 : tie.Need-mul-first-2
-mul-first-2 c = search needs
-
-add-first-2 : tie.Need-add-first-2
-add-first-2 c = search needs
 
 mul-first-3 : tie.Need-mul-first-3
 mul-first-3 c = let b = first-lt (c .pre .1) .2 in search needs
@@ -31,7 +16,8 @@ returns : tie.Need-returns
 returns c = (refl, λ p w. cut-missed w (c .before .hits .result) (c .before .hits .ensures) (c .if1 .taken))
 
 take-requires : tie.Need-take-requires
-take-requires c κs = let a = first-lt (c .before .before .before .before .pre .1) .0 in let b = first-lt (c .before .before .before .before .pre .1) .1 in let d = first-lt (c .before .before .before .before .pre .1) .2 in (c .before .before .before .before .pre .1 .held .live .sixteen, omega arith)
+take-requires c κs = let a = first-lt (c .before .before .before .before .pre .1) .0 in let b = first-lt (c .before .before .before .before .pre .1) .1 in let d = first-lt
+    (c .before .before .before .before .pre .1) .2 in (c .before .before .before .before .pre .1 .held .live .sixteen, omega arith)
 
 returns-2 : tie.Need-returns-2
 returns-2 c = (c .take .ensures .sixteen, λ p w. cut-taken w (c .take .last .0) (c .take .result) (c .take .ensures))
@@ -40,13 +26,4 @@ pub cut-spec : {M : Type 1} → statement M
 cut-spec =
     tie.close
     (tie.spec
-    mul-first
-    add-first
-    mul-first-2
-    add-first-2
-    mul-first-3
-    add-first-3
-    hits-requires
-    returns
-    take-requires
-    returns-2)
+    (λ c. search needs) (λ c. search needs) (λ c. search needs) (λ c. search needs) mul-first-3 add-first-3 hits-requires returns take-requires returns-2)

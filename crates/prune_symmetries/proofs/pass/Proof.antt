@@ -1,15 +1,9 @@
 -- The loop's invariant: the levels from the start to j are passed. Assumes nothing.
-use mathlib.Core.Path.{_≡_, refl, _∙_}
-use Prim.Native.Nat.{_-_}
-use native.Mathlib.Omega.{arith}
-use lib.ListN.{length}
-use borrow.Author.Needs.{needs}
-use Rattle.model.specs.Lists.{at}
-use Rattle.model.specs.Problem.{Problem}
-use Rattle.prune_symmetries.specs.Levels.{Ready}
+use Rattle.model.specs.Kit.{_≡_, refl, _∙_, _-_, arith, length, needs}
+use Rattle.model.specs.{Lists.at, Problem.Problem}
+use Rattle.prune_symmetries.specs.inner.Levels.{Ready}
 use Rattle.prune_symmetries.proofs.Turns.{Passing, passing-none, ends, turn-asks, turn-next, turn-failed, turn-obeyed, turn-split}
-use Rattle.prune_symmetries.proofs.Splits.{short}
-use Rattle.prune_symmetries.proofs.pass.Statement.{statement}
+use Rattle.prune_symmetries.proofs.{Splits.short, pass.Statement.statement}
 use Rattle.prune_symmetries.proofs.pass.Tie as tie
 
 abbrev Inv-loop : tie.InvT-loop
@@ -29,7 +23,8 @@ element-copy-out-level c = search needs
 
 level-requires : tie.Need-level-requires Inv-loop μ-loop
 unfolding at
-level-requires c κs = let p = c .before .before .before .before .pre .0 in let w = c .before .before .before .before .pre .1 in (p, turn-asks w (c .before .before .before .loop .inv .1 p w) (c .before .before .loop-test .taken))
+level-requires c κs = let p = c .before .before .before .before .pre .0 in let w = c .before .before .before .before .pre .1 in
+    (p, turn-asks w (c .before .before .before .loop .inv .1 p w) (c .before .before .loop-test .taken))
 
 enum-told : tie.Need-enum-told Inv-loop μ-loop
 enum-told c = search needs
@@ -39,21 +34,39 @@ enum-told-2 c = search needs
 
 returns : tie.Need-returns Inv-loop μ-loop
 unfolding at
-returns c = (c .before .before .level .ensures .0 ∙ c .before .before .before .before .before .before .loop .inv .0, λ p w. turn-failed w (c .before .before .before .before .before .before .loop .inv .1 p w) (c .before .before .before .before .before .loop-test .taken) (c .before .before .level .last .0) (c .before .before .level .result) (c .before .before .level .ensures .1 p (turn-asks w (c .before .before .before .before .before .before .loop .inv .1 p w) (c .before .before .before .before .before .loop-test .taken))) (c .enum-told2 .given .1))
+returns c = (
+  c .before .before .level .ensures .0 ∙ c .before .before .before .before .before .before .loop .inv .0,
+  λ p w. turn-failed w
+      (c .before .before .before .before .before .before .loop .inv .1 p w) (c .before .before .before .before .before .loop-test .taken) (c .before .before .level .last .0)
+      (c .before .before .level .result) (c .before .before .level .ensures .1 p (turn-asks w (c .before .before .before .before .before .before .loop .inv .1 p w)
+      (c .before .before .before .before .before .loop-test .taken))) (c .enum-told2 .given .1),
+)
 
 enum-told-3 : tie.Need-enum-told-3 Inv-loop μ-loop
 enum-told-3 c = search needs
 
 returns-2 : tie.Need-returns-2 Inv-loop μ-loop
 unfolding at
-returns-2 c = (c .before .before .level .ensures .0 ∙ c .before .before .before .before .before .before .loop .inv .0, λ p w. turn-obeyed w (c .before .before .before .before .before .before .loop .inv .1 p w) (c .before .before .before .before .before .loop-test .taken) (c .before .before .level .last .0) (c .before .before .level .result) (c .before .before .level .ensures .1 p (turn-asks w (c .before .before .before .before .before .before .loop .inv .1 p w) (c .before .before .before .before .before .loop-test .taken))) (c .enum-told3 .given .1))
+returns-2 c = (
+  c .before .before .level .ensures .0 ∙ c .before .before .before .before .before .before .loop .inv .0,
+  λ p w. turn-obeyed w
+      (c .before .before .before .before .before .before .loop .inv .1 p w) (c .before .before .before .before .before .loop-test .taken) (c .before .before .level .last .0)
+      (c .before .before .level .result) (c .before .before .level .ensures .1 p (turn-asks w (c .before .before .before .before .before .before .loop .inv .1 p w)
+      (c .before .before .before .before .before .loop-test .taken))) (c .enum-told3 .given .1),
+)
 
 enum-told-4 : tie.Need-enum-told-4 Inv-loop μ-loop
 enum-told-4 c = search needs
 
 returns-3 : tie.Need-returns-3 Inv-loop μ-loop
 unfolding at
-returns-3 c = (c .before .before .level .ensures .0 ∙ c .before .before .before .before .before .before .loop .inv .0, λ p w. turn-split w (c .before .before .before .before .before .before .loop .inv .1 p w) (c .before .before .before .before .before .loop-test .taken) (c .before .before .level .last .0) (c .before .before .level .result) (c .before .before .level .ensures .1 p (turn-asks w (c .before .before .before .before .before .before .loop .inv .1 p w) (c .before .before .before .before .before .loop-test .taken))) (c .enum-told4 .given .1))
+returns-3 c = (
+  c .before .before .level .ensures .0 ∙ c .before .before .before .before .before .before .loop .inv .0,
+  λ p w. turn-split w
+      (c .before .before .before .before .before .before .loop .inv .1 p w) (c .before .before .before .before .before .loop-test .taken) (c .before .before .level .last .0)
+      (c .before .before .level .result) (c .before .before .level .ensures .1 p (turn-asks w (c .before .before .before .before .before .before .loop .inv .1 p w)
+      (c .before .before .before .before .before .loop-test .taken))) (c .enum-told4 .given .1),
+)
 
 add-j : tie.Need-add-j Inv-loop μ-loop
 add-j c = search needs
@@ -63,7 +76,13 @@ loop-less c = search needs
 
 loop-again : tie.Need-loop-again Inv-loop μ-loop
 unfolding at
-loop-again c = (c .before .before .level .ensures .0 ∙ c .before .before .before .before .before .before .loop .inv .0, λ p w. turn-next w (c .before .before .before .before .before .before .loop .inv .1 p w) (c .before .before .before .before .before .loop-test .taken) (c .before .before .level .last .0) (c .before .before .level .result) (c .before .before .level .ensures .1 p (turn-asks w (c .before .before .before .before .before .before .loop .inv .1 p w) (c .before .before .before .before .before .loop-test .taken))) (c .enum-told .given .1))
+loop-again c = (
+  c .before .before .level .ensures .0 ∙ c .before .before .before .before .before .before .loop .inv .0,
+  λ p w. turn-next w
+      (c .before .before .before .before .before .before .loop .inv .1 p w) (c .before .before .before .before .before .loop-test .taken) (c .before .before .level .last .0)
+      (c .before .before .level .result) (c .before .before .level .ensures .1 p (turn-asks w (c .before .before .before .before .before .before .loop .inv .1 p w)
+      (c .before .before .before .before .before .loop-test .taken))) (c .enum-told .given .1),
+)
 
 mul-result : tie.Need-mul-result Inv-loop μ-loop
 mul-result c = let p = c .before .before .pre in omega (arith, short (p .1))
@@ -78,22 +97,5 @@ pub pass-spec : {M : Type 1} → statement M
 pass-spec =
     tie.close
     (tie.spec
-    Inv-loop
-    μ-loop
-    loop-holds
-    mul-level
-    element-copy-out-level
-    level-requires
-    enum-told
-    enum-told-2
-    returns
-    enum-told-3
-    returns-2
-    enum-told-4
-    returns-3
-    add-j
-    loop-less
-    loop-again
-    mul-result
-    add-result
-    returns-4)
+    Inv-loop μ-loop loop-holds mul-level element-copy-out-level level-requires enum-told enum-told-2 returns enum-told-3 returns-2 enum-told-4 returns-3 add-j
+    loop-less loop-again mul-result add-result returns-4)

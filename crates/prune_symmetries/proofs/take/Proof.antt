@@ -1,9 +1,7 @@
 -- The loop's invariant: the sets before y lost the table's. Assumes nothing.
-use Prim.Native.Nat.{_-_}
+use Rattle.model.specs.Kit.{_-_, needs}
 use Rattle.model.specs.Lists.{at}
-use Rattle.prune_symmetries.proofs.Cuts.{Taking, taking-none, taking-next, taken}
-use borrow.Author.Needs.{needs}
-use Rattle.prune_symmetries.proofs.take.Statement.{statement}
+use Rattle.prune_symmetries.proofs.{Cuts.Taking, Cuts.taking-none, Cuts.taking-next, Cuts.taken, take.Statement.statement}
 use Rattle.prune_symmetries.proofs.take.Tie as tie
 
 abbrev Inv-loop : tie.InvT-loop
@@ -53,17 +51,4 @@ pub take-spec : {M : Type 1} → statement M
 take-spec =
     tie.close
     (tie.spec
-    Inv-loop
-    μ-loop
-    loop-holds
-    mul-t
-    element-copy-out-t
-    add-t
-    mul-t-2
-    element-copy-out-t-2
-    mul-sets
-    element-write-sets
-    add-y
-    loop-less
-    loop-again
-    returns)
+    Inv-loop μ-loop loop-holds mul-t element-copy-out-t add-t mul-t-2 element-copy-out-t-2 mul-sets element-write-sets add-y loop-less loop-again returns)

@@ -1,16 +1,12 @@
 -- `put_digits`: the digits before the last are those of the tenth part. The measure is the number. Assumes nothing.
-use mathlib.Core.Path.{_∙_}
-use native.Mathlib.Omega.{arith}
-use Rattle.report.proofs.Digits.{length-one, length-more, put-one, put-more}
-use Prim.Native.Nat.{ℕ, _<_}
+use Rattle.model.specs.Kit.{_∙_, arith, ℕ, _<_}
 use borrow.Fn.Kinds.{In}
 use borrow.Fn.PlainCycle.{Measures, is, falls, and}
+use Rattle.report.proofs.{Digits.length-one, Digits.length-more, Digits.put-one, Digits.put-more, +put_digits.statement, +put_digits.Tie.close}
 use Rattle.report.proofs.put_digits.Reads as put-digits
 use Rattle.report.proofs.put_digits.Kinds as put-digits-kinds
 use Rattle.report.proofs.+put_digits.Lts-put_digits as put-digits-lts
 use Rattle.report.proofs.put_byte.Reads as put-byte-reads
-use Rattle.report.proofs.+put_digits.{statement}
-use Rattle.report.proofs.+put_digits.Tie.{close}
 
 abbrev μ-put-digits : Measures 1 put-digits-kinds.ps ℕ
 μ-put-digits κs a = a .1 .1 .0

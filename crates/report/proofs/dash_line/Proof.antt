@@ -1,13 +1,8 @@
 -- `dash_line`: the word, two numbers of at most 20 digits, and the dash. Assumes nothing.
-use native.Mathlib.Omega.{arith}
+use Rattle.model.specs.Kit.{arith, needs}
 use Rattle.model.proofs.Written.{fronted}
-use Rattle.report.proofs.Lines.{field-most, put-dash}
-use borrow.Author.Needs.{needs}
-use Rattle.report.proofs.dash_line.Statement.{statement}
+use Rattle.report.proofs.{Lines.field-most, Lines.put-dash, dash_line.Statement.statement}
 use Rattle.report.proofs.dash_line.Tie as tie
-
-put-requires : tie.Need-put-requires
-put-requires c κs = search needs
 
 put-number-requires : tie.Need-put-number-requires
 put-number-requires c κs =
@@ -22,19 +17,24 @@ put-number-requires-2 c κs =
     let s = p .before .before .before .before in
     omega (arith, field-most (s .args .plans), field-most (s .args .nodes), p .put .ensures .ends, p .put .kept .0, q .put-number .ensures .ends, q .put-number .kept .0, s .pre)
 
-slice-aggregate-put : tie.Need-slice-aggregate-put
-slice-aggregate-put c = search needs
-
 put-requires-2 : tie.Need-put-requires-2
 put-requires-2 c κs =
     let t = c .before .before .before .before in
     let q = t .before .before .before .before in
     let p = q .before .before .before .before in
     let s = p .before .before .before .before in
-    omega (arith, field-most (s .args .plans), field-most (s .args .nodes), p .put .ensures .ends, p .put .kept .0, q .put-number .ensures .ends, q .put-number .kept .0, t .put-number2 .ensures .ends, t .put-number2 .kept .0, s .pre)
-
-same-length : tie.Need-same-length
-same-length c = search needs
+    omega (
+      arith,
+      field-most (s .args .plans),
+      field-most (s .args .nodes),
+      p .put .ensures .ends,
+      p .put .kept .0,
+      q .put-number .ensures .ends,
+      q .put-number .kept .0,
+      t .put-number2 .ensures .ends,
+      t .put-number2 .kept .0,
+      s .pre,
+    )
 
 returns : tie.Need-returns
 returns c =
@@ -55,10 +55,4 @@ pub dash-line-spec : {M : Type 1} → statement M
 dash-line-spec =
     tie.close
     (tie.spec
-    put-requires
-    put-number-requires
-    put-number-requires-2
-    slice-aggregate-put
-    put-requires-2
-    same-length
-    returns)
+    (λ c κs. search needs) put-number-requires put-number-requires-2 (λ c. search needs) put-requires-2 (λ c. search needs) returns)

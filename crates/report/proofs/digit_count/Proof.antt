@@ -1,8 +1,6 @@
 -- `digit_count`: one digit below 10, two below 100. Assumes nothing.
-use mathlib.Core.Path.{sym}
-use native.Mathlib.Omega.{arith}
-use Rattle.report.proofs.Digits.{length-one, length-two, length-three}
-use Rattle.report.proofs.digit_count.Statement.{statement}
+use Rattle.model.specs.Kit.{sym, arith}
+use Rattle.report.proofs.{Digits.length-one, Digits.length-two, Digits.length-three, digit_count.Statement.statement}
 use Rattle.report.proofs.digit_count.Tie as tie
 
 returns : tie.Need-returns

@@ -1,15 +1,9 @@
 -- `lines_length`: after i turns five bytes a plan and the fields of the first i values are counted. Assumes nothing.
-use mathlib.Core.Path.{_≡_, ap}
-use mathlib.Core.List.{List}
-use Prim.Native.Nat.{ℕ, _+_, _*_, _-_, _≤_, _<_}
+use Rattle.model.specs.Kit.{_≡_, ap, List, ℕ, _+_, _*_, _-_, _≤_, _<_, arith, length, take, needs}
 use native.Mathlib.Nat.{mul-le-mul-left}
-use native.Mathlib.Omega.{arith}
-use lib.ListN.{length, take}
 use Rattle.model.specs.Lists.{flat}
-use Rattle.report.specs.Text.{fields}
-use Rattle.report.proofs.Lines.{fields-step, lines-length}
-use borrow.Author.Needs.{needs}
-use Rattle.report.proofs.lines_length.Statement.{statement}
+use Rattle.report.specs.inner.Text.{fields}
+use Rattle.report.proofs.{Lines.fields-step, Lines.lines-length, lines_length.Statement.statement}
 use Rattle.report.proofs.lines_length.Tie as tie
 
 abbrev Inv-loop : tie.InvT-loop
@@ -84,16 +78,5 @@ pub lines-length-spec : {M : Type 1} → statement M
 lines-length-spec =
     tie.close
     (tie.spec
-    Inv-loop
-    μ-loop
-    mul-values
-    mul-length
-    loop-holds
-    shared-slice-read-digit-count
-    digit-count-requires
-    add-length
-    add-length-2
-    add-i
-    loop-less
-    loop-again
+    Inv-loop μ-loop mul-values mul-length loop-holds shared-slice-read-digit-count digit-count-requires add-length add-length-2 add-i loop-less loop-again
     returns)

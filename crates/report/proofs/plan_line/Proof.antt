@@ -1,12 +1,7 @@
 -- `plan_line`: the word, the row, and the newline. Assumes nothing.
-use native.Mathlib.Omega.{arith}
-use Rattle.report.proofs.Lines.{line-length, put-line}
-use borrow.Author.Needs.{needs}
-use Rattle.report.proofs.plan_line.Statement.{statement}
+use Rattle.model.specs.Kit.{arith, needs}
+use Rattle.report.proofs.{Lines.line-length, Lines.put-line, plan_line.Statement.statement}
 use Rattle.report.proofs.plan_line.Tie as tie
-
-slice-aggregate-put : tie.Need-slice-aggregate-put
-slice-aggregate-put c = search needs
 
 put-requires : tie.Need-put-requires
 put-requires c κs = let s = c .before .before .before .before in omega (arith, line-length (s .args .row .now), s .pre)
@@ -24,24 +19,17 @@ put-byte-requires c κs =
     let s = p .before .before .before .before .before in
     omega (arith, line-length (s .args .row .now), p .put .ensures .ends, p .put .kept .0, q .put-row .ensures .ends, q .put-row .kept .0, s .pre)
 
-same-length : tie.Need-same-length
-same-length c = search needs
-
 returns : tie.Need-returns
 returns c =
     let v = c .before .before in
     let q = v .before .before .before .before in
     let p = q .before .before .before .before in
     let s = p .before .before .before .before .before in
-    put-line (s .args .row .now) (omega (arith, line-length (s .args .row .now), q .put-row .ensures .ends, p .put .ensures .ends, s .pre)) (p .put .ensures) (q .put-row .ensures) (v .put-byte .ensures)
+    put-line (s .args .row .now) (omega (arith, line-length (s .args .row .now), q .put-row .ensures .ends, p .put .ensures .ends, s .pre)) (p .put .ensures) (q .put-row .ensures)
+    (v .put-byte .ensures)
 
 pub plan-line-spec : {M : Type 1} → statement M
 plan-line-spec =
     tie.close
     (tie.spec
-    slice-aggregate-put
-    put-requires
-    put-row-requires
-    put-byte-requires
-    same-length
-    returns)
+    (λ c. search needs) put-requires put-row-requires put-byte-requires (λ c. search needs) returns)

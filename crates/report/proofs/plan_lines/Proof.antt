@@ -1,19 +1,10 @@
 -- `plan_lines`: after i turns the lines of the first i rows stand at the front. Assumes nothing.
-use mathlib.Core.Path.{_≡_, refl, sym, ap, _∙_, subst}
-use mathlib.Core.List.{List}
-use Prim.Native.Nat.{ℕ, _+_, _*_, _-_, _≤_}
-use native.Mathlib.Nat.{zero-mul, suc-mul}
-use native.Mathlib.Numerals.{add-one}
-use native.Mathlib.Omega.{arith}
-use borrow.Author.Needs.{needs}
-use lib.ListN.{length}
-use Rattle.model.specs.Lists.{flat}
-use Rattle.model.specs.Run.{listedPlans}
-use Rattle.report.specs.Text.{planLines}
-use Rattle.model.specs.Written.{Written}
+use Rattle.model.specs.Kit.{_≡_, refl, sym, ap, _∙_, subst, List, ℕ, _+_, _*_, _-_, _≤_, suc-mul, add-one, arith, needs, length}
+use native.Mathlib.Nat.{zero-mul}
+use Rattle.model.specs.{Lists.flat, Run.listedPlans, Written.Written}
+use Rattle.report.specs.inner.Text.{planLines}
 use Rattle.model.proofs.Written.{written-none}
-use Rattle.report.proofs.Lines.{row-inside, plans-turn, lines-step, lines-fit}
-use Rattle.report.proofs.plan_lines.Statement.{statement}
+use Rattle.report.proofs.{Lines.row-inside, Lines.plans-turn, Lines.lines-step, Lines.lines-fit, plan_lines.Statement.statement}
 use Rattle.report.proofs.plan_lines.Tie as tie
 
 abbrev Inv-loop : tie.InvT-loop
@@ -55,7 +46,14 @@ plan-line-requires c κs =
     let l = c .before .before .before in
     let s = l .before .before .before in
     let a = s .args in
-    omega (arith, lines-step (a .n) (l .loop .i) (l .loop .at) (a .list .now) (l .loop .inv .2), lines-fit (a .n) (l .loop .i) (a .plans) (a .list .now) (c .before .before .loop-test .taken), l .loop .inv .1, l .loop .inv .3 .ends, s .pre .1)
+    omega (
+      arith,
+      lines-step (a .n) (l .loop .i) (l .loop .at) (a .list .now) (l .loop .inv .2),
+      lines-fit (a .n) (l .loop .i) (a .plans) (a .list .now) (c .before .before .loop-test .taken),
+      l .loop .inv .1,
+      l .loop .inv .3 .ends,
+      s .pre .1,
+    )
 
 add-at : tie.Need-add-at Inv-loop μ-loop
 add-at c = omega (arith, inside (c .before .before .before .before .before))
@@ -77,7 +75,14 @@ loop-again c =
       p .plan-line .kept .0 ∙ l .loop .inv .1,
       ap (λ (k : ℕ). k + n) (l .loop .inv .2) ∙ sym (suc-mul i n) ∙ ap (λ (k : ℕ). k * n) (sym (add-one i)),
       plans-turn n i (l .loop .at) (s .args .list .now) (l .loop .inv .2)
-          (omega (arith, lines-step n i (l .loop .at) (s .args .list .now) (l .loop .inv .2), lines-fit n i (s .args .plans) (s .args .list .now) (c .before .before .before .before .before .loop-test .taken), l .loop .inv .3 .ends, s .pre .1))
+          (omega (
+            arith,
+            lines-step n i (l .loop .at) (s .args .list .now) (l .loop .inv .2),
+            lines-fit n i (s .args .plans) (s .args .list .now)
+                (c .before .before .before .before .before .loop-test .taken),
+            l .loop .inv .3 .ends,
+            s .pre .1,
+          ))
           (l .loop .inv .3) (p .plan-line .ensures),
     )
 
@@ -95,17 +100,5 @@ pub plan-lines-spec : {M : Type 1} → statement M
 plan-lines-spec =
     tie.close
     (tie.spec
-    Inv-loop
-    μ-loop
-    loop-holds
-    add-plan-line
-    sub-plan-line
-    part-plan-line-start
-    part-plan-line-end
-    plan-line-requires
-    add-at
-    add-i
-    loop-less
-    loop-again
-    same-length
-    returns)
+    Inv-loop μ-loop loop-holds add-plan-line sub-plan-line part-plan-line-start part-plan-line-end plan-line-requires add-at add-i loop-less loop-again
+    same-length returns)

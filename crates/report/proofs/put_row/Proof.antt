@@ -1,16 +1,9 @@
 -- `put_row`: after i turns the first i values are put. Assumes nothing.
-use mathlib.Core.Path.{_≡_, refl, _∙_}
-use mathlib.Core.List.{List, []}
-use Prim.Native.Nat.{ℕ, _+_, _-_, _≤_}
-use native.Mathlib.Omega.{arith}
-use borrow.Author.Needs.{needs}
-use lib.ListN.{length, take}
-use Rattle.model.specs.Lists.{flat}
-use Rattle.report.specs.Text.{fields}
-use Rattle.model.specs.Written.{Written}
+use Rattle.model.specs.Kit.{_≡_, refl, _∙_, List, [], ℕ, _+_, _-_, _≤_, arith, needs, length, take}
+use Rattle.model.specs.{Lists.flat, Written.Written}
+use Rattle.report.specs.inner.Text.{fields}
 use Rattle.model.proofs.Written.{written-none}
-use Rattle.report.proofs.Lines.{fields-step, fields-part, row-turn, row-whole}
-use Rattle.report.proofs.put_row.Statement.{statement}
+use Rattle.report.proofs.{Lines.fields-step, Lines.fields-part, Lines.row-turn, Lines.row-whole, put_row.Statement.statement}
 use Rattle.report.proofs.put_row.Tie as tie
 
 abbrev Inv-loop : tie.InvT-loop
@@ -56,7 +49,8 @@ loop-again c =
     let row = s .args .row .now in (
       omega arith,
       p .put-number .kept .0 ∙ l .loop .inv .1,
-      row-turn row (c .before .before .before .before .before .loop-test .taken) (omega (arith, fields-part row (l .loop .i), l .loop .inv .2 .ends, s .pre)) (l .loop .inv .2) (p .put-number .ensures),
+      row-turn row (c .before .before .before .before .before .loop-test .taken) (omega (arith, fields-part row (l .loop .i), l .loop .inv .2 .ends, s .pre)) (l .loop .inv .2)
+          (p .put-number .ensures),
     )
 
 same-length : tie.Need-same-length Inv-loop μ-loop
@@ -69,14 +63,4 @@ pub put-row-spec : {M : Type 1} → statement M
 put-row-spec =
     tie.close
     (tie.spec
-    Inv-loop
-    μ-loop
-    loop-holds
-    shared-slice-read-put-number
-    cast-put-number
-    put-number-requires
-    add-i
-    loop-less
-    loop-again
-    same-length
-    returns)
+    Inv-loop μ-loop loop-holds shared-slice-read-put-number cast-put-number put-number-requires add-i loop-less loop-again same-length returns)

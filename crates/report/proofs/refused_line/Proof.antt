@@ -1,16 +1,8 @@
 -- `refused_line`: the word, two numbers of at most 20 digits, and the newline. Assumes nothing.
-use native.Mathlib.Omega.{arith}
+use Rattle.model.specs.Kit.{arith, needs}
 use Rattle.model.proofs.Written.{fronted}
-use Rattle.report.proofs.Lines.{field-most, put-two}
-use borrow.Author.Needs.{needs}
-use Rattle.report.proofs.refused_line.Statement.{statement}
+use Rattle.report.proofs.{Lines.field-most, Lines.put-two, refused_line.Statement.statement}
 use Rattle.report.proofs.refused_line.Tie as tie
-
-slice-aggregate-put : tie.Need-slice-aggregate-put
-slice-aggregate-put c = search needs
-
-put-requires : tie.Need-put-requires
-put-requires c κs = search needs
 
 put-number-requires : tie.Need-put-number-requires
 put-number-requires c κs =
@@ -31,10 +23,18 @@ put-byte-requires c κs =
     let q = t .before .before .before .before in
     let p = q .before .before .before .before in
     let s = p .before .before .before .before in
-    omega (arith, field-most (s .args .number), field-most (s .args .item), p .put .ensures .ends, p .put .kept .0, q .put-number .ensures .ends, q .put-number .kept .0, t .put-number2 .ensures .ends, t .put-number2 .kept .0, s .pre)
-
-same-length : tie.Need-same-length
-same-length c = search needs
+    omega (
+      arith,
+      field-most (s .args .number),
+      field-most (s .args .item),
+      p .put .ensures .ends,
+      p .put .kept .0,
+      q .put-number .ensures .ends,
+      q .put-number .kept .0,
+      t .put-number2 .ensures .ends,
+      t .put-number2 .kept .0,
+      s .pre,
+    )
 
 returns : tie.Need-returns
 returns c =
@@ -55,10 +55,4 @@ pub refused-line-spec : {M : Type 1} → statement M
 refused-line-spec =
     tie.close
     (tie.spec
-    slice-aggregate-put
-    put-requires
-    put-number-requires
-    put-number-requires-2
-    put-byte-requires
-    same-length
-    returns)
+    (λ c. search needs) (λ c κs. search needs) put-number-requires put-number-requires-2 put-byte-requires (λ c. search needs) returns)

@@ -1,23 +1,10 @@
 -- `uncounted`: the lines of the plans, then the line of the ending. Assumes nothing.
-use mathlib.Core.Path.{sym}
-use native.Mathlib.Omega.{arith}
-use lib.Seq.{length-take-le}
+use Rattle.model.specs.Kit.{sym, arith, length-take-le, needs}
 use Rattle.model.specs.Run.{finished}
 use Rattle.families_figure.specs.Figure.{dash}
 use Rattle.report.specs.Report.{endingLine}
-use Rattle.report.proofs.Lines.{front-taken, front-inside, ended-fits}
-use borrow.Author.Needs.{needs}
-use Rattle.report.proofs.uncounted.Statement.{statement}
+use Rattle.report.proofs.{Lines.front-taken, Lines.front-inside, Lines.ended-fits, uncounted.Statement.statement}
 use Rattle.report.proofs.uncounted.Tie as tie
-
-slice-aggregate-dash-line : tie.Need-slice-aggregate-dash-line
-slice-aggregate-dash-line c = search needs
-
-slice-aggregate-dash-line-2 : tie.Need-slice-aggregate-dash-line-2
-slice-aggregate-dash-line-2 c = search needs
-
-dash-line-requires : tie.Need-dash-line-requires
-dash-line-requires c κs = search needs
 
 array-share-prefix-last : tie.Need-array-share-prefix-last
 array-share-prefix-last c = front-inside (c .before .dash-line .ensures)
@@ -30,9 +17,6 @@ put-report-requires c κs =
     let l = c .before .before .before .dash-line in
     (search needs, search needs, search needs, omega (arith, length-take-le (l .result) (l .last .0) (front-inside (l .ensures)), front-inside (l .ensures), l .kept .0))
 
-same-length : tie.Need-same-length
-same-length c = search needs
-
 returns : tie.Need-returns
 unfolding endingLine
 returns c =
@@ -44,11 +28,5 @@ pub uncounted-spec : {M : Type 1} → statement M
 uncounted-spec =
     tie.close
     (tie.spec
-    slice-aggregate-dash-line
-    slice-aggregate-dash-line-2
-    dash-line-requires
-    array-share-prefix-last
-    slice-aggregate-put-report
-    put-report-requires
-    same-length
+    (λ c. search needs) (λ c. search needs) (λ c κs. search needs) array-share-prefix-last slice-aggregate-put-report put-report-requires (λ c. search needs)
     returns)

@@ -1,30 +1,17 @@
 -- `run::answered` meets its contract. Assumes nothing.
-use mathlib.Core.Path.{_≡_, refl, sym}
-use native.Mathlib.Omega.{arith}
-use denote.Ref.{now}
-use Rattle.model.specs.Lists.{at}
-use Rattle.model.specs.Run.{finished, spent, full}
-use Rattle.arrays.specs.Places.{PLANS}
-use borrow.Author.Needs.{needs}
+use Rattle.model.specs.Kit.{_≡_, refl, sym, arith, now, needs}
+use Rattle.model.specs.{Lists.at, Run.finished, Run.spent, Run.full}
+use Rattle.arrays.specs.inner.Places.{PLANS}
 use Rattle.run.proofs.answered.Statement.{statement}
 use Rattle.run.proofs.answered.Tie as tie
-
-element-copy-out-t9 : tie.Need-element-copy-out-t9
-element-copy-out-t9 c = search needs
 
 cast-t10 : tie.Need-cast-t10
 unfolding at
 cast-t10 c = record { fits = c .before .before .pre .number (c .before .if1 .taken) }
 
-element-copy-out-t13 : tie.Need-element-copy-out-t13
-element-copy-out-t13 c = search needs
-
 returns : tie.Need-returns
 unfolding at
 returns c = record { refused = λ z. refl; ended = λ n. absurd (n (c .before .before .if1 .taken)) }
-
-element-copy-out-plans : tie.Need-element-copy-out-plans
-element-copy-out-plans c = search needs
 
 returns-2 : tie.Need-returns-2
 unfolding at
@@ -59,11 +46,4 @@ pub answered-spec : {M : Type 1} → statement M
 answered-spec =
     tie.close
     (tie.spec
-    element-copy-out-t9
-    cast-t10
-    element-copy-out-t13
-    returns
-    element-copy-out-plans
-    returns-2
-    returns-3
-    returns-4)
+    (λ c. search needs) cast-t10 (λ c. search needs) returns (λ c. search needs) returns-2 returns-3 returns-4)

@@ -1,28 +1,9 @@
 -- `run::judged` meets its contract. Assumes nothing.
-use mathlib.Core.Path.{sym, ap, _∙_}
-use Rattle.run.specs.Meaning.{means}
-use Rattle.run.specs.Tasks.{enoughFor}
+use Rattle.model.specs.Kit.{sym, ap, _∙_, needs}
+use Rattle.run.specs.{Meaning.means, inner.Tasks.enoughFor, declared.Answer.Answer, declared.Answer.the-variants.Ended}
 use Rattle.run_state.specs.declared.Ending.{Ending}
-use Rattle.run.specs.declared.Answer.{Answer}
-use Rattle.run.specs.declared.Answer.the-variants.{Ended}
-use borrow.Author.Needs.{needs}
 use Rattle.run.proofs.judged.Statement.{statement}
 use Rattle.run.proofs.judged.Tie as tie
-
-enum-known-answer : tie.Need-enum-known-answer
-enum-known-answer c = search needs
-
-enum-known-answer-2 : tie.Need-enum-known-answer-2
-enum-known-answer-2 c = search needs
-
-enum-known-ending : tie.Need-enum-known-ending
-enum-known-ending c = search needs
-
-enum-known-ending-2 : tie.Need-enum-known-ending-2
-enum-known-ending-2 c = search needs
-
-enum-known-ending-3 : tie.Need-enum-known-ending-3
-enum-known-ending-3 c = search needs
 
 returns : tie.Need-returns
 returns c = ap (λ (x : Answer). enoughFor (means x) (c .before .before .before .args .m)) (sym (c .before .answer .given .1))
@@ -46,12 +27,4 @@ pub judged-spec : {M : Type 1} → statement M
 judged-spec =
     tie.close
     (tie.spec
-    enum-known-answer
-    enum-known-answer-2
-    enum-known-ending
-    enum-known-ending-2
-    enum-known-ending-3
-    returns
-    returns-2
-    returns-3
-    returns-4)
+    (λ c. search needs) (λ c. search needs) (λ c. search needs) (λ c. search needs) (λ c. search needs) returns returns-2 returns-3 returns-4)

@@ -1,17 +1,7 @@
 -- The sheet's questions, then the lendings'. Assumes nothing.
-use borrow.Author.Needs.{needs}
-use Rattle.run_input.proofs.Compiling.{sheet-refused, held, sheet-accepted}
-use Rattle.run_input.proofs.ask.Statement.{statement}
+use Rattle.model.specs.Kit.{needs}
+use Rattle.run_input.proofs.{Compiling.sheet-refused, Compiling.held, Compiling.sheet-accepted, ask.Statement.statement}
 use Rattle.run_input.proofs.ask.Tie as tie
-
-compile-requires : tie.Need-compile-requires
-compile-requires c κs = search needs
-
-enum-told : tie.Need-enum-told
-enum-told c = search needs
-
-enum-told-2 : tie.Need-enum-told-2
-enum-told-2 c = search needs
 
 returns : tie.Need-returns
 returns c = sheet-refused _ _ _ _ _ (c .before .before .compile .ensures) _ _ _ _ _ (c .enum-told2 .given .1) (search needs)
@@ -29,9 +19,4 @@ pub ask-spec : {M : Type 1} → statement M
 ask-spec =
     tie.close
     (tie.spec
-    compile-requires
-    enum-told
-    enum-told-2
-    returns
-    lendings-requires
-    returns-2)
+    (λ c κs. search needs) (λ c. search needs) (λ c. search needs) returns lendings-requires returns-2)

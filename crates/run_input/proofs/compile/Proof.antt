@@ -1,17 +1,7 @@
 -- The questions, then the reordering where pairs are lent. Assumes nothing.
-use borrow.Author.Needs.{needs}
-use Rattle.run_input.proofs.Compiling.{compiled-refused, movable, compiled-moved, compiled-same}
-use Rattle.run_input.proofs.compile.Statement.{statement}
+use Rattle.model.specs.Kit.{needs}
+use Rattle.run_input.proofs.{Compiling.compiled-refused, Compiling.movable, Compiling.compiled-moved, Compiling.compiled-same, compile.Statement.statement}
 use Rattle.run_input.proofs.compile.Tie as tie
-
-ask-requires : tie.Need-ask-requires
-ask-requires c κs = search needs
-
-enum-told : tie.Need-enum-told
-enum-told c = search needs
-
-enum-told-2 : tie.Need-enum-told-2
-enum-told-2 c = search needs
 
 returns : tie.Need-returns
 returns c = compiled-refused _ _ _ _ _ _ _ _ _ _ (c .enum-told2 .given .1) (c .before .before .ask .ensures)
@@ -29,4 +19,7 @@ returns-3 : tie.Need-returns-3
 returns-3 c = compiled-same _ _ _ _ _ _ _ _ (c .before .enum-told .given .1) (c .before .before .before .ask .ensures) (search needs)
 
 pub compile-spec : {M : Type 1} → statement M
-compile-spec = tie.close (tie.spec ask-requires enum-told enum-told-2 returns reorder-requires returns-2 returns-3)
+compile-spec =
+    tie.close
+    (tie.spec
+    (λ c κs. search needs) (λ c. search needs) (λ c. search needs) returns reorder-requires returns-2 returns-3)

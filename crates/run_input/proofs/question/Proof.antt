@@ -1,10 +1,9 @@
 -- On new arrays. Assumes nothing.
-use mathlib.Core.Path.{refl}
-use borrow.Author.Needs.{needs}
+use Rattle.model.specs.Kit.{refl, needs}
 use Rattle.sheet.proofs.Whole.{zeros}
 use Rattle.run_input.proofs.question.Statement.{statement}
+use Rattle.arrays.specs.inner.Places.{NUMBERS, SUPPORTS}
 use Rattle.run_input.proofs.question.Tie as tie
-use Rattle.arrays.specs.Places.{NUMBERS, SUPPORTS}
 
 ask-requires : tie.Need-ask-requires
 ask-requires c κs = (zeros NUMBERS, zeros SUPPORTS, refl, refl)

@@ -1,14 +1,7 @@
 -- `join`: the questions, the heads taken, the answer. Assumes nothing.
-use mathlib.Core.Path.{refl, sym, _∙_}
-use borrow.Author.Needs.{needs}
-use Rattle.run_join.proofs.Bits.{marked-none}
-use Rattle.run_join.proofs.Sums.{accepted-all, heads-all}
-use Rattle.run_join.proofs.Said.{said-refused, said-all}
-use Rattle.run_join.proofs.join.Statement.{statement}
+use Rattle.model.specs.Kit.{refl, sym, _∙_, needs}
+use Rattle.run_join.proofs.{Bits.marked-none, Sums.accepted-all, Sums.heads-all, Said.said-refused, Said.said-all, join.Statement.statement}
 use Rattle.run_join.proofs.join.Tie as tie
-
-question-requires : tie.Need-question-requires
-question-requires c κs = search needs
 
 returns : tie.Need-returns
 returns c = let f = c .before in said-refused (f .before .before .args .heads .now) (f .question .result) (f .question .ensures) (c .if1 .taken)
@@ -37,15 +30,11 @@ returns-2 c =
     let f = e .before in
     let l = f .before .before .args .heads .now in
     let r = w .walk .result in
-    said-all l (g .answered .result) (m .find-ways .result) (r .stand) (r .plans) (r .nodes) (r .counts) (accepted-all l (sym (f .question .ensures) ∙ e .if1 .left)) (m .find-ways .ensures .joins) (w .walk .ensures) (g .answered .ensures)
+    said-all l (g .answered .result) (m .find-ways .result) (r .stand) (r .plans) (r .nodes) (r .counts) (accepted-all l (sym (f .question .ensures) ∙ e .if1 .left)) (m .find-ways .ensures .joins)
+    (w .walk .ensures) (g .answered .ensures)
 
 pub join-spec : {M : Type 1} → statement M
 join-spec =
     tie.close
     (tie.spec
-    question-requires
-    returns
-    find-ways-requires
-    walk-requires
-    answered-requires
-    returns-2)
+    (λ c κs. search needs) returns find-ways-requires walk-requires answered-requires returns-2)

@@ -1,19 +1,15 @@
 -- `run_part`'s `below`, `into`, `onto` and `up_to`, which call each other, meet their contracts: proofs/Walks. Assumes nothing.
-use mathlib.Core.Path.{_≡_, refl, sym, ap, subst, _∙_}
-use mathlib.Core.List.{[]}
-use Prim.Native.Nat.{ℕ, _+_, _-_, _*_, _≤_, _<_}
+use Rattle.model.specs.Kit.{_≡_, refl, sym, ap, subst, _∙_, [], ℕ, _+_, _-_, _*_, _≤_, _<_, arith, needs, not-true, not-false}
 use native.Mathlib.Nat.{pos-of-ne-zero}
-use native.Mathlib.Omega.{arith}
-use borrow.Author.Needs.{needs}
-use borrow.Author.Tests.{not-true, not-false}
 use borrow.Rule.Slice.PartAt.{part-to-end}
-use Rattle.model.specs.Lists.{at}
-use Rattle.run_state.specs.Walk.{withNode}
-use Rattle.run_state.specs.Pair.{Countable}
-use Rattle.run_state.specs.Meaning.{tallyIn}
-use Rattle.run_part.proofs.Walks.{along, into-few, into-last, into-asks, into-ends, into-next, into-then, onto-few, onto-out, onto-absent, onto-there, onto-spent, onto-counts, onto-asks, onto-dead, onto-next, onto-then, up-values, up-last, up-stops, up-asks, up-then, below-none, below-open, below-open-asks, below-back, below-into, below-equal, below-stops, below-up-asks, below-then, falls-next, falls-in, falls-up, falls-on}
 use borrow.Fn.Kinds.{In}
 use borrow.Fn.PlainCycle.{Measures, is, falls, and}
+use Rattle.model.specs.Lists.{at}
+use Rattle.run_state.specs.{Walk.withNode, inner.Pair.Countable, Meaning.tallyIn}
+use Rattle.run_part.proofs.Walks.{along, into-few, into-last, into-asks, into-ends, into-next, into-then, onto-few, onto-out, onto-absent, onto-there, onto-spent}
+use Rattle.run_part.proofs.Walks.{onto-counts, onto-asks, onto-dead, onto-next, onto-then, up-values, up-last, up-stops, up-asks, up-then, below-none, below-open}
+use Rattle.run_part.proofs.Walks.{below-open-asks, below-back, below-into, below-equal, below-stops, below-up-asks, below-then, falls-next, falls-in, falls-up, falls-on}
+use Rattle.run_part.proofs.{+below+into+onto+up_to.statement, +below+into+onto+up_to.Tie.close}
 use Rattle.run_part.proofs.below.Reads as below
 use Rattle.run_part.proofs.below.Kinds as below-kinds
 use Rattle.run_part.proofs.+below+into+onto+up_to.Lts-below as below-lts
@@ -35,8 +31,6 @@ use Rattle.run_part.proofs.with_node.Reads as with-node-reads
 use Rattle.run_tree.proofs.walk_counted.Reads as walk-counted-reads
 use Rattle.run_state.proofs.limit.Reads as limit-reads
 use Rattle.run_state.proofs.variable_at.Reads as variable-at-reads
-use Rattle.run_part.proofs.+below+into+onto+up_to.{statement}
-use Rattle.run_part.proofs.+below+into+onto+up_to.Tie.{close}
 
 strictly : (a b : ℕ) → a ≤ b → (a ≡ b → ⊥) → a < b
 strictly a b l n = omega arith
@@ -77,7 +71,6 @@ up-to-at t = and 7 up-to-kinds.ps (is 7 up-to-kinds.ps μ-up-to t) up-to.Pre
 abbrev up-to-below : ℕ → In 7 up-to-kinds.ps
 up-to-below t = and 7 up-to-kinds.ps (falls 7 up-to-kinds.ps _<_ μ-up-to t) up-to.Pre
 
--- src/lib.rt:253:9
 below-returns : (t : ℕ) → below-lts.Need-returns (
   up-to-below t,
   up-to.Post,
@@ -90,7 +83,6 @@ unfolding at
 below-returns t c =
     λ p h. below-none p _ _ _ _ _ _ _ _ _ _ h (c .if1 .taken)
 
--- src/lib.rt:256:9
 below-up-to-requires : (t : ℕ) → below-lts.Need-up-to-requires (
   up-to-below t,
   up-to.Post,
@@ -100,10 +92,16 @@ below-up-to-requires : (t : ℕ) → below-lts.Need-up-to-requires (
   into.Post,
 ) (below-at t) below.Post
 unfolding at
-below-up-to-requires t c κs =
-    (falls-up _ _ (c .before .before .before .before .before .before .before .before .pre .0), (_, below-open-asks (c .before .before .before .before .before .before .before .before .pre .1 .0) _ _ _ _ _ _ _ _ (c .before .before .before .before .before .before .before .before .args .from .now) (c .before .before .before .before .before .before .before .before .args .upto .now) (c .before .before .before .before .before .before .before .before .pre .1 .1) (pos-of-ne-zero (c .before .before .before .before .if1 .left))))
+below-up-to-requires t c κs = (
+  falls-up _ _ (c .before .before .before .before .before .before .before .before .pre .0),
+  (
+    _,
+    below-open-asks (c .before .before .before .before .before .before .before .before .pre .1 .0) _ _ _ _ _ _ _ _
+        (c .before .before .before .before .before .before .before .before .args .from .now) (c .before .before .before .before .before .before .before .before .args .upto .now)
+        (c .before .before .before .before .before .before .before .before .pre .1 .1) (pos-of-ne-zero (c .before .before .before .before .if1 .left)),
+  ),
+)
 
--- src/lib.rt:256:9
 below-same-length : (t : ℕ) → below-lts.Need-same-length (
   up-to-below t,
   up-to.Post,
@@ -114,7 +112,6 @@ below-same-length : (t : ℕ) → below-lts.Need-same-length (
 ) (below-at t) below.Post
 below-same-length t c = search needs
 
--- src/lib.rt:256:9
 below-returns-2 : (t : ℕ) → below-lts.Need-returns-2 (
   up-to-below t,
   up-to.Post,
@@ -125,9 +122,13 @@ below-returns-2 : (t : ℕ) → below-lts.Need-returns-2 (
 ) (below-at t) below.Post
 unfolding at
 below-returns-2 t c =
-    λ p h. along p _ _ [] [] _ _ _ _ (below-open p _ _ _ _ _ _ _ _ (c .before .before .before .before .before .before .before .before .before .before .before .args .from .now) (c .before .before .before .before .before .before .before .before .before .before .before .args .upto .now) h (pos-of-ne-zero (c .before .before .before .before .before .before .before .if1 .left)) (c .before .before .before .before .before .before .if2 .taken)) (c .before .before .up-to .ensures p (below-open-asks p _ _ _ _ _ _ _ _ (c .before .before .before .before .before .before .before .before .before .before .before .args .from .now) (c .before .before .before .before .before .before .before .before .before .before .before .args .upto .now) h (pos-of-ne-zero (c .before .before .before .before .before .before .before .if1 .left))))
+    λ p h. along p _ _ [] [] _ _ _ _ (below-open p _ _ _ _ _ _ _ _ (c .before .before .before .before .before .before .before .before .before .before .before .args .from .now)
+    (c .before .before .before .before .before .before .before .before .before .before .before .args .upto .now) h
+    (pos-of-ne-zero (c .before .before .before .before .before .before .before .if1 .left)) (c .before .before .before .before .before .before .if2 .taken))
+    (c .before .before .up-to .ensures p (below-open-asks p _ _ _ _ _ _ _ _ (c .before .before .before .before .before .before .before .before .before .before .before .args .from .now)
+    (c .before .before .before .before .before .before .before .before .before .before .before .args .upto .now) h
+    (pos-of-ne-zero (c .before .before .before .before .before .before .before .if1 .left))))
 
--- src/lib.rt:260:13
 below-shared-slice-read-a : (t : ℕ) → below-lts.Need-shared-slice-read-a (
   up-to-below t,
   up-to.Post,
@@ -138,7 +139,6 @@ below-shared-slice-read-a : (t : ℕ) → below-lts.Need-shared-slice-read-a (
 ) (below-at t) below.Post
 below-shared-slice-read-a t c = search needs
 
--- src/lib.rt:261:9
 below-wide-requires : (t : ℕ) → below-lts.Need-wide-requires (
   up-to-below t,
   up-to.Post,
@@ -149,7 +149,6 @@ below-wide-requires : (t : ℕ) → below-lts.Need-wide-requires (
 ) (below-at t) below.Post
 below-wide-requires t c κs = search needs
 
--- src/lib.rt:262:13
 below-shared-slice-read-b : (t : ℕ) → below-lts.Need-shared-slice-read-b (
   up-to-below t,
   up-to.Post,
@@ -160,7 +159,6 @@ below-shared-slice-read-b : (t : ℕ) → below-lts.Need-shared-slice-read-b (
 ) (below-at t) below.Post
 below-shared-slice-read-b t c = search needs
 
--- src/lib.rt:264:9
 below-returns-3 : (t : ℕ) → below-lts.Need-returns-3 (
   up-to-below t,
   up-to.Post,
@@ -171,9 +169,10 @@ below-returns-3 : (t : ℕ) → below-lts.Need-returns-3 (
 ) (below-at t) below.Post
 unfolding at
 below-returns-3 t c =
-    λ p h. below-back p _ _ _ _ _ _ _ _ (c .before .before .before .before .before .before .before .before .before .args .from .now) (c .before .before .before .before .before .before .before .before .before .args .upto .now) h (pos-of-ne-zero (c .before .before .before .before .before .if1 .left)) (pos-of-ne-zero (c .before .before .before .before .if2 .left)) (c .if3 .taken)
+    λ p h. below-back p _ _ _ _ _ _ _ _ (c .before .before .before .before .before .before .before .before .before .args .from .now)
+    (c .before .before .before .before .before .before .before .before .before .args .upto .now) h (pos-of-ne-zero (c .before .before .before .before .before .if1 .left))
+    (pos-of-ne-zero (c .before .before .before .before .if2 .left)) (c .if3 .taken)
 
--- src/lib.rt:274:13
 below-sub-into : (t : ℕ) → below-lts.Need-sub-into (
   up-to-below t,
   up-to.Post,
@@ -184,7 +183,6 @@ below-sub-into : (t : ℕ) → below-lts.Need-sub-into (
 ) (below-at t) below.Post
 below-sub-into t c = search needs
 
--- src/lib.rt:274:13
 below-part-into-start : (t : ℕ) → below-lts.Need-part-into-start (
   up-to-below t,
   up-to.Post,
@@ -195,7 +193,6 @@ below-part-into-start : (t : ℕ) → below-lts.Need-part-into-start (
 ) (below-at t) below.Post
 below-part-into-start t c = search needs
 
--- src/lib.rt:274:13
 below-part-into-end : (t : ℕ) → below-lts.Need-part-into-end (
   up-to-below t,
   up-to.Post,
@@ -206,7 +203,6 @@ below-part-into-end : (t : ℕ) → below-lts.Need-part-into-end (
 ) (below-at t) below.Post
 below-part-into-end t c = search needs
 
--- src/lib.rt:275:13
 below-sub-into-2 : (t : ℕ) → below-lts.Need-sub-into-2 (
   up-to-below t,
   up-to.Post,
@@ -217,7 +213,6 @@ below-sub-into-2 : (t : ℕ) → below-lts.Need-sub-into-2 (
 ) (below-at t) below.Post
 below-sub-into-2 t c = search needs
 
--- src/lib.rt:275:13
 below-part-into-start-2 : (t : ℕ) → below-lts.Need-part-into-start-2 (
   up-to-below t,
   up-to.Post,
@@ -228,7 +223,6 @@ below-part-into-start-2 : (t : ℕ) → below-lts.Need-part-into-start-2 (
 ) (below-at t) below.Post
 below-part-into-start-2 t c = search needs
 
--- src/lib.rt:275:13
 below-part-into-end-2 : (t : ℕ) → below-lts.Need-part-into-end-2 (
   up-to-below t,
   up-to.Post,
@@ -239,7 +233,6 @@ below-part-into-end-2 : (t : ℕ) → below-lts.Need-part-into-end-2 (
 ) (below-at t) below.Post
 below-part-into-end-2 t c = search needs
 
--- src/lib.rt:267:9
 below-into-requires : (t : ℕ) → below-lts.Need-into-requires (
   up-to-below t,
   up-to.Post,
@@ -250,9 +243,17 @@ below-into-requires : (t : ℕ) → below-lts.Need-into-requires (
 ) (below-at t) below.Post
 unfolding at
 below-into-requires t c κs =
-    (falls-in _ _ (c .before .before .before .before .before .before .before .before .before .before .before .before .before .before .before .pre .0), (_, (below-into (c .before .before .before .before .before .before .before .before .before .before .before .before .before .before .before .pre .1 .0) _ _ _ _ _ _ _ _ (c .before .before .before .before .before .before .before .before .before .before .before .before .before .before .before .args .from .now) (c .before .before .before .before .before .before .before .before .before .before .before .before .before .before .before .args .upto .now) (c .before .before .before .before .before .before .before .before .before .before .before .before .before .before .before .pre .1 .1) (pos-of-ne-zero (c .before .before .before .before .before .before .before .before .before .before .before .if1 .left)) (pos-of-ne-zero (c .before .before .before .before .before .before .before .before .before .before .if2 .left)) _ (part-to-end (c .before .before .before .before .before .before .before .before .before .before .before .before .before .before .before .args .from .now) 1) _ (c .before .before .before .before .before .before .before .before .wide .ensures .0) (c .before .before .before .before .before .before .before .before .wide .ensures .1))))
+    let c10 = c .before .before .before .before .before .before .before .before .before .before in (
+      falls-in _ _ (c10 .before .before .before .before .before .pre .0),
+      (
+        _,
+        (below-into (c10 .before .before .before .before .before .pre .1 .0) _ _ _ _ _ _ _ _
+            (c10 .before .before .before .before .before .args .from .now) (c10 .before .before .before .before .before .args .upto .now) (c10 .before .before .before .before .before .pre .1 .1)
+            (pos-of-ne-zero (c10 .before .if1 .left)) (pos-of-ne-zero (c10 .if2 .left)) _ (part-to-end (c10 .before .before .before .before .before .args .from .now) 1) _
+            (c .before .before .before .before .before .before .before .before .wide .ensures .0) (c .before .before .before .before .before .before .before .before .wide .ensures .1)),
+      ),
+    )
 
--- src/lib.rt:267:9
 below-same-length-2 : (t : ℕ) → below-lts.Need-same-length-2 (
   up-to-below t,
   up-to.Post,
@@ -263,7 +264,6 @@ below-same-length-2 : (t : ℕ) → below-lts.Need-same-length-2 (
 ) (below-at t) below.Post
 below-same-length-2 t c = search needs
 
--- src/lib.rt:267:9
 below-returns-4 : (t : ℕ) → below-lts.Need-returns-4 (
   up-to-below t,
   up-to.Post,
@@ -274,9 +274,17 @@ below-returns-4 : (t : ℕ) → below-lts.Need-returns-4 (
 ) (below-at t) below.Post
 unfolding at
 below-returns-4 t c =
-    λ p h. along p _ _ [] [] _ _ _ _ (below-equal p _ _ _ _ _ _ _ _ (c .before .before .before .before .before .before .before .before .before .before .before .before .before .before .before .before .before .before .args .from .now) (c .before .before .before .before .before .before .before .before .before .before .before .before .before .before .before .before .before .before .args .upto .now) h (pos-of-ne-zero (c .before .before .before .before .before .before .before .before .before .before .before .before .before .before .if1 .left)) (pos-of-ne-zero (c .before .before .before .before .before .before .before .before .before .before .before .before .before .if2 .left)) (c .before .before .before .before .before .before .before .before .if4 .taken) _ _ (part-to-end (c .before .before .before .before .before .before .before .before .before .before .before .before .before .before .before .before .before .before .args .from .now) 1) (part-to-end (c .before .before .before .before .before .before .before .before .before .before .before .before .before .before .before .before .before .before .args .upto .now) 1)) (c .before .before .into .ensures p (below-into p _ _ _ _ _ _ _ _ (c .before .before .before .before .before .before .before .before .before .before .before .before .before .before .before .before .before .before .args .from .now) (c .before .before .before .before .before .before .before .before .before .before .before .before .before .before .before .before .before .before .args .upto .now) h (pos-of-ne-zero (c .before .before .before .before .before .before .before .before .before .before .before .before .before .before .if1 .left)) (pos-of-ne-zero (c .before .before .before .before .before .before .before .before .before .before .before .before .before .if2 .left)) _ (part-to-end (c .before .before .before .before .before .before .before .before .before .before .before .before .before .before .before .before .before .before .args .from .now) 1) _ (c .before .before .before .before .before .before .before .before .before .before .before .wide .ensures .0) (c .before .before .before .before .before .before .before .before .before .before .before .wide .ensures .1)))
+    let c10 = c .before .before .before .before .before .before .before .before .before .before in
+    λ p h. along p _ _ [] [] _ _ _ _ (below-equal p _ _ _ _ _ _ _ _ (c10 .before .before .before .before .before .before .before .before .args .from .now)
+    (c10 .before .before .before .before .before .before .before .before .args .upto .now) h (pos-of-ne-zero (c10 .before .before .before .before .if1 .left))
+    (pos-of-ne-zero (c10 .before .before .before .if2 .left)) (c .before .before .before .before .before .before .before .before .if4 .taken) _ _
+    (part-to-end (c10 .before .before .before .before .before .before .before .before .args .from .now) 1)
+    (part-to-end (c10 .before .before .before .before .before .before .before .before .args .upto .now) 1))
+    (c .before .before .into .ensures p (below-into p _ _ _ _ _ _ _ _ (c10 .before .before .before .before .before .before .before .before .args .from .now)
+    (c10 .before .before .before .before .before .before .before .before .args .upto .now) h (pos-of-ne-zero (c10 .before .before .before .before .if1 .left))
+    (pos-of-ne-zero (c10 .before .before .before .if2 .left)) _ (part-to-end (c10 .before .before .before .before .before .before .before .before .args .from .now) 1) _
+    (c10 .before .wide .ensures .0) (c10 .before .wide .ensures .1)))
 
--- src/lib.rt:288:9
 below-sub-into-3 : (t : ℕ) → below-lts.Need-sub-into-3 (
   up-to-below t,
   up-to.Post,
@@ -287,7 +295,6 @@ below-sub-into-3 : (t : ℕ) → below-lts.Need-sub-into-3 (
 ) (below-at t) below.Post
 below-sub-into-3 t c = search needs
 
--- src/lib.rt:288:9
 below-part-into-start-3 : (t : ℕ) → below-lts.Need-part-into-start-3 (
   up-to-below t,
   up-to.Post,
@@ -298,7 +305,6 @@ below-part-into-start-3 : (t : ℕ) → below-lts.Need-part-into-start-3 (
 ) (below-at t) below.Post
 below-part-into-start-3 t c = search needs
 
--- src/lib.rt:288:9
 below-part-into-end-3 : (t : ℕ) → below-lts.Need-part-into-end-3 (
   up-to-below t,
   up-to.Post,
@@ -309,7 +315,6 @@ below-part-into-end-3 : (t : ℕ) → below-lts.Need-part-into-end-3 (
 ) (below-at t) below.Post
 below-part-into-end-3 t c = search needs
 
--- src/lib.rt:289:9
 below-slice-aggregate-into : (t : ℕ) → below-lts.Need-slice-aggregate-into (
   up-to-below t,
   up-to.Post,
@@ -320,7 +325,6 @@ below-slice-aggregate-into : (t : ℕ) → below-lts.Need-slice-aggregate-into (
 ) (below-at t) below.Post
 below-slice-aggregate-into t c = search needs
 
--- src/lib.rt:281:9
 below-into-requires-2 : (t : ℕ) → below-lts.Need-into-requires-2 (
   up-to-below t,
   up-to.Post,
@@ -331,9 +335,17 @@ below-into-requires-2 : (t : ℕ) → below-lts.Need-into-requires-2 (
 ) (below-at t) below.Post
 unfolding at
 below-into-requires-2 t c κs =
-    (falls-in _ _ (c .before .before .before .before .before .before .before .before .before .before .before .before .before .before .before .pre .0), (_, (below-into (c .before .before .before .before .before .before .before .before .before .before .before .before .before .before .before .pre .1 .0) _ _ _ _ _ _ _ _ (c .before .before .before .before .before .before .before .before .before .before .before .before .before .before .before .args .from .now) (c .before .before .before .before .before .before .before .before .before .before .before .before .before .before .before .args .upto .now) (c .before .before .before .before .before .before .before .before .before .before .before .before .before .before .before .pre .1 .1) (pos-of-ne-zero (c .before .before .before .before .before .before .before .before .before .before .before .if1 .left)) (pos-of-ne-zero (c .before .before .before .before .before .before .before .before .before .before .if2 .left)) _ (part-to-end (c .before .before .before .before .before .before .before .before .before .before .before .before .before .before .before .args .from .now) 1) _ (c .before .before .before .before .before .before .before .before .wide .ensures .0) (c .before .before .before .before .before .before .before .before .wide .ensures .1))))
+    let c10 = c .before .before .before .before .before .before .before .before .before .before in (
+      falls-in _ _ (c10 .before .before .before .before .before .pre .0),
+      (
+        _,
+        (below-into (c10 .before .before .before .before .before .pre .1 .0) _ _ _ _ _ _ _ _
+            (c10 .before .before .before .before .before .args .from .now) (c10 .before .before .before .before .before .args .upto .now) (c10 .before .before .before .before .before .pre .1 .1)
+            (pos-of-ne-zero (c10 .before .if1 .left)) (pos-of-ne-zero (c10 .if2 .left)) _ (part-to-end (c10 .before .before .before .before .before .args .from .now) 1) _
+            (c .before .before .before .before .before .before .before .before .wide .ensures .0) (c .before .before .before .before .before .before .before .before .wide .ensures .1)),
+      ),
+    )
 
--- src/lib.rt:294:9
 below-same-length-3 : (t : ℕ) → below-lts.Need-same-length-3 (
   up-to-below t,
   up-to.Post,
@@ -344,7 +356,6 @@ below-same-length-3 : (t : ℕ) → below-lts.Need-same-length-3 (
 ) (below-at t) below.Post
 below-same-length-3 t c = search needs
 
--- src/lib.rt:294:9
 below-returns-5 : (t : ℕ) → below-lts.Need-returns-5 (
   up-to-below t,
   up-to.Post,
@@ -355,9 +366,14 @@ below-returns-5 : (t : ℕ) → below-lts.Need-returns-5 (
 ) (below-at t) below.Post
 unfolding at
 below-returns-5 t c =
-    λ p h. below-stops p _ _ _ _ _ _ _ _ (c .before .before .before .before .before .before .before .before .before .before .before .before .before .before .before .before .before .before .before .before .args .from .now) (c .before .before .before .before .before .before .before .before .before .before .before .before .before .before .before .before .before .before .before .before .args .upto .now) h (pos-of-ne-zero (c .before .before .before .before .before .before .before .before .before .before .before .before .before .before .before .before .if1 .left)) (pos-of-ne-zero (c .before .before .before .before .before .before .before .before .before .before .before .before .before .before .before .if2 .left)) (strictly _ _ (c .before .before .before .before .before .before .before .before .before .before .before .if3 .left) (c .before .before .before .before .before .before .before .before .before .before .if4 .left)) _ (part-to-end (c .before .before .before .before .before .before .before .before .before .before .before .before .before .before .before .before .before .before .before .before .args .from .now) 1) _ _ _ _ _ (c .before .before .before .before .into2 .ensures p (below-into p _ _ _ _ _ _ _ _ (c .before .before .before .before .before .before .before .before .before .before .before .before .before .before .before .before .before .before .before .before .args .from .now) (c .before .before .before .before .before .before .before .before .before .before .before .before .before .before .before .before .before .before .before .before .args .upto .now) h (pos-of-ne-zero (c .before .before .before .before .before .before .before .before .before .before .before .before .before .before .before .before .if1 .left)) (pos-of-ne-zero (c .before .before .before .before .before .before .before .before .before .before .before .before .before .before .before .if2 .left)) _ (part-to-end (c .before .before .before .before .before .before .before .before .before .before .before .before .before .before .before .before .before .before .before .before .args .from .now) 1) _ (c .before .before .before .before .before .before .before .before .before .before .before .before .before .wide .ensures .0) (c .before .before .before .before .before .before .before .before .before .before .before .before .before .wide .ensures .1))) (c .if5 .taken)
+    let c10 = c .before .before .before .before .before .before .before .before .before .before in
+    let c20 = c10 .before .before .before .before .before .before .before .before .before .before in
+    λ p h. below-stops p _ _ _ _ _ _ _ _ (c20 .args .from .now) (c20 .args .upto .now) h (pos-of-ne-zero (c10 .before .before .before .before .before .before .if1 .left))
+    (pos-of-ne-zero (c10 .before .before .before .before .before .if2 .left)) (strictly _ _ (c10 .before .if3 .left) (c10 .if4 .left)) _ (part-to-end (c20 .args .from .now) 1) _ _ _ _ _
+    (c .before .before .before .before .into2 .ensures p (below-into p _ _ _ _ _ _ _ _ (c20 .args .from .now) (c20 .args .upto .now) h
+    (pos-of-ne-zero (c10 .before .before .before .before .before .before .if1 .left)) (pos-of-ne-zero (c10 .before .before .before .before .before .if2 .left)) _
+    (part-to-end (c20 .args .from .now) 1) _ (c10 .before .before .before .wide .ensures .0) (c10 .before .before .before .wide .ensures .1))) (c .if5 .taken)
 
--- src/lib.rt:304:9
 below-add-up-to : (t : ℕ) → below-lts.Need-add-up-to (
   up-to-below t,
   up-to.Post,
@@ -368,7 +384,6 @@ below-add-up-to : (t : ℕ) → below-lts.Need-add-up-to (
 ) (below-at t) below.Post
 below-add-up-to t c = search needs
 
--- src/lib.rt:297:5
 below-up-to-requires-2 : (t : ℕ) → below-lts.Need-up-to-requires-2 (
   up-to-below t,
   up-to.Post,
@@ -379,9 +394,24 @@ below-up-to-requires-2 : (t : ℕ) → below-lts.Need-up-to-requires-2 (
 ) (below-at t) below.Post
 unfolding at
 below-up-to-requires-2 t c κs =
-    (falls-up _ _ (c .before .before .before .before .before .before .before .before .before .before .before .before .before .before .before .before .before .before .before .before .before .before .before .before .pre .0), (_, (below-up-asks (c .before .before .before .before .before .before .before .before .before .before .before .before .before .before .before .before .before .before .before .before .before .before .before .before .pre .1 .0) _ _ _ _ _ _ _ _ (c .before .before .before .before .before .before .before .before .before .before .before .before .before .before .before .before .before .before .before .before .before .before .before .before .args .from .now) (c .before .before .before .before .before .before .before .before .before .before .before .before .before .before .before .before .before .before .before .before .before .before .before .before .args .upto .now) (c .before .before .before .before .before .before .before .before .before .before .before .before .before .before .before .before .before .before .before .before .before .before .before .before .pre .1 .1) (pos-of-ne-zero (c .before .before .before .before .before .before .before .before .before .before .before .before .before .before .before .before .before .before .before .before .if1 .left)) (pos-of-ne-zero (c .before .before .before .before .before .before .before .before .before .before .before .before .before .before .before .before .before .before .before .if2 .left)) (strictly _ _ (c .before .before .before .before .before .before .before .before .before .before .before .before .before .before .before .if3 .left) (c .before .before .before .before .before .before .before .before .before .before .before .before .before .before .if4 .left)) _ (part-to-end (c .before .before .before .before .before .before .before .before .before .before .before .before .before .before .before .before .before .before .before .before .before .before .before .before .args .from .now) 1) _ _ _ _ _ (c .before .before .before .before .before .before .before .before .into2 .ensures (c .before .before .before .before .before .before .before .before .before .before .before .before .before .before .before .before .before .before .before .before .before .before .before .before .pre .1 .0) (below-into (c .before .before .before .before .before .before .before .before .before .before .before .before .before .before .before .before .before .before .before .before .before .before .before .before .pre .1 .0) _ _ _ _ _ _ _ _ (c .before .before .before .before .before .before .before .before .before .before .before .before .before .before .before .before .before .before .before .before .before .before .before .before .args .from .now) (c .before .before .before .before .before .before .before .before .before .before .before .before .before .before .before .before .before .before .before .before .before .before .before .before .args .upto .now) (c .before .before .before .before .before .before .before .before .before .before .before .before .before .before .before .before .before .before .before .before .before .before .before .before .pre .1 .1) (pos-of-ne-zero (c .before .before .before .before .before .before .before .before .before .before .before .before .before .before .before .before .before .before .before .before .if1 .left)) (pos-of-ne-zero (c .before .before .before .before .before .before .before .before .before .before .before .before .before .before .before .before .before .before .before .if2 .left)) _ (part-to-end (c .before .before .before .before .before .before .before .before .before .before .before .before .before .before .before .before .before .before .before .before .before .before .before .before .args .from .now) 1) _ (c .before .before .before .before .before .before .before .before .before .before .before .before .before .before .before .before .before .wide .ensures .0) (c .before .before .before .before .before .before .before .before .before .before .before .before .before .before .before .before .before .wide .ensures .1))) _ (ap (λ (x : ℕ). x + 1) (c .before .before .before .before .before .before .before .before .before .before .before .before .before .before .before .before .before .wide .ensures .0)))))
+    let c10 = c .before .before .before .before .before .before .before .before .before .before in
+    let c20 = c10 .before .before .before .before .before .before .before .before .before .before in (
+      falls-up _ _ (c20 .before .before .before .before .pre .0),
+      (
+        _,
+        (below-up-asks (c20 .before .before .before .before .pre .1 .0) _ _ _ _ _ _ _ _
+            (c20 .before .before .before .before .args .from .now) (c20 .before .before .before .before .args .upto .now) (c20 .before .before .before .before .pre .1 .1)
+            (pos-of-ne-zero (c20 .if1 .left)) (pos-of-ne-zero (c10 .before .before .before .before .before .before .before .before .before .if2 .left))
+            (strictly _ _ (c10 .before .before .before .before .before .if3 .left) (c10 .before .before .before .before .if4 .left)) _
+            (part-to-end (c20 .before .before .before .before .args .from .now) 1) _ _ _ _ _ (c .before .before .before .before .before .before .before .before .into2 .ensures
+            (c20 .before .before .before .before .pre .1 .0) (below-into (c20 .before .before .before .before .pre .1 .0) _ _ _ _ _ _ _ _ (c20 .before .before .before .before .args .from .now)
+            (c20 .before .before .before .before .args .upto .now) (c20 .before .before .before .before .pre .1 .1) (pos-of-ne-zero (c20 .if1 .left))
+            (pos-of-ne-zero (c10 .before .before .before .before .before .before .before .before .before .if2 .left)) _ (part-to-end (c20 .before .before .before .before .args .from .now) 1) _
+            (c10 .before .before .before .before .before .before .before .wide .ensures .0) (c10 .before .before .before .before .before .before .before .wide .ensures .1))) _
+            (ap (λ (x : ℕ). x + 1) (c10 .before .before .before .before .before .before .before .wide .ensures .0))),
+      ),
+    )
 
--- src/lib.rt:237:1
 below-same-length-4 : (t : ℕ) → below-lts.Need-same-length-4 (
   up-to-below t,
   up-to.Post,
@@ -392,7 +422,6 @@ below-same-length-4 : (t : ℕ) → below-lts.Need-same-length-4 (
 ) (below-at t) below.Post
 below-same-length-4 t c = search needs
 
--- src/lib.rt:237:1
 below-returns-6 : (t : ℕ) → below-lts.Need-returns-6 (
   up-to-below t,
   up-to.Post,
@@ -403,9 +432,25 @@ below-returns-6 : (t : ℕ) → below-lts.Need-returns-6 (
 ) (below-at t) below.Post
 unfolding at
 below-returns-6 t c =
-    λ p h. below-then p _ _ _ _ _ _ _ _ (c .before .before .before .before .before .before .before .before .before .before .before .before .before .before .before .before .before .before .before .before .before .before .before .before .before .before .before .args .from .now) (c .before .before .before .before .before .before .before .before .before .before .before .before .before .before .before .before .before .before .before .before .before .before .before .before .before .before .before .args .upto .now) h (pos-of-ne-zero (c .before .before .before .before .before .before .before .before .before .before .before .before .before .before .before .before .before .before .before .before .before .before .before .if1 .left)) (pos-of-ne-zero (c .before .before .before .before .before .before .before .before .before .before .before .before .before .before .before .before .before .before .before .before .before .before .if2 .left)) (strictly _ _ (c .before .before .before .before .before .before .before .before .before .before .before .before .before .before .before .before .before .before .if3 .left) (c .before .before .before .before .before .before .before .before .before .before .before .before .before .before .before .before .before .if4 .left)) _ (part-to-end (c .before .before .before .before .before .before .before .before .before .before .before .before .before .before .before .before .before .before .before .before .before .before .before .before .before .before .before .args .from .now) 1) _ _ _ _ _ (c .before .before .before .before .before .before .before .before .before .before .before .into2 .ensures p (below-into p _ _ _ _ _ _ _ _ (c .before .before .before .before .before .before .before .before .before .before .before .before .before .before .before .before .before .before .before .before .before .before .before .before .before .before .before .args .from .now) (c .before .before .before .before .before .before .before .before .before .before .before .before .before .before .before .before .before .before .before .before .before .before .before .before .before .before .before .args .upto .now) h (pos-of-ne-zero (c .before .before .before .before .before .before .before .before .before .before .before .before .before .before .before .before .before .before .before .before .before .before .before .if1 .left)) (pos-of-ne-zero (c .before .before .before .before .before .before .before .before .before .before .before .before .before .before .before .before .before .before .before .before .before .before .if2 .left)) _ (part-to-end (c .before .before .before .before .before .before .before .before .before .before .before .before .before .before .before .before .before .before .before .before .before .before .before .before .before .before .before .args .from .now) 1) _ (c .before .before .before .before .before .before .before .before .before .before .before .before .before .before .before .before .before .before .before .before .wide .ensures .0) (c .before .before .before .before .before .before .before .before .before .before .before .before .before .before .before .before .before .before .before .before .wide .ensures .1))) (c .before .before .before .before .before .before .before .if5 .left) _ (ap (λ (x : ℕ). x + 1) (c .before .before .before .before .before .before .before .before .before .before .before .before .before .before .before .before .before .before .before .before .wide .ensures .0)) _ _ _ _ _ (c .before .before .up-to2 .ensures p (below-up-asks p _ _ _ _ _ _ _ _ (c .before .before .before .before .before .before .before .before .before .before .before .before .before .before .before .before .before .before .before .before .before .before .before .before .before .before .before .args .from .now) (c .before .before .before .before .before .before .before .before .before .before .before .before .before .before .before .before .before .before .before .before .before .before .before .before .before .before .before .args .upto .now) h (pos-of-ne-zero (c .before .before .before .before .before .before .before .before .before .before .before .before .before .before .before .before .before .before .before .before .before .before .before .if1 .left)) (pos-of-ne-zero (c .before .before .before .before .before .before .before .before .before .before .before .before .before .before .before .before .before .before .before .before .before .before .if2 .left)) (strictly _ _ (c .before .before .before .before .before .before .before .before .before .before .before .before .before .before .before .before .before .before .if3 .left) (c .before .before .before .before .before .before .before .before .before .before .before .before .before .before .before .before .before .if4 .left)) _ (part-to-end (c .before .before .before .before .before .before .before .before .before .before .before .before .before .before .before .before .before .before .before .before .before .before .before .before .before .before .before .args .from .now) 1) _ _ _ _ _ (c .before .before .before .before .before .before .before .before .before .before .before .into2 .ensures p (below-into p _ _ _ _ _ _ _ _ (c .before .before .before .before .before .before .before .before .before .before .before .before .before .before .before .before .before .before .before .before .before .before .before .before .before .before .before .args .from .now) (c .before .before .before .before .before .before .before .before .before .before .before .before .before .before .before .before .before .before .before .before .before .before .before .before .before .before .before .args .upto .now) h (pos-of-ne-zero (c .before .before .before .before .before .before .before .before .before .before .before .before .before .before .before .before .before .before .before .before .before .before .before .if1 .left)) (pos-of-ne-zero (c .before .before .before .before .before .before .before .before .before .before .before .before .before .before .before .before .before .before .before .before .before .before .if2 .left)) _ (part-to-end (c .before .before .before .before .before .before .before .before .before .before .before .before .before .before .before .before .before .before .before .before .before .before .before .before .before .before .before .args .from .now) 1) _ (c .before .before .before .before .before .before .before .before .before .before .before .before .before .before .before .before .before .before .before .before .wide .ensures .0) (c .before .before .before .before .before .before .before .before .before .before .before .before .before .before .before .before .before .before .before .before .wide .ensures .1))) _ (ap (λ (x : ℕ). x + 1) (c .before .before .before .before .before .before .before .before .before .before .before .before .before .before .before .before .before .before .before .before .wide .ensures .0))))
+    let c10 = c .before .before .before .before .before .before .before .before .before .before in
+    let c20 = c10 .before .before .before .before .before .before .before .before .before .before in
+    λ p h. below-then p _ _ _ _ _ _ _ _ (c20 .before .before .before .before .before .before .before .args .from .now)
+    (c20 .before .before .before .before .before .before .before .args .upto .now) h (pos-of-ne-zero (c20 .before .before .before .if1 .left)) (pos-of-ne-zero (c20 .before .before .if2 .left))
+    (strictly _ _ (c10 .before .before .before .before .before .before .before .before .if3 .left) (c10 .before .before .before .before .before .before .before .if4 .left)) _
+    (part-to-end (c20 .before .before .before .before .before .before .before .args .from .now) 1) _ _ _ _ _
+    (c10 .before .into2 .ensures p (below-into p _ _ _ _ _ _ _ _ (c20 .before .before .before .before .before .before .before .args .from .now)
+    (c20 .before .before .before .before .before .before .before .args .upto .now) h (pos-of-ne-zero (c20 .before .before .before .if1 .left))
+    (pos-of-ne-zero (c20 .before .before .if2 .left)) _ (part-to-end (c20 .before .before .before .before .before .before .before .args .from .now) 1) _ (c20 .wide .ensures .0)
+    (c20 .wide .ensures .1))) (c .before .before .before .before .before .before .before .if5 .left) _ (ap (λ (x : ℕ). x + 1) (c20 .wide .ensures .0)) _ _ _ _ _
+    (c .before .before .up-to2 .ensures p (below-up-asks p _ _ _ _ _ _ _ _ (c20 .before .before .before .before .before .before .before .args .from .now)
+    (c20 .before .before .before .before .before .before .before .args .upto .now) h (pos-of-ne-zero (c20 .before .before .before .if1 .left)) (pos-of-ne-zero (c20 .before .before .if2 .left))
+    (strictly _ _ (c10 .before .before .before .before .before .before .before .before .if3 .left) (c10 .before .before .before .before .before .before .before .if4 .left)) _
+    (part-to-end (c20 .before .before .before .before .before .before .before .args .from .now) 1) _ _ _ _ _
+    (c10 .before .into2 .ensures p (below-into p _ _ _ _ _ _ _ _ (c20 .before .before .before .before .before .before .before .args .from .now)
+    (c20 .before .before .before .before .before .before .before .args .upto .now) h (pos-of-ne-zero (c20 .before .before .before .if1 .left))
+    (pos-of-ne-zero (c20 .before .before .if2 .left)) _ (part-to-end (c20 .before .before .before .before .before .before .before .args .from .now) 1) _ (c20 .wide .ensures .0)
+    (c20 .wide .ensures .1))) _ (ap (λ (x : ℕ). x + 1) (c20 .wide .ensures .0))))
 
--- src/lib.rt:126:8
 into-add-if1 : (t : ℕ) → into-lts.Need-add-if1 (
   step-reads.Asked,
   step-reads.Learnt,
@@ -414,7 +459,6 @@ into-add-if1 : (t : ℕ) → into-lts.Need-add-if1 (
 ) (into-at t) into.Post
 into-add-if1 t c = search needs
 
--- src/lib.rt:126:17
 into-element-copy-out-if1 : (t : ℕ) → into-lts.Need-element-copy-out-if1 (
   step-reads.Asked,
   step-reads.Learnt,
@@ -423,7 +467,6 @@ into-element-copy-out-if1 : (t : ℕ) → into-lts.Need-element-copy-out-if1 (
 ) (into-at t) into.Post
 into-element-copy-out-if1 t c = search needs
 
--- src/lib.rt:127:9
 into-returns : (t : ℕ) → into-lts.Need-returns (
   step-reads.Asked,
   step-reads.Learnt,
@@ -434,7 +477,6 @@ unfolding at
 into-returns t c =
     λ p h. into-last p _ _ _ _ _ _ _ _ _ h _ (c .if1 .taken ∙ h .prefix .ready .indexed .numbered .variables)
 
--- src/lib.rt:129:9
 into-step-requires : (t : ℕ) → into-lts.Need-step-requires (
   step-reads.Asked,
   step-reads.Learnt,
@@ -442,10 +484,14 @@ into-step-requires : (t : ℕ) → into-lts.Need-step-requires (
   below.Post,
 ) (into-at t) into.Post
 unfolding at
-into-step-requires t c κs =
-    (_, _, _, (into-asks (c .before .before .before .before .before .before .before .pre .1 .0) _ _ _ _ _ _ _ _ _ (c .before .before .before .before .before .before .before .pre .1 .1) (λ z. c .before .before .if1 .left (z ∙ sym ((c .before .before .before .before .before .before .before .pre .1 .1) .prefix .ready .indexed .numbered .variables)))))
+into-step-requires t c κs = (
+  _,
+  _,
+  _,
+  (into-asks (c .before .before .before .before .before .before .before .pre .1 .0) _ _ _ _ _ _ _ _ _ (c .before .before .before .before .before .before .before .pre .1 .1)
+      (λ z. c .before .before .if1 .left (z ∙ sym ((c .before .before .before .before .before .before .before .pre .1 .1) .prefix .ready .indexed .numbered .variables)))),
+)
 
--- src/lib.rt:130:9
 into-returns-2 : (t : ℕ) → into-lts.Need-returns-2 (
   step-reads.Asked,
   step-reads.Learnt,
@@ -454,9 +500,9 @@ into-returns-2 : (t : ℕ) → into-lts.Need-returns-2 (
 ) (into-at t) into.Post
 unfolding at
 into-returns-2 t c =
-    λ p h. into-ends p _ _ _ _ _ _ _ _ _ h _ _ _ (c .before .step .ensures p _ _ (into-asks p _ _ _ _ _ _ _ _ _ h (λ z. c .before .before .before .before .if1 .left (z ∙ sym (h .prefix .ready .indexed .numbered .variables))))) (not-true _ (c .if2 .taken)) _
+    λ p h. into-ends p _ _ _ _ _ _ _ _ _ h _ _ _ (c .before .step .ensures p _ _ (into-asks p _ _ _ _ _ _ _ _ _ h
+    (λ z. c .before .before .before .before .if1 .left (z ∙ sym (h .prefix .ready .indexed .numbered .variables))))) (not-true _ (c .if2 .taken)) _
 
--- src/lib.rt:141:9
 into-add-below : (t : ℕ) → into-lts.Need-add-below (
   step-reads.Asked,
   step-reads.Learnt,
@@ -465,7 +511,6 @@ into-add-below : (t : ℕ) → into-lts.Need-add-below (
 ) (into-at t) into.Post
 into-add-below t c = search needs
 
--- src/lib.rt:132:5
 into-below-requires : (t : ℕ) → into-lts.Need-below-requires (
   step-reads.Asked,
   step-reads.Learnt,
@@ -474,9 +519,18 @@ into-below-requires : (t : ℕ) → into-lts.Need-below-requires (
 ) (into-at t) into.Post
 unfolding at
 into-below-requires t c κs =
-    (falls-next _ _ (c .before .before .before .before .before .before .before .before .before .before .before .before .pre .0) (into-few (c .before .before .before .before .before .before .before .before .before .before .before .before .pre .1 .0) _ _ _ _ _ _ _ _ _ (c .before .before .before .before .before .before .before .before .before .before .before .before .pre .1 .1)), (_, into-next (c .before .before .before .before .before .before .before .before .before .before .before .before .pre .1 .0) _ _ _ _ _ _ _ _ _ (c .before .before .before .before .before .before .before .before .before .before .before .before .pre .1 .1) _ _ _ (c .before .before .before .before .step .ensures (c .before .before .before .before .before .before .before .before .before .before .before .before .pre .1 .0) _ _ (into-asks (c .before .before .before .before .before .before .before .before .before .before .before .before .pre .1 .0) _ _ _ _ _ _ _ _ _ (c .before .before .before .before .before .before .before .before .before .before .before .before .pre .1 .1) (λ z. c .before .before .before .before .before .before .before .if1 .left (z ∙ sym ((c .before .before .before .before .before .before .before .before .before .before .before .before .pre .1 .1) .prefix .ready .indexed .numbered .variables))))) (not-false _ (c .before .before .before .if2 .left))))
+    let c10 = c .before .before .before .before .before .before .before .before .before .before in (
+      falls-next _ _ (c10 .before .before .pre .0) (into-few (c10 .before .before .pre .1 .0) _ _ _ _ _ _ _ _ _ (c10 .before .before .pre .1 .1)),
+      (
+        _,
+        into-next (c10 .before .before .pre .1 .0) _ _ _ _ _ _ _ _ _ (c10 .before .before .pre .1 .1) _ _ _
+            (c .before .before .before .before .step .ensures (c10 .before .before .pre .1 .0) _ _
+            (into-asks (c10 .before .before .pre .1 .0) _ _ _ _ _ _ _ _ _ (c10 .before .before .pre .1 .1)
+            (λ z. c .before .before .before .before .before .before .before .if1 .left (z ∙ sym ((c10 .before .before .pre .1 .1) .prefix .ready .indexed .numbered .variables)))))
+            (not-false _ (c .before .before .before .if2 .left)),
+      ),
+    )
 
--- src/lib.rt:111:1
 into-same-length : (t : ℕ) → into-lts.Need-same-length (
   step-reads.Asked,
   step-reads.Learnt,
@@ -485,7 +539,6 @@ into-same-length : (t : ℕ) → into-lts.Need-same-length (
 ) (into-at t) into.Post
 into-same-length t c = search needs
 
--- src/lib.rt:111:1
 into-returns-3 : (t : ℕ) → into-lts.Need-returns-3 (
   step-reads.Asked,
   step-reads.Learnt,
@@ -494,9 +547,13 @@ into-returns-3 : (t : ℕ) → into-lts.Need-returns-3 (
 ) (into-at t) into.Post
 unfolding at
 into-returns-3 t c =
-    λ p h. into-then p _ _ _ _ _ _ _ _ _ h _ _ _ (c .before .before .before .before .before .before .before .step .ensures p _ _ (into-asks p _ _ _ _ _ _ _ _ _ h (λ z. c .before .before .before .before .before .before .before .before .before .before .if1 .left (z ∙ sym (h .prefix .ready .indexed .numbered .variables))))) (not-false _ (c .before .before .before .before .before .before .if2 .left)) _ _ _ _ _ _ (c .before .before .below .ensures p (into-next p _ _ _ _ _ _ _ _ _ h _ _ _ (c .before .before .before .before .before .before .before .step .ensures p _ _ (into-asks p _ _ _ _ _ _ _ _ _ h (λ z. c .before .before .before .before .before .before .before .before .before .before .if1 .left (z ∙ sym (h .prefix .ready .indexed .numbered .variables))))) (not-false _ (c .before .before .before .before .before .before .if2 .left))))
+    λ p h. into-then p _ _ _ _ _ _ _ _ _ h _ _ _ (c .before .before .before .before .before .before .before .step .ensures p _ _
+    (into-asks p _ _ _ _ _ _ _ _ _ h (λ z. c .before .before .before .before .before .before .before .before .before .before .if1 .left
+    (z ∙ sym (h .prefix .ready .indexed .numbered .variables))))) (not-false _ (c .before .before .before .before .before .before .if2 .left)) _ _ _ _ _ _
+    (c .before .before .below .ensures p (into-next p _ _ _ _ _ _ _ _ _ h _ _ _ (c .before .before .before .before .before .before .before .step .ensures p _ _
+    (into-asks p _ _ _ _ _ _ _ _ _ h (λ z. c .before .before .before .before .before .before .before .before .before .before .if1 .left
+    (z ∙ sym (h .prefix .ready .indexed .numbered .variables))))) (not-false _ (c .before .before .before .before .before .before .if2 .left))))
 
--- src/lib.rt:163:21
 onto-mul-contains : (t : ℕ) → onto-lts.Need-mul-contains (
   wide-reads.Asked,
   wide-reads.Learnt,
@@ -515,7 +572,6 @@ onto-mul-contains : (t : ℕ) → onto-lts.Need-mul-contains (
 ) (onto-at t) onto.Post
 onto-mul-contains t c = search needs
 
--- src/lib.rt:163:15
 onto-mul-contains-2 : (t : ℕ) → onto-lts.Need-mul-contains-2 (
   wide-reads.Asked,
   wide-reads.Learnt,
@@ -534,7 +590,6 @@ onto-mul-contains-2 : (t : ℕ) → onto-lts.Need-mul-contains-2 (
 ) (onto-at t) onto.Post
 onto-mul-contains-2 t c = search needs
 
--- src/lib.rt:163:15
 onto-element-copy-out-contains : (t : ℕ) → onto-lts.Need-element-copy-out-contains (
   wide-reads.Asked,
   wide-reads.Learnt,
@@ -553,7 +608,6 @@ onto-element-copy-out-contains : (t : ℕ) → onto-lts.Need-element-copy-out-co
 ) (onto-at t) onto.Post
 onto-element-copy-out-contains t c = search needs
 
--- src/lib.rt:165:22
 onto-wide-requires : (t : ℕ) → onto-lts.Need-wide-requires (
   wide-reads.Asked,
   wide-reads.Learnt,
@@ -572,7 +626,6 @@ onto-wide-requires : (t : ℕ) → onto-lts.Need-wide-requires (
 ) (onto-at t) onto.Post
 onto-wide-requires t c κs = search needs
 
--- src/lib.rt:165:9
 onto-contains-requires : (t : ℕ) → onto-lts.Need-contains-requires (
   wide-reads.Asked,
   wide-reads.Learnt,
@@ -591,7 +644,6 @@ onto-contains-requires : (t : ℕ) → onto-lts.Need-contains-requires (
 ) (onto-at t) onto.Post
 onto-contains-requires t c κs = search needs
 
--- src/lib.rt:166:9
 onto-returns : (t : ℕ) → onto-lts.Need-returns (
   wide-reads.Asked,
   wide-reads.Learnt,
@@ -610,9 +662,10 @@ onto-returns : (t : ℕ) → onto-lts.Need-returns (
 ) (onto-at t) onto.Post
 unfolding at
 onto-returns t c =
-    λ p h. onto-out p _ _ _ _ _ _ _ _ (c .before .before .before .before .before .before .args .v) (c .before .before .before .before .before .before .args .upto .now) h (onto-absent p _ _ _ _ _ _ _ _ (c .before .before .before .before .before .before .args .v) (c .before .before .before .before .before .before .args .upto .now) h _ _ (c .before .before .wide .ensures .0) (c .before .contains .ensures) (c .if1 .taken))
+    λ p h. onto-out p _ _ _ _ _ _ _ _ (c .before .before .before .before .before .before .args .v) (c .before .before .before .before .before .before .args .upto .now) h
+    (onto-absent p _ _ _ _ _ _ _ _ (c .before .before .before .before .before .before .args .v) (c .before .before .before .before .before .before .args .upto .now) h _ _
+    (c .before .before .wide .ensures .0) (c .before .contains .ensures) (c .if1 .taken))
 
--- src/lib.rt:168:23
 onto-limit-requires : (t : ℕ) → onto-lts.Need-limit-requires (
   wide-reads.Asked,
   wide-reads.Learnt,
@@ -631,7 +684,6 @@ onto-limit-requires : (t : ℕ) → onto-lts.Need-limit-requires (
 ) (onto-at t) onto.Post
 onto-limit-requires t c κs = search needs
 
--- src/lib.rt:169:9
 onto-returns-2 : (t : ℕ) → onto-lts.Need-returns-2 (
   wide-reads.Asked,
   wide-reads.Learnt,
@@ -650,9 +702,12 @@ onto-returns-2 : (t : ℕ) → onto-lts.Need-returns-2 (
 ) (onto-at t) onto.Post
 unfolding at
 onto-returns-2 t c =
-    λ p h. onto-spent p _ _ _ _ _ _ _ _ (c .before .before .before .before .before .before .before .before .before .args .v) (c .before .before .before .before .before .before .before .before .before .args .upto .now) h (onto-there p _ _ _ _ _ _ _ _ (c .before .before .before .before .before .before .before .before .before .args .v) (c .before .before .before .before .before .before .before .before .before .args .upto .now) h _ _ (c .before .before .before .before .before .wide .ensures .0) (c .before .before .before .before .contains .ensures) (c .before .before .before .if1 .left)) (c .if2 .taken ∙ c .before .before .limit .ensures)
+    λ p h. onto-spent p _ _ _ _ _ _ _ _ (c .before .before .before .before .before .before .before .before .before .args .v)
+    (c .before .before .before .before .before .before .before .before .before .args .upto .now) h
+    (onto-there p _ _ _ _ _ _ _ _ (c .before .before .before .before .before .before .before .before .before .args .v)
+    (c .before .before .before .before .before .before .before .before .before .args .upto .now) h _ _ (c .before .before .before .before .before .wide .ensures .0)
+    (c .before .before .before .before .contains .ensures) (c .before .before .before .if1 .left)) (c .if2 .taken ∙ c .before .before .limit .ensures)
 
--- src/lib.rt:171:9
 onto-variable-at-requires : (t : ℕ) → onto-lts.Need-variable-at-requires (
   wide-reads.Asked,
   wide-reads.Learnt,
@@ -671,7 +726,6 @@ onto-variable-at-requires : (t : ℕ) → onto-lts.Need-variable-at-requires (
 ) (onto-at t) onto.Post
 onto-variable-at-requires t c κs = search needs
 
--- src/lib.rt:172:9
 onto-with-node-requires : (t : ℕ) → onto-lts.Need-with-node-requires (
   wide-reads.Asked,
   wide-reads.Learnt,
@@ -690,9 +744,18 @@ onto-with-node-requires : (t : ℕ) → onto-lts.Need-with-node-requires (
 ) (onto-at t) onto.Post
 unfolding at
 onto-with-node-requires t c κs =
-    subst (λ (x : ℕ). Countable x (tallyIn (c .before .before .before .before .before .before .before .before .before .before .args .tally))) (sym (c .variable-at .ensures)) (onto-counts (c .before .before .before .before .before .before .before .before .before .before .pre .1 .0) _ _ _ _ _ _ _ _ (c .before .before .before .before .before .before .before .before .before .before .args .v) (c .before .before .before .before .before .before .before .before .before .before .args .upto .now) (c .before .before .before .before .before .before .before .before .before .before .pre .1 .1) (onto-there (c .before .before .before .before .before .before .before .before .before .before .pre .1 .0) _ _ _ _ _ _ _ _ (c .before .before .before .before .before .before .before .before .before .before .args .v) (c .before .before .before .before .before .before .before .before .before .before .args .upto .now) (c .before .before .before .before .before .before .before .before .before .before .pre .1 .1) _ _ (c .before .before .before .before .before .before .wide .ensures .0) (c .before .before .before .before .before .contains .ensures) (c .before .before .before .before .if1 .left)) (λ z. c .before .if2 .left (z ∙ sym (c .before .before .before .limit .ensures))))
+    subst (λ (x : ℕ). Countable x (tallyIn (c .before .before .before .before .before .before .before .before .before .before .args .tally))) (sym (c .variable-at .ensures))
+    (onto-counts (c .before .before .before .before .before .before .before .before .before .before .pre .1 .0) _ _ _ _ _ _ _ _
+    (c .before .before .before .before .before .before .before .before .before .before .args .v)
+    (c .before .before .before .before .before .before .before .before .before .before .args .upto .now)
+    (c .before .before .before .before .before .before .before .before .before .before .pre .1 .1)
+    (onto-there (c .before .before .before .before .before .before .before .before .before .before .pre .1 .0) _ _ _ _ _ _ _ _
+    (c .before .before .before .before .before .before .before .before .before .before .args .v)
+    (c .before .before .before .before .before .before .before .before .before .before .args .upto .now)
+    (c .before .before .before .before .before .before .before .before .before .before .pre .1 .1) _ _ (c .before .before .before .before .before .before .wide .ensures .0)
+    (c .before .before .before .before .before .contains .ensures) (c .before .before .before .before .if1 .left))
+    (λ z. c .before .if2 .left (z ∙ sym (c .before .before .before .limit .ensures))))
 
--- src/lib.rt:173:9
 onto-put-node-requires : (t : ℕ) → onto-lts.Need-put-node-requires (
   wide-reads.Asked,
   wide-reads.Learnt,
@@ -711,9 +774,17 @@ onto-put-node-requires : (t : ℕ) → onto-lts.Need-put-node-requires (
 ) (onto-at t) onto.Post
 unfolding at
 onto-put-node-requires t c κs =
-    (_, _, _, (onto-asks (c .before .before .before .before .before .before .before .before .before .before .before .before .before .pre .1 .0) _ _ _ _ _ _ _ _ (c .before .before .before .before .before .before .before .before .before .before .before .before .before .args .v) (c .before .before .before .before .before .before .before .before .before .before .before .before .before .args .upto .now) (c .before .before .before .before .before .before .before .before .before .before .before .before .before .pre .1 .1) (onto-there (c .before .before .before .before .before .before .before .before .before .before .before .before .before .pre .1 .0) _ _ _ _ _ _ _ _ (c .before .before .before .before .before .before .before .before .before .before .before .before .before .args .v) (c .before .before .before .before .before .before .before .before .before .before .before .before .before .args .upto .now) (c .before .before .before .before .before .before .before .before .before .before .before .before .before .pre .1 .1) _ _ (c .before .before .before .before .before .before .before .before .before .wide .ensures .0) (c .before .before .before .before .before .before .before .before .contains .ensures) (c .before .before .before .before .before .before .before .if1 .left)) (λ z. c .before .before .before .before .if2 .left (z ∙ sym (c .before .before .before .before .before .before .limit .ensures)))))
+    let c10 = c .before .before .before .before .before .before .before .before .before .before in (
+      _,
+      _,
+      _,
+      (onto-asks (c10 .before .before .before .pre .1 .0) _ _ _ _ _ _ _ _ (c10 .before .before .before .args .v) (c10 .before .before .before .args .upto .now)
+          (c10 .before .before .before .pre .1 .1) (onto-there (c10 .before .before .before .pre .1 .0) _ _ _ _ _ _ _ _ (c10 .before .before .before .args .v)
+          (c10 .before .before .before .args .upto .now) (c10 .before .before .before .pre .1 .1) _ _ (c .before .before .before .before .before .before .before .before .before .wide .ensures .0)
+          (c .before .before .before .before .before .before .before .before .contains .ensures) (c .before .before .before .before .before .before .before .if1 .left))
+          (λ z. c .before .before .before .before .if2 .left (z ∙ sym (c .before .before .before .before .before .before .limit .ensures)))),
+    )
 
--- src/lib.rt:174:9
 onto-returns-3 : (t : ℕ) → onto-lts.Need-returns-3 (
   wide-reads.Asked,
   wide-reads.Learnt,
@@ -732,9 +803,18 @@ onto-returns-3 : (t : ℕ) → onto-lts.Need-returns-3 (
 ) (onto-at t) onto.Post
 unfolding at
 onto-returns-3 t c =
-    λ p h. onto-dead p _ _ _ _ _ _ _ _ (c .before .before .before .before .before .before .before .before .before .before .before .before .before .before .before .args .v) (c .before .before .before .before .before .before .before .before .before .before .before .before .before .before .before .args .upto .now) h (onto-there p _ _ _ _ _ _ _ _ (c .before .before .before .before .before .before .before .before .before .before .before .before .before .before .before .args .v) (c .before .before .before .before .before .before .before .before .before .before .before .before .before .before .before .args .upto .now) h _ _ (c .before .before .before .before .before .before .before .before .before .before .before .wide .ensures .0) (c .before .before .before .before .before .before .before .before .before .before .contains .ensures) (c .before .before .before .before .before .before .before .before .before .if1 .left)) (λ z. c .before .before .before .before .before .before .if2 .left (z ∙ sym (c .before .before .before .before .before .before .before .before .limit .ensures))) _ _ _ (c .before .put-node .ensures p _ _ (onto-asks p _ _ _ _ _ _ _ _ (c .before .before .before .before .before .before .before .before .before .before .before .before .before .before .before .args .v) (c .before .before .before .before .before .before .before .before .before .before .before .before .before .before .before .args .upto .now) h (onto-there p _ _ _ _ _ _ _ _ (c .before .before .before .before .before .before .before .before .before .before .before .before .before .before .before .args .v) (c .before .before .before .before .before .before .before .before .before .before .before .before .before .before .before .args .upto .now) h _ _ (c .before .before .before .before .before .before .before .before .before .before .before .wide .ensures .0) (c .before .before .before .before .before .before .before .before .before .before .contains .ensures) (c .before .before .before .before .before .before .before .before .before .if1 .left)) (λ z. c .before .before .before .before .before .before .if2 .left (z ∙ sym (c .before .before .before .before .before .before .before .before .limit .ensures))))) _ (c .before .before .before .before .with-node .ensures .is ∙ ap (λ (x : ℕ). withNode x (tallyIn (c .before .before .before .before .before .before .before .before .before .before .before .before .before .before .before .args .tally))) (c .before .before .before .before .before .variable-at .ensures)) (not-true _ (c .if3 .taken))
+    let c10 = c .before .before .before .before .before .before .before .before .before .before in
+    λ p h. onto-dead p _ _ _ _ _ _ _ _ (c10 .before .before .before .before .before .args .v) (c10 .before .before .before .before .before .args .upto .now) h
+    (onto-there p _ _ _ _ _ _ _ _ (c10 .before .before .before .before .before .args .v) (c10 .before .before .before .before .before .args .upto .now) h _ _ (c10 .before .wide .ensures .0)
+    (c10 .contains .ensures) (c .before .before .before .before .before .before .before .before .before .if1 .left))
+    (λ z. c .before .before .before .before .before .before .if2 .left (z ∙ sym (c .before .before .before .before .before .before .before .before .limit .ensures))) _ _ _
+    (c .before .put-node .ensures p _ _ (onto-asks p _ _ _ _ _ _ _ _ (c10 .before .before .before .before .before .args .v) (c10 .before .before .before .before .before .args .upto .now) h
+    (onto-there p _ _ _ _ _ _ _ _ (c10 .before .before .before .before .before .args .v) (c10 .before .before .before .before .before .args .upto .now) h _ _ (c10 .before .wide .ensures .0)
+    (c10 .contains .ensures) (c .before .before .before .before .before .before .before .before .before .if1 .left))
+    (λ z. c .before .before .before .before .before .before .if2 .left (z ∙ sym (c .before .before .before .before .before .before .before .before .limit .ensures))))) _
+    (c .before .before .before .before .with-node .ensures .is ∙ ap (λ (x : ℕ). withNode x (tallyIn (c10 .before .before .before .before .before .args .tally)))
+    (c .before .before .before .before .before .variable-at .ensures)) (not-true _ (c .if3 .taken))
 
--- src/lib.rt:187:9
 onto-slice-aggregate-below : (t : ℕ) → onto-lts.Need-slice-aggregate-below (
   wide-reads.Asked,
   wide-reads.Learnt,
@@ -753,7 +833,6 @@ onto-slice-aggregate-below : (t : ℕ) → onto-lts.Need-slice-aggregate-below (
 ) (onto-at t) onto.Post
 onto-slice-aggregate-below t c = search needs
 
--- src/lib.rt:189:9
 onto-add-below : (t : ℕ) → onto-lts.Need-add-below (
   wide-reads.Asked,
   wide-reads.Learnt,
@@ -772,9 +851,13 @@ onto-add-below : (t : ℕ) → onto-lts.Need-add-below (
 ) (onto-at t) onto.Post
 unfolding at
 onto-add-below t c =
-    omega (arith, (c .before .before .before .before .before .before .before .before .before .before .before .before .before .before .before .before .before .before .before .pre .1 .1) .inner, (c .before .before .before .before .before .before .before .before .before .before .before .before .before .before .before .before .before .before .before .pre .1 .1) .prefix .ready .wellFormed .few)
+    let c10 = c .before .before .before .before .before .before .before .before .before .before in
+    omega (
+      arith,
+      (c10 .before .before .before .before .before .before .before .before .before .pre .1 .1) .inner,
+      (c10 .before .before .before .before .before .before .before .before .before .pre .1 .1) .prefix .ready .wellFormed .few,
+    )
 
--- src/lib.rt:180:5
 onto-below-requires : (t : ℕ) → onto-lts.Need-below-requires (
   wide-reads.Asked,
   wide-reads.Learnt,
@@ -793,9 +876,34 @@ onto-below-requires : (t : ℕ) → onto-lts.Need-below-requires (
 ) (onto-at t) onto.Post
 unfolding at
 onto-below-requires t c κs =
-    (falls-next _ _ (c .before .before .before .before .before .before .before .before .before .before .before .before .before .before .before .before .before .before .before .pre .0) (onto-few (c .before .before .before .before .before .before .before .before .before .before .before .before .before .before .before .before .before .before .before .pre .1 .0) _ _ _ _ _ _ _ _ (c .before .before .before .before .before .before .before .before .before .before .before .before .before .before .before .before .before .before .before .args .v) (c .before .before .before .before .before .before .before .before .before .before .before .before .before .before .before .before .before .before .before .args .upto .now) (c .before .before .before .before .before .before .before .before .before .before .before .before .before .before .before .before .before .before .before .pre .1 .1)), (_, onto-next (c .before .before .before .before .before .before .before .before .before .before .before .before .before .before .before .before .before .before .before .pre .1 .0) _ _ _ _ _ _ _ _ (c .before .before .before .before .before .before .before .before .before .before .before .before .before .before .before .before .before .before .before .args .v) (c .before .before .before .before .before .before .before .before .before .before .before .before .before .before .before .before .before .before .before .args .upto .now) (c .before .before .before .before .before .before .before .before .before .before .before .before .before .before .before .before .before .before .before .pre .1 .1) (onto-there (c .before .before .before .before .before .before .before .before .before .before .before .before .before .before .before .before .before .before .before .pre .1 .0) _ _ _ _ _ _ _ _ (c .before .before .before .before .before .before .before .before .before .before .before .before .before .before .before .before .before .before .before .args .v) (c .before .before .before .before .before .before .before .before .before .before .before .before .before .before .before .before .before .before .before .args .upto .now) (c .before .before .before .before .before .before .before .before .before .before .before .before .before .before .before .before .before .before .before .pre .1 .1) _ _ (c .before .before .before .before .before .before .before .before .before .before .before .before .before .before .before .wide .ensures .0) (c .before .before .before .before .before .before .before .before .before .before .before .before .before .before .contains .ensures) (c .before .before .before .before .before .before .before .before .before .before .before .before .before .if1 .left)) (λ z. c .before .before .before .before .before .before .before .before .before .before .if2 .left (z ∙ sym (c .before .before .before .before .before .before .before .before .before .before .before .before .limit .ensures))) _ _ _ (c .before .before .before .before .before .put-node .ensures (c .before .before .before .before .before .before .before .before .before .before .before .before .before .before .before .before .before .before .before .pre .1 .0) _ _ (onto-asks (c .before .before .before .before .before .before .before .before .before .before .before .before .before .before .before .before .before .before .before .pre .1 .0) _ _ _ _ _ _ _ _ (c .before .before .before .before .before .before .before .before .before .before .before .before .before .before .before .before .before .before .before .args .v) (c .before .before .before .before .before .before .before .before .before .before .before .before .before .before .before .before .before .before .before .args .upto .now) (c .before .before .before .before .before .before .before .before .before .before .before .before .before .before .before .before .before .before .before .pre .1 .1) (onto-there (c .before .before .before .before .before .before .before .before .before .before .before .before .before .before .before .before .before .before .before .pre .1 .0) _ _ _ _ _ _ _ _ (c .before .before .before .before .before .before .before .before .before .before .before .before .before .before .before .before .before .before .before .args .v) (c .before .before .before .before .before .before .before .before .before .before .before .before .before .before .before .before .before .before .before .args .upto .now) (c .before .before .before .before .before .before .before .before .before .before .before .before .before .before .before .before .before .before .before .pre .1 .1) _ _ (c .before .before .before .before .before .before .before .before .before .before .before .before .before .before .before .wide .ensures .0) (c .before .before .before .before .before .before .before .before .before .before .before .before .before .before .contains .ensures) (c .before .before .before .before .before .before .before .before .before .before .before .before .before .if1 .left)) (λ z. c .before .before .before .before .before .before .before .before .before .before .if2 .left (z ∙ sym (c .before .before .before .before .before .before .before .before .before .before .before .before .limit .ensures))))) _ (c .before .before .before .before .before .before .before .before .with-node .ensures .is ∙ ap (λ (x : ℕ). withNode x (tallyIn (c .before .before .before .before .before .before .before .before .before .before .before .before .before .before .before .before .before .before .before .args .tally))) (c .before .before .before .before .before .before .before .before .before .variable-at .ensures)) (not-false _ (c .before .before .before .before .if3 .left))))
+    let c10 = c .before .before .before .before .before .before .before .before .before .before in (
+      falls-next _ _ (c10 .before .before .before .before .before .before .before .before .before .pre .0)
+          (onto-few (c10 .before .before .before .before .before .before .before .before .before .pre .1 .0) _ _ _ _ _ _ _ _
+          (c10 .before .before .before .before .before .before .before .before .before .args .v) (c10 .before .before .before .before .before .before .before .before .before .args .upto .now)
+          (c10 .before .before .before .before .before .before .before .before .before .pre .1 .1)),
+      (
+        _,
+        onto-next (c10 .before .before .before .before .before .before .before .before .before .pre .1 .0) _ _ _ _ _ _ _ _
+            (c10 .before .before .before .before .before .before .before .before .before .args .v) (c10 .before .before .before .before .before .before .before .before .before .args .upto .now)
+            (c10 .before .before .before .before .before .before .before .before .before .pre .1 .1)
+            (onto-there (c10 .before .before .before .before .before .before .before .before .before .pre .1 .0) _ _ _ _ _ _ _ _
+            (c10 .before .before .before .before .before .before .before .before .before .args .v) (c10 .before .before .before .before .before .before .before .before .before .args .upto .now)
+            (c10 .before .before .before .before .before .before .before .before .before .pre .1 .1) _ _ (c10 .before .before .before .before .before .wide .ensures .0)
+            (c10 .before .before .before .before .contains .ensures) (c10 .before .before .before .if1 .left)) (λ z. c10 .if2 .left (z ∙ sym (c10 .before .before .limit .ensures))) _ _ _
+            (c .before .before .before .before .before .put-node .ensures (c10 .before .before .before .before .before .before .before .before .before .pre .1 .0) _ _
+            (onto-asks (c10 .before .before .before .before .before .before .before .before .before .pre .1 .0) _ _ _ _ _ _ _ _
+            (c10 .before .before .before .before .before .before .before .before .before .args .v) (c10 .before .before .before .before .before .before .before .before .before .args .upto .now)
+            (c10 .before .before .before .before .before .before .before .before .before .pre .1 .1)
+            (onto-there (c10 .before .before .before .before .before .before .before .before .before .pre .1 .0) _ _ _ _ _ _ _ _
+            (c10 .before .before .before .before .before .before .before .before .before .args .v) (c10 .before .before .before .before .before .before .before .before .before .args .upto .now)
+            (c10 .before .before .before .before .before .before .before .before .before .pre .1 .1) _ _ (c10 .before .before .before .before .before .wide .ensures .0)
+            (c10 .before .before .before .before .contains .ensures) (c10 .before .before .before .if1 .left)) (λ z. c10 .if2 .left (z ∙ sym (c10 .before .before .limit .ensures))))) _
+            (c .before .before .before .before .before .before .before .before .with-node .ensures .is ∙ ap
+            (λ (x : ℕ). withNode x (tallyIn (c10 .before .before .before .before .before .before .before .before .before .args .tally)))
+            (c .before .before .before .before .before .before .before .before .before .variable-at .ensures)) (not-false _ (c .before .before .before .before .if3 .left)),
+      ),
+    )
 
--- src/lib.rt:147:1
 onto-same-length : (t : ℕ) → onto-lts.Need-same-length (
   wide-reads.Asked,
   wide-reads.Learnt,
@@ -814,7 +922,6 @@ onto-same-length : (t : ℕ) → onto-lts.Need-same-length (
 ) (onto-at t) onto.Post
 onto-same-length t c = search needs
 
--- src/lib.rt:147:1
 onto-returns-4 : (t : ℕ) → onto-lts.Need-returns-4 (
   wide-reads.Asked,
   wide-reads.Learnt,
@@ -833,9 +940,30 @@ onto-returns-4 : (t : ℕ) → onto-lts.Need-returns-4 (
 ) (onto-at t) onto.Post
 unfolding at
 onto-returns-4 t c =
-    λ p h. onto-then p _ _ _ _ _ _ _ _ (c .before .before .before .before .before .before .before .before .before .before .before .before .before .before .before .before .before .before .before .before .before .before .args .v) (c .before .before .before .before .before .before .before .before .before .before .before .before .before .before .before .before .before .before .before .before .before .before .args .upto .now) h (onto-there p _ _ _ _ _ _ _ _ (c .before .before .before .before .before .before .before .before .before .before .before .before .before .before .before .before .before .before .before .before .before .before .args .v) (c .before .before .before .before .before .before .before .before .before .before .before .before .before .before .before .before .before .before .before .before .before .before .args .upto .now) h _ _ (c .before .before .before .before .before .before .before .before .before .before .before .before .before .before .before .before .before .before .wide .ensures .0) (c .before .before .before .before .before .before .before .before .before .before .before .before .before .before .before .before .before .contains .ensures) (c .before .before .before .before .before .before .before .before .before .before .before .before .before .before .before .before .if1 .left)) (λ z. c .before .before .before .before .before .before .before .before .before .before .before .before .before .if2 .left (z ∙ sym (c .before .before .before .before .before .before .before .before .before .before .before .before .before .before .before .limit .ensures))) _ _ _ (c .before .before .before .before .before .before .before .before .put-node .ensures p _ _ (onto-asks p _ _ _ _ _ _ _ _ (c .before .before .before .before .before .before .before .before .before .before .before .before .before .before .before .before .before .before .before .before .before .before .args .v) (c .before .before .before .before .before .before .before .before .before .before .before .before .before .before .before .before .before .before .before .before .before .before .args .upto .now) h (onto-there p _ _ _ _ _ _ _ _ (c .before .before .before .before .before .before .before .before .before .before .before .before .before .before .before .before .before .before .before .before .before .before .args .v) (c .before .before .before .before .before .before .before .before .before .before .before .before .before .before .before .before .before .before .before .before .before .before .args .upto .now) h _ _ (c .before .before .before .before .before .before .before .before .before .before .before .before .before .before .before .before .before .before .wide .ensures .0) (c .before .before .before .before .before .before .before .before .before .before .before .before .before .before .before .before .before .contains .ensures) (c .before .before .before .before .before .before .before .before .before .before .before .before .before .before .before .before .if1 .left)) (λ z. c .before .before .before .before .before .before .before .before .before .before .before .before .before .if2 .left (z ∙ sym (c .before .before .before .before .before .before .before .before .before .before .before .before .before .before .before .limit .ensures))))) _ (c .before .before .before .before .before .before .before .before .before .before .before .with-node .ensures .is ∙ ap (λ (x : ℕ). withNode x (tallyIn (c .before .before .before .before .before .before .before .before .before .before .before .before .before .before .before .before .before .before .before .before .before .before .args .tally))) (c .before .before .before .before .before .before .before .before .before .before .before .before .variable-at .ensures)) _ _ _ _ _ (c .before .before .below .ensures p (onto-next p _ _ _ _ _ _ _ _ (c .before .before .before .before .before .before .before .before .before .before .before .before .before .before .before .before .before .before .before .before .before .before .args .v) (c .before .before .before .before .before .before .before .before .before .before .before .before .before .before .before .before .before .before .before .before .before .before .args .upto .now) h (onto-there p _ _ _ _ _ _ _ _ (c .before .before .before .before .before .before .before .before .before .before .before .before .before .before .before .before .before .before .before .before .before .before .args .v) (c .before .before .before .before .before .before .before .before .before .before .before .before .before .before .before .before .before .before .before .before .before .before .args .upto .now) h _ _ (c .before .before .before .before .before .before .before .before .before .before .before .before .before .before .before .before .before .before .wide .ensures .0) (c .before .before .before .before .before .before .before .before .before .before .before .before .before .before .before .before .before .contains .ensures) (c .before .before .before .before .before .before .before .before .before .before .before .before .before .before .before .before .if1 .left)) (λ z. c .before .before .before .before .before .before .before .before .before .before .before .before .before .if2 .left (z ∙ sym (c .before .before .before .before .before .before .before .before .before .before .before .before .before .before .before .limit .ensures))) _ _ _ (c .before .before .before .before .before .before .before .before .put-node .ensures p _ _ (onto-asks p _ _ _ _ _ _ _ _ (c .before .before .before .before .before .before .before .before .before .before .before .before .before .before .before .before .before .before .before .before .before .before .args .v) (c .before .before .before .before .before .before .before .before .before .before .before .before .before .before .before .before .before .before .before .before .before .before .args .upto .now) h (onto-there p _ _ _ _ _ _ _ _ (c .before .before .before .before .before .before .before .before .before .before .before .before .before .before .before .before .before .before .before .before .before .before .args .v) (c .before .before .before .before .before .before .before .before .before .before .before .before .before .before .before .before .before .before .before .before .before .before .args .upto .now) h _ _ (c .before .before .before .before .before .before .before .before .before .before .before .before .before .before .before .before .before .before .wide .ensures .0) (c .before .before .before .before .before .before .before .before .before .before .before .before .before .before .before .before .before .contains .ensures) (c .before .before .before .before .before .before .before .before .before .before .before .before .before .before .before .before .if1 .left)) (λ z. c .before .before .before .before .before .before .before .before .before .before .before .before .before .if2 .left (z ∙ sym (c .before .before .before .before .before .before .before .before .before .before .before .before .before .before .before .limit .ensures))))) _ (c .before .before .before .before .before .before .before .before .before .before .before .with-node .ensures .is ∙ ap (λ (x : ℕ). withNode x (tallyIn (c .before .before .before .before .before .before .before .before .before .before .before .before .before .before .before .before .before .before .before .before .before .before .args .tally))) (c .before .before .before .before .before .before .before .before .before .before .before .before .variable-at .ensures)) (not-false _ (c .before .before .before .before .before .before .before .if3 .left))))
+    let c10 = c .before .before .before .before .before .before .before .before .before .before in
+    let c20 = c10 .before .before .before .before .before .before .before .before .before .before in
+    λ p h. onto-then p _ _ _ _ _ _ _ _ (c20 .before .before .args .v) (c20 .before .before .args .upto .now) h
+    (onto-there p _ _ _ _ _ _ _ _ (c20 .before .before .args .v) (c20 .before .before .args .upto .now) h _ _
+    (c10 .before .before .before .before .before .before .before .before .wide .ensures .0) (c10 .before .before .before .before .before .before .before .contains .ensures)
+    (c10 .before .before .before .before .before .before .if1 .left)) (λ z. c10 .before .before .before .if2 .left (z ∙ sym (c10 .before .before .before .before .before .limit .ensures))) _ _
+    _ (c .before .before .before .before .before .before .before .before .put-node .ensures p _ _
+    (onto-asks p _ _ _ _ _ _ _ _ (c20 .before .before .args .v) (c20 .before .before .args .upto .now) h
+    (onto-there p _ _ _ _ _ _ _ _ (c20 .before .before .args .v) (c20 .before .before .args .upto .now) h _ _
+    (c10 .before .before .before .before .before .before .before .before .wide .ensures .0) (c10 .before .before .before .before .before .before .before .contains .ensures)
+    (c10 .before .before .before .before .before .before .if1 .left)) (λ z. c10 .before .before .before .if2 .left (z ∙ sym (c10 .before .before .before .before .before .limit .ensures))))) _
+    (c10 .before .with-node .ensures .is ∙ ap (λ (x : ℕ). withNode x (tallyIn (c20 .before .before .args .tally))) (c10 .before .before .variable-at .ensures)) _ _ _ _ _
+    (c .before .before .below .ensures p (onto-next p _ _ _ _ _ _ _ _ (c20 .before .before .args .v) (c20 .before .before .args .upto .now) h
+    (onto-there p _ _ _ _ _ _ _ _ (c20 .before .before .args .v) (c20 .before .before .args .upto .now) h _ _
+    (c10 .before .before .before .before .before .before .before .before .wide .ensures .0) (c10 .before .before .before .before .before .before .before .contains .ensures)
+    (c10 .before .before .before .before .before .before .if1 .left)) (λ z. c10 .before .before .before .if2 .left (z ∙ sym (c10 .before .before .before .before .before .limit .ensures))) _ _
+    _ (c .before .before .before .before .before .before .before .before .put-node .ensures p _ _
+    (onto-asks p _ _ _ _ _ _ _ _ (c20 .before .before .args .v) (c20 .before .before .args .upto .now) h
+    (onto-there p _ _ _ _ _ _ _ _ (c20 .before .before .args .v) (c20 .before .before .args .upto .now) h _ _
+    (c10 .before .before .before .before .before .before .before .before .wide .ensures .0) (c10 .before .before .before .before .before .before .before .contains .ensures)
+    (c10 .before .before .before .before .before .before .if1 .left)) (λ z. c10 .before .before .before .if2 .left (z ∙ sym (c10 .before .before .before .before .before .limit .ensures))))) _
+    (c10 .before .with-node .ensures .is ∙ ap (λ (x : ℕ). withNode x (tallyIn (c20 .before .before .args .tally))) (c10 .before .before .variable-at .ensures))
+    (not-false _ (c .before .before .before .before .before .before .before .if3 .left))))
 
--- src/lib.rt:210:13
 up-to-shared-slice-read-v : (t : ℕ) → up-to-lts.Need-shared-slice-read-v (
   wide-reads.Asked,
   wide-reads.Learnt,
@@ -848,7 +976,6 @@ up-to-shared-slice-read-v : (t : ℕ) → up-to-lts.Need-shared-slice-read-v (
 ) (up-to-at t) up-to.Post
 up-to-shared-slice-read-v t c = search needs
 
--- src/lib.rt:211:9
 up-to-wide-requires : (t : ℕ) → up-to-lts.Need-wide-requires (
   wide-reads.Asked,
   wide-reads.Learnt,
@@ -861,7 +988,6 @@ up-to-wide-requires : (t : ℕ) → up-to-lts.Need-wide-requires (
 ) (up-to-at t) up-to.Post
 up-to-wide-requires t c κs = search needs
 
--- src/lib.rt:212:8
 up-to-add-if1 : (t : ℕ) → up-to-lts.Need-add-if1 (
   wide-reads.Asked,
   wide-reads.Learnt,
@@ -874,7 +1000,6 @@ up-to-add-if1 : (t : ℕ) → up-to-lts.Need-add-if1 (
 ) (up-to-at t) up-to.Post
 up-to-add-if1 t c = search needs
 
--- src/lib.rt:212:17
 up-to-element-copy-out-if1 : (t : ℕ) → up-to-lts.Need-element-copy-out-if1 (
   wide-reads.Asked,
   wide-reads.Learnt,
@@ -887,7 +1012,6 @@ up-to-element-copy-out-if1 : (t : ℕ) → up-to-lts.Need-element-copy-out-if1 (
 ) (up-to-at t) up-to.Post
 up-to-element-copy-out-if1 t c = search needs
 
--- src/lib.rt:213:48
 up-to-add-values-within : (t : ℕ) → up-to-lts.Need-add-values-within (
   wide-reads.Asked,
   wide-reads.Learnt,
@@ -900,7 +1024,6 @@ up-to-add-values-within : (t : ℕ) → up-to-lts.Need-add-values-within (
 ) (up-to-at t) up-to.Post
 up-to-add-values-within t c = search needs
 
--- src/lib.rt:213:13
 up-to-values-within-requires : (t : ℕ) → up-to-lts.Need-values-within-requires (
   wide-reads.Asked,
   wide-reads.Learnt,
@@ -913,7 +1036,6 @@ up-to-values-within-requires : (t : ℕ) → up-to-lts.Need-values-within-requir
 ) (up-to-at t) up-to.Post
 up-to-values-within-requires t c κs = search needs
 
--- src/lib.rt:214:9
 up-to-walk-counted-requires : (t : ℕ) → up-to-lts.Need-walk-counted-requires (
   wide-reads.Asked,
   wide-reads.Learnt,
@@ -925,10 +1047,12 @@ up-to-walk-counted-requires : (t : ℕ) → up-to-lts.Need-walk-counted-requires
   onto.Post,
 ) (up-to-at t) up-to.Post
 unfolding at
-up-to-walk-counted-requires t c κs =
-    (_, (up-values (c .before .before .before .before .before .before .before .before .before .before .before .pre .1 .0) _ _ _ _ _ _ _ _ _ _ (c .before .before .before .before .before .before .before .before .before .before .before .pre .1 .1) _ _ (c .before .before .before .values-within .ensures)))
+up-to-walk-counted-requires t c κs = (
+  _,
+  (up-values (c .before .before .before .before .before .before .before .before .before .before .before .pre .1 .0) _ _ _ _ _ _ _ _ _ _
+      (c .before .before .before .before .before .before .before .before .before .before .before .pre .1 .1) _ _ (c .before .before .before .values-within .ensures)),
+)
 
--- src/lib.rt:214:9
 up-to-same-length : (t : ℕ) → up-to-lts.Need-same-length (
   wide-reads.Asked,
   wide-reads.Learnt,
@@ -941,7 +1065,6 @@ up-to-same-length : (t : ℕ) → up-to-lts.Need-same-length (
 ) (up-to-at t) up-to.Post
 up-to-same-length t c = search needs
 
--- src/lib.rt:214:9
 up-to-returns : (t : ℕ) → up-to-lts.Need-returns (
   wide-reads.Asked,
   wide-reads.Learnt,
@@ -954,9 +1077,11 @@ up-to-returns : (t : ℕ) → up-to-lts.Need-returns (
 ) (up-to-at t) up-to.Post
 unfolding at
 up-to-returns t c =
-    λ p h. up-last p _ _ _ _ _ _ _ _ _ _ h _ _ (c .before .before .before .before .before .before .values-within .ensures) _ _ _ _ _ (c .before .before .walk-counted .ensures p (up-values p _ _ _ _ _ _ _ _ _ _ h _ _ (c .before .before .before .before .before .before .values-within .ensures))) _ (ap (λ (x : ℕ). x + 1) (c .before .before .before .before .before .before .before .before .before .before .wide .ensures .0)) (c .before .before .before .before .before .before .before .before .if1 .taken ∙ h .prefix .ready .indexed .numbered .variables)
+    λ p h. up-last p _ _ _ _ _ _ _ _ _ _ h _ _ (c .before .before .before .before .before .before .values-within .ensures) _ _ _ _ _
+    (c .before .before .walk-counted .ensures p (up-values p _ _ _ _ _ _ _ _ _ _ h _ _ (c .before .before .before .before .before .before .values-within .ensures))) _
+    (ap (λ (x : ℕ). x + 1) (c .before .before .before .before .before .before .before .before .before .before .wide .ensures .0))
+    (c .before .before .before .before .before .before .before .before .if1 .taken ∙ h .prefix .ready .indexed .numbered .variables)
 
--- src/lib.rt:216:9
 up-to-values-within-requires-2 : (t : ℕ) → up-to-lts.Need-values-within-requires-2 (
   wide-reads.Asked,
   wide-reads.Learnt,
@@ -969,7 +1094,6 @@ up-to-values-within-requires-2 : (t : ℕ) → up-to-lts.Need-values-within-requ
 ) (up-to-at t) up-to.Post
 up-to-values-within-requires-2 t c κs = search needs
 
--- src/lib.rt:217:9
 up-to-walk-counted-requires-2 : (t : ℕ) → up-to-lts.Need-walk-counted-requires-2 (
   wide-reads.Asked,
   wide-reads.Learnt,
@@ -981,10 +1105,12 @@ up-to-walk-counted-requires-2 : (t : ℕ) → up-to-lts.Need-walk-counted-requir
   onto.Post,
 ) (up-to-at t) up-to.Post
 unfolding at
-up-to-walk-counted-requires-2 t c κs =
-    (_, (up-values (c .before .before .before .before .before .before .before .before .before .before .before .pre .1 .0) _ _ _ _ _ _ _ _ _ _ (c .before .before .before .before .before .before .before .before .before .before .before .pre .1 .1) _ _ (c .before .before .before .values-within2 .ensures)))
+up-to-walk-counted-requires-2 t c κs = (
+  _,
+  (up-values (c .before .before .before .before .before .before .before .before .before .before .before .pre .1 .0) _ _ _ _ _ _ _ _ _ _
+      (c .before .before .before .before .before .before .before .before .before .before .before .pre .1 .1) _ _ (c .before .before .before .values-within2 .ensures)),
+)
 
--- src/lib.rt:219:9
 up-to-same-length-2 : (t : ℕ) → up-to-lts.Need-same-length-2 (
   wide-reads.Asked,
   wide-reads.Learnt,
@@ -997,7 +1123,6 @@ up-to-same-length-2 : (t : ℕ) → up-to-lts.Need-same-length-2 (
 ) (up-to-at t) up-to.Post
 up-to-same-length-2 t c = search needs
 
--- src/lib.rt:219:9
 up-to-returns-2 : (t : ℕ) → up-to-lts.Need-returns-2 (
   wide-reads.Asked,
   wide-reads.Learnt,
@@ -1010,9 +1135,11 @@ up-to-returns-2 : (t : ℕ) → up-to-lts.Need-returns-2 (
 ) (up-to-at t) up-to.Post
 unfolding at
 up-to-returns-2 t c =
-    λ p h. up-stops p _ _ _ _ _ _ _ _ _ _ h _ _ (c .before .before .before .before .before .before .before .before .values-within2 .ensures) _ _ _ _ _ (c .before .before .before .before .walk-counted2 .ensures p (up-values p _ _ _ _ _ _ _ _ _ _ h _ _ (c .before .before .before .before .before .before .before .before .values-within2 .ensures))) (c .before .before .before .before .before .before .before .before .before .before .before .before .wide .ensures .0) _ (c .if2 .taken)
+    let c10 = c .before .before .before .before .before .before .before .before .before .before in
+    λ p h. up-stops p _ _ _ _ _ _ _ _ _ _ h _ _ (c .before .before .before .before .before .before .before .before .values-within2 .ensures) _ _ _ _ _
+    (c .before .before .before .before .walk-counted2 .ensures p (up-values p _ _ _ _ _ _ _ _ _ _ h _ _
+    (c .before .before .before .before .before .before .before .before .values-within2 .ensures))) (c10 .before .before .wide .ensures .0) _ (c .if2 .taken)
 
--- src/lib.rt:230:9
 up-to-sub-onto : (t : ℕ) → up-to-lts.Need-sub-onto (
   wide-reads.Asked,
   wide-reads.Learnt,
@@ -1027,7 +1154,6 @@ unfolding at
 up-to-sub-onto t c =
     omega (arith, (c .before .before .before .before .before .before .before .before .before .before .before .before .before .before .before .before .before .before .before .before .pre .1 .1) .some)
 
--- src/lib.rt:230:9
 up-to-part-onto-start : (t : ℕ) → up-to-lts.Need-part-onto-start (
   wide-reads.Asked,
   wide-reads.Learnt,
@@ -1042,7 +1168,6 @@ unfolding at
 up-to-part-onto-start t c =
     omega (arith, (c .before .before .before .before .before .before .before .before .before .before .before .before .before .before .before .before .before .before .before .before .pre .1 .1) .some)
 
--- src/lib.rt:230:9
 up-to-part-onto-end : (t : ℕ) → up-to-lts.Need-part-onto-end (
   wide-reads.Asked,
   wide-reads.Learnt,
@@ -1055,7 +1180,6 @@ up-to-part-onto-end : (t : ℕ) → up-to-lts.Need-part-onto-end (
 ) (up-to-at t) up-to.Post
 up-to-part-onto-end t c = search needs
 
--- src/lib.rt:222:5
 up-to-onto-requires : (t : ℕ) → up-to-lts.Need-onto-requires (
   wide-reads.Asked,
   wide-reads.Learnt,
@@ -1068,9 +1192,19 @@ up-to-onto-requires : (t : ℕ) → up-to-lts.Need-onto-requires (
 ) (up-to-at t) up-to.Post
 unfolding at
 up-to-onto-requires t c κs =
-    (falls-on _ _ (c .before .before .before .before .before .before .before .before .before .before .before .before .before .before .before .before .before .before .before .before .before .pre .0), (_, up-asks (c .before .before .before .before .before .before .before .before .before .before .before .before .before .before .before .before .before .before .before .before .before .pre .1 .0) _ _ _ _ _ _ _ _ _ _ (c .before .before .before .before .before .before .before .before .before .before .before .before .before .before .before .before .before .before .before .before .before .pre .1 .1) _ _ (c .before .before .before .before .before .before .before .before .before .before .before .before .before .values-within2 .ensures) _ _ _ _ _ (c .before .before .before .before .before .before .before .before .before .walk-counted2 .ensures (c .before .before .before .before .before .before .before .before .before .before .before .before .before .before .before .before .before .before .before .before .before .pre .1 .0) (up-values (c .before .before .before .before .before .before .before .before .before .before .before .before .before .before .before .before .before .before .before .before .before .pre .1 .0) _ _ _ _ _ _ _ _ _ _ (c .before .before .before .before .before .before .before .before .before .before .before .before .before .before .before .before .before .before .before .before .before .pre .1 .1) _ _ (c .before .before .before .before .before .before .before .before .before .before .before .before .before .values-within2 .ensures))) (c .before .before .before .before .before .before .before .before .before .before .before .before .before .before .before .before .before .wide .ensures .0) (λ z. c .before .before .before .before .before .before .before .before .before .before .before .before .before .before .before .if1 .left (z ∙ sym ((c .before .before .before .before .before .before .before .before .before .before .before .before .before .before .before .before .before .before .before .before .before .pre .1 .1) .prefix .ready .indexed .numbered .variables)))))
+    let c10 = c .before .before .before .before .before .before .before .before .before .before in
+    let c20 = c10 .before .before .before .before .before .before .before .before .before .before in (
+      falls-on _ _ (c20 .before .pre .0),
+      (
+        _,
+        up-asks (c20 .before .pre .1 .0) _ _ _ _ _ _ _ _ _ _ (c20 .before .pre .1 .1) _ _ (c10 .before .before .before .values-within2 .ensures) _ _ _ _ _
+            (c .before .before .before .before .before .before .before .before .before .walk-counted2 .ensures (c20 .before .pre .1 .0)
+            (up-values (c20 .before .pre .1 .0) _ _ _ _ _ _ _ _ _ _ (c20 .before .pre .1 .1) _ _ (c10 .before .before .before .values-within2 .ensures)))
+            (c10 .before .before .before .before .before .before .before .wide .ensures .0) (λ z. c10 .before .before .before .before .before .if1 .left
+            (z ∙ sym ((c20 .before .pre .1 .1) .prefix .ready .indexed .numbered .variables))),
+      ),
+    )
 
--- src/lib.rt:195:1
 up-to-same-length-3 : (t : ℕ) → up-to-lts.Need-same-length-3 (
   wide-reads.Asked,
   wide-reads.Learnt,
@@ -1083,7 +1217,6 @@ up-to-same-length-3 : (t : ℕ) → up-to-lts.Need-same-length-3 (
 ) (up-to-at t) up-to.Post
 up-to-same-length-3 t c = search needs
 
--- src/lib.rt:195:1
 up-to-returns-3 : (t : ℕ) → up-to-lts.Need-returns-3 (
   wide-reads.Asked,
   wide-reads.Learnt,
@@ -1096,7 +1229,15 @@ up-to-returns-3 : (t : ℕ) → up-to-lts.Need-returns-3 (
 ) (up-to-at t) up-to.Post
 unfolding at
 up-to-returns-3 t c =
-    λ p h. up-then p _ _ _ _ _ _ _ _ _ _ h _ _ (c .before .before .before .before .before .before .before .before .before .before .before .before .before .before .before .before .values-within2 .ensures) _ _ _ _ _ (c .before .before .before .before .before .before .before .before .before .before .before .before .walk-counted2 .ensures p (up-values p _ _ _ _ _ _ _ _ _ _ h _ _ (c .before .before .before .before .before .before .before .before .before .before .before .before .before .before .before .before .values-within2 .ensures))) (c .before .before .before .before .before .before .before .before .before .before .before .before .before .before .before .before .before .before .before .before .wide .ensures .0) (c .before .before .before .before .before .before .before .before .if2 .left) _ refl _ (part-to-end (c .before .before .before .before .before .before .before .before .before .before .before .before .before .before .before .before .before .before .before .before .before .before .before .before .args .upto .now) 1) _ _ _ _ _ (c .before .before .onto .ensures p (up-asks p _ _ _ _ _ _ _ _ _ _ h _ _ (c .before .before .before .before .before .before .before .before .before .before .before .before .before .before .before .before .values-within2 .ensures) _ _ _ _ _ (c .before .before .before .before .before .before .before .before .before .before .before .before .walk-counted2 .ensures p (up-values p _ _ _ _ _ _ _ _ _ _ h _ _ (c .before .before .before .before .before .before .before .before .before .before .before .before .before .before .before .before .values-within2 .ensures))) (c .before .before .before .before .before .before .before .before .before .before .before .before .before .before .before .before .before .before .before .before .wide .ensures .0) (λ z. c .before .before .before .before .before .before .before .before .before .before .before .before .before .before .before .before .before .before .if1 .left (z ∙ sym (h .prefix .ready .indexed .numbered .variables)))))
+    let c10 = c .before .before .before .before .before .before .before .before .before .before in
+    let c20 = c10 .before .before .before .before .before .before .before .before .before .before in
+    λ p h. up-then p _ _ _ _ _ _ _ _ _ _ h _ _ (c10 .before .before .before .before .before .before .values-within2 .ensures) _ _ _ _ _
+    (c10 .before .before .walk-counted2 .ensures p (up-values p _ _ _ _ _ _ _ _ _ _ h _ _ (c10 .before .before .before .before .before .before .values-within2 .ensures)))
+    (c20 .wide .ensures .0) (c .before .before .before .before .before .before .before .before .if2 .left) _ refl _
+    (part-to-end (c20 .before .before .before .before .args .upto .now) 1) _ _ _ _ _ (c .before .before .onto .ensures p
+    (up-asks p _ _ _ _ _ _ _ _ _ _ h _ _ (c10 .before .before .before .before .before .before .values-within2 .ensures) _ _ _ _ _
+    (c10 .before .before .walk-counted2 .ensures p (up-values p _ _ _ _ _ _ _ _ _ _ h _ _ (c10 .before .before .before .before .before .before .values-within2 .ensures)))
+    (c20 .wide .ensures .0) (λ z. c10 .before .before .before .before .before .before .before .before .if1 .left (z ∙ sym (h .prefix .ready .indexed .numbered .variables)))))
 
 pub +below+into+onto+up-to-spec : {M : Type 1} → statement M
 +below+into+onto+up-to-spec = close μ-below μ-into μ-onto μ-up-to (λ t. below-lts.spec (

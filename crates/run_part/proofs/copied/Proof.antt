@@ -1,14 +1,9 @@
 -- `run_part::copied` meets its contract. Assumes nothing.
-use mathlib.Core.Path.{_≡_, _∙_}
-use Prim.Native.Nat.{ℕ, _-_, _<_}
-use native.Mathlib.Omega.{arith}
-use borrow.Author.Needs.{needs}
-use lib.ListN.{length, length-set}
+use Rattle.model.specs.Kit.{_≡_, _∙_, ℕ, _-_, _<_, arith, needs, length, length-set}
 use Rattle.model.specs.Lists.{at}
-use Rattle.arrays.specs.Places.{WORK}
+use Rattle.arrays.specs.inner.Places.{WORK}
 use Rattle.sheet.proofs.Whole.{zeros}
-use Rattle.run_part.proofs.Ends.{copying}
-use Rattle.run_part.proofs.copied.Statement.{statement}
+use Rattle.run_part.proofs.{Ends.copying, copied.Statement.statement}
 use Rattle.run_part.proofs.copied.Tie as tie
 
 abbrev Inv-loop : tie.InvT-loop
@@ -17,42 +12,36 @@ Inv-loop work copy₀ i₀ copy i = (length copy ≡ WORK) × ((j : ℕ) → j <
 abbrev μ-loop : tie.MeasureT-loop
 μ-loop work copy₀ i₀ copy i = WORK - i
 
--- src/lib.rt:349:5
 loop-holds : tie.Need-loop-holds Inv-loop μ-loop
 loop-holds c = (zeros WORK .sized, λ j l. absurd (omega arith))
 
--- src/lib.rt:350:19
 mul-copy : tie.Need-mul-copy Inv-loop μ-loop
 mul-copy c = search needs
 
--- src/lib.rt:350:19
 element-copy-out-copy : tie.Need-element-copy-out-copy Inv-loop μ-loop
 element-copy-out-copy c = search needs
 
--- src/lib.rt:350:9
 mul-copy-2 : tie.Need-mul-copy-2 Inv-loop μ-loop
 mul-copy-2 c = search needs
 
--- src/lib.rt:350:9
 array-write-copy : tie.Need-array-write-copy Inv-loop μ-loop
 array-write-copy c = search needs
 
--- src/lib.rt:351:9
 add-i : tie.Need-add-i Inv-loop μ-loop
 add-i c = search needs
 
--- src/lib.rt:349:5
 loop-less : tie.Need-loop-less Inv-loop μ-loop
 loop-less c = search needs
 
--- src/lib.rt:349:5
 loop-again : tie.Need-loop-again Inv-loop μ-loop
 unfolding at
 loop-again c =
-    let l = c .before .before in
-    (length-set (l .loop .copy) (l .loop .i) (at (l .before .args .work .now) (l .loop .i)) ∙ l .loop .inv .0, copying (l .loop .copy) (l .before .args .work .now) (l .loop .i) (l .loop .inv .0) (c .before .loop-test .taken) (l .loop .inv .1))
+    let l = c .before .before in (
+      length-set (l .loop .copy) (l .loop .i) (at (l .before .args .work .now) (l .loop .i)) ∙ l .loop .inv .0,
+      copying (l .loop .copy) (l .before .args .work .now) (l .loop .i) (l .loop .inv .0)
+          (c .before .loop-test .taken) (l .loop .inv .1),
+    )
 
--- src/lib.rt:344:1
 returns : tie.Need-returns Inv-loop μ-loop
 returns c = let i = c .before .loop .inv in (i .0, λ j l. i .1 j (omega (arith, c .loop-test .left)))
 
@@ -60,14 +49,4 @@ pub copied-spec : {M : Type 1} → statement M
 copied-spec =
     tie.close
     (tie.spec
-    Inv-loop
-    μ-loop
-    loop-holds
-    mul-copy
-    element-copy-out-copy
-    mul-copy-2
-    array-write-copy
-    add-i
-    loop-less
-    loop-again
-    returns)
+    Inv-loop μ-loop loop-holds mul-copy element-copy-out-copy mul-copy-2 array-write-copy add-i loop-less loop-again returns)

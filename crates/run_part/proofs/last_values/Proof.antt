@@ -1,10 +1,7 @@
 -- `run_part::last_values` meets its contract: proofs/Ends. Assumes nothing.
-use Prim.Native.Nat.{_-_, _≤_}
-use native.Mathlib.Omega.{arith}
-use borrow.Author.Needs.{needs}
+use Rattle.model.specs.Kit.{_-_, _≤_, arith, needs}
 use Rattle.model.specs.Lists.{at}
-use Rattle.run_part.proofs.Ends.{Valuing, valuing-next}
-use Rattle.run_part.proofs.last_values.Statement.{statement}
+use Rattle.run_part.proofs.{Ends.Valuing, Ends.valuing-next, last_values.Statement.statement}
 use Rattle.run_part.proofs.last_values.Tie as tie
 
 abbrev Inv-loop : tie.InvT-loop
@@ -57,15 +54,4 @@ pub last-values-spec : {M : Type 1} → statement M
 last-values-spec =
     tie.close
     (tie.spec
-    Inv-loop
-    μ-loop
-    element-copy-out-length
-    loop-holds
-    mul-last
-    element-copy-out-last
-    cast-last
-    array-write-last
-    add-i
-    loop-less
-    loop-again
-    returns)
+    Inv-loop μ-loop element-copy-out-length loop-holds mul-last element-copy-out-last cast-last array-write-last add-i loop-less loop-again returns)

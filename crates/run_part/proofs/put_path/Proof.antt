@@ -1,10 +1,7 @@
 -- `run_part::put_path` meets its contract: proofs/Ends. Assumes nothing.
-use Prim.Native.Nat.{_-_, _≤_}
-use native.Mathlib.Omega.{arith}
-use borrow.Author.Needs.{needs}
+use Rattle.model.specs.Kit.{_-_, _≤_, arith, needs}
 use Rattle.model.specs.Lists.{at}
-use Rattle.run_part.proofs.Ends.{Putting, putting-start, putting-next, putting-done}
-use Rattle.run_part.proofs.put_path.Statement.{statement}
+use Rattle.run_part.proofs.{Ends.Putting, Ends.putting-start, Ends.putting-next, Ends.putting-done, put_path.Statement.statement}
 use Rattle.run_part.proofs.put_path.Tie as tie
 
 abbrev Inv-loop : tie.InvT-loop
@@ -13,39 +10,30 @@ Inv-loop work₀ path end i₀ work i = Putting path work₀ work i × (i ≤ en
 abbrev μ-loop : tie.MeasureT-loop
 μ-loop work₀ path end i₀ work i = end - i
 
--- src/lib.rt:334:9
 lesser-requires : tie.Need-lesser-requires Inv-loop μ-loop
 lesser-requires c κs = search needs
 
--- src/lib.rt:336:5
 loop-holds : tie.Need-loop-holds Inv-loop μ-loop
 loop-holds c = (putting-start _ _, omega arith)
 
--- src/lib.rt:337:24
 shared-slice-read-byte : tie.Need-shared-slice-read-byte Inv-loop μ-loop
 shared-slice-read-byte c = search needs
 
--- src/lib.rt:337:19
 byte-requires : tie.Need-byte-requires Inv-loop μ-loop
 byte-requires c κs = search needs
 
--- src/lib.rt:337:9
 mul-work : tie.Need-mul-work Inv-loop μ-loop
 mul-work c = search needs
 
--- src/lib.rt:337:9
 element-write-work : tie.Need-element-write-work Inv-loop μ-loop
 element-write-work c = search needs
 
--- src/lib.rt:338:9
 add-i : tie.Need-add-i Inv-loop μ-loop
 add-i c = search needs
 
--- src/lib.rt:336:5
 loop-less : tie.Need-loop-less Inv-loop μ-loop
 loop-less c = search needs
 
--- src/lib.rt:336:5
 loop-again : tie.Need-loop-again Inv-loop μ-loop
 unfolding at
 loop-again c =
@@ -54,11 +42,9 @@ loop-again c =
     let t = c .before .before .loop-test .taken in
     (putting-next _ _ _ _ _ (i .loop .inv .0) (i .before .before .before .pre) (omega (arith, l, t)) (c .byte .ensures .0) (c .byte .ensures .1), omega (arith, t))
 
--- src/lib.rt:340:5
 element-write-work-2 : tie.Need-element-write-work-2 Inv-loop μ-loop
 element-write-work-2 c = search needs
 
--- src/lib.rt:330:1
 returns : tie.Need-returns Inv-loop μ-loop
 unfolding at
 returns c = putting-done _ _ _ _ _ (c .before .loop .inv .0) (c .before .before .before .before .pre) (c .before .before .lesser .ensures) (c .loop-test .left) (c .before .loop .inv .1)
@@ -67,16 +53,5 @@ pub put-path-spec : {M : Type 1} → statement M
 put-path-spec =
     tie.close
     (tie.spec
-    Inv-loop
-    μ-loop
-    lesser-requires
-    loop-holds
-    shared-slice-read-byte
-    byte-requires
-    mul-work
-    element-write-work
-    add-i
-    loop-less
-    loop-again
-    element-write-work-2
+    Inv-loop μ-loop lesser-requires loop-holds shared-slice-read-byte byte-requires mul-work element-write-work add-i loop-less loop-again element-write-work-2
     returns)

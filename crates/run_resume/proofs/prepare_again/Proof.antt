@@ -1,26 +1,12 @@
 -- `run_resume::prepare_again` meets its contract: proofs/Prepared. Assumes nothing.
-use native.Mathlib.Omega.{arith}
-use borrow.Author.Needs.{needs}
+use Rattle.model.specs.Kit.{arith, needs}
 use Rattle.model.specs.Lists.{at}
-use Rattle.run_resume.proofs.Prepared.{some-variables, laid, again-refused, again}
-use Rattle.run_resume.proofs.prepare_again.Statement.{statement}
+use Rattle.run_resume.proofs.{Prepared.some-variables, Prepared.laid, Prepared.again-refused, Prepared.again, prepare_again.Statement.statement}
 use Rattle.run_resume.proofs.prepare_again.Tie as tie
-
-recompile-requires : tie.Need-recompile-requires
-recompile-requires c κs = search needs
-
-element-copy-out-n : tie.Need-element-copy-out-n
-element-copy-out-n c = search needs
 
 div-put-bounds : tie.Need-div-put-bounds
 unfolding at
 div-put-bounds c = let t = c .before .before in omega (arith, some-variables _ _ _ _ _ (t .before .recompile .ensures) (t .if1 .taken))
-
-put-bounds-requires : tie.Need-put-bounds-requires
-put-bounds-requires c κs = search needs
-
-by-position-requires : tie.Need-by-position-requires
-by-position-requires c κs = search needs
 
 begin-requires : tie.Need-begin-requires
 unfolding at
@@ -43,7 +29,8 @@ returns c =
     let r = t .before in
     let a = r .before .before .before .before .before in
     let l = laid (a .args .sheet .now) _ _ _ _ (r .recompile .ensures) (t .if1 .taken) (a .args .more) (a .args .size) _ (s .put-bounds .ensures) _ (y .by-position .ensures) in
-    again (a .args .sheet .now) _ _ _ _ (r .recompile .ensures) (t .if1 .taken) (a .args .more) (a .args .size) _ (s .put-bounds .ensures) _ _ _ _ _ _ (c .begin .ensures _ _ _ l) (a .fits .more .fits) (a .fits .size .fits)
+    again (a .args .sheet .now) _ _ _ _ (r .recompile .ensures) (t .if1 .taken) (a .args .more) (a .args .size) _ (s .put-bounds .ensures) _ _ _ _ _ _ (c .begin .ensures _ _ _ l)
+    (a .fits .more .fits) (a .fits .size .fits)
 
 returns-2 : tie.Need-returns-2
 returns-2 c = let r = c .before in again-refused _ _ _ _ _ _ _ _ _ _ (r .recompile .ensures) (c .if1 .left)
@@ -52,11 +39,4 @@ pub prepare-again-spec : {M : Type 1} → statement M
 prepare-again-spec =
     tie.close
     (tie.spec
-    recompile-requires
-    element-copy-out-n
-    div-put-bounds
-    put-bounds-requires
-    by-position-requires
-    begin-requires
-    returns
-    returns-2)
+    (λ c κs. search needs) (λ c. search needs) div-put-bounds (λ c κs. search needs) (λ c κs. search needs) begin-requires returns returns-2)

@@ -1,14 +1,7 @@
 -- `run_resume::put_progress` meets its contract: proofs/Going. Assumes nothing.
-use borrow.Author.Needs.{needs}
-use Rattle.run_resume.proofs.Going.{put-so}
-use Rattle.run_resume.proofs.put_progress.Statement.{statement}
+use Rattle.model.specs.Kit.{needs}
+use Rattle.run_resume.proofs.{Going.put-so, put_progress.Statement.statement}
 use Rattle.run_resume.proofs.put_progress.Tie as tie
-
-element-write-work : tie.Need-element-write-work
-element-write-work c = search needs
-
-put-path-requires : tie.Need-put-path-requires
-put-path-requires c κs = search needs
 
 returns : tie.Need-returns
 returns c =
@@ -16,4 +9,4 @@ returns c =
     put-so (a .args .plans) (a .args .last .now) (a .args .work .now) _ (a .pre .0) (a .pre .1) (c .put-path .ensures)
 
 pub put-progress-spec : {M : Type 1} → statement M
-put-progress-spec = tie.close (tie.spec element-write-work put-path-requires returns)
+put-progress-spec = tie.close (tie.spec (λ c. search needs) (λ c κs. search needs) returns)

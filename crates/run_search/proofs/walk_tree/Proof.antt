@@ -1,18 +1,11 @@
 -- `run_search::walk_tree` meets its contract: no nodes where the step says so, else those of the empty prefix's candidates. Assumes nothing.
-use borrow.Author.Needs.{needs}
+use Rattle.model.specs.Kit.{needs}
 use Rattle.model.specs.Lists.{at}
-use Rattle.run_search.proofs.Explored.{ended-none, tree-asks, ended-some}
-use Rattle.run_search.proofs.walk_tree.Statement.{statement}
+use Rattle.run_search.proofs.{Explored.ended-none, Explored.tree-asks, Explored.ended-some, walk_tree.Statement.statement}
 use Rattle.run_search.proofs.walk_tree.Tie as tie
-
-no-nodes-requires : tie.Need-no-nodes-requires
-no-nodes-requires c κs = search needs
 
 returns : tie.Need-returns
 returns c = ended-none _ _ _ _ _ _ _ (c .if1 .taken) _ (c .before .no-nodes .ensures)
-
-candidates-requires : tie.Need-candidates-requires
-candidates-requires c κs = search needs
 
 walk-counted-requires : tie.Need-walk-counted-requires
 unfolding at
@@ -22,9 +15,6 @@ walk-counted-requires c κs =
     let s = i .before in
     let g = s .before .before .pre (i .if1 .left) in
     (_, tree-asks _ _ _ _ _ _ _ (i .if1 .left) _ (s .no-nodes .ensures) _ (m .candidates .ensures) _ (g .1))
-
-same-length : tie.Need-same-length
-same-length c = search needs
 
 returns-2 : tie.Need-returns-2
 unfolding at
@@ -39,9 +29,4 @@ pub walk-tree-spec : {M : Type 1} → statement M
 walk-tree-spec =
     tie.close
     (tie.spec
-    no-nodes-requires
-    returns
-    candidates-requires
-    walk-counted-requires
-    same-length
-    returns-2)
+    (λ c κs. search needs) returns (λ c κs. search needs) walk-counted-requires (λ c. search needs) returns-2)

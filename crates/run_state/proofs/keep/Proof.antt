@@ -1,12 +1,8 @@
 -- `run_state::keep` meets its contract: after i turns the first i values in the order are put, each at its variable's number. Assumes nothing.
-use mathlib.Core.Path.{_≡_, subst}
-use Prim.Native.Nat.{ℕ, _+_, _-_, _≤_, _<_}
-use native.Mathlib.Omega.{arith}
-use lib.ListN.{set}
+use Rattle.model.specs.Kit.{_≡_, subst, ℕ, _+_, _-_, _≤_, _<_, arith, set}
 use Rattle.model.specs.Lists.{at}
-use Rattle.run_state.specs.Pair.{orderIn}
-use Rattle.run_state.proofs.Prefix.{small}
-use Rattle.run_state.proofs.Written.{order-at, settling-inside, Put, put-none, put-turn, put-all}
+use Rattle.run_state.specs.inner.Pair.{orderIn}
+use Rattle.run_state.proofs.{Prefix.small, Written.order-at, Written.settling-inside, Written.Put, Written.put-none, Written.put-turn, Written.put-all}
 use Rattle.run_state.proofs.keep.Statement.{statement}
 use Rattle.run_state.proofs.keep.Tie as tie
 
@@ -66,9 +62,11 @@ loop-again c =
     let l = c .before .before .before .loop in
     let i : l .i < a .args .n = omega arith in (
       omega arith,
-      subst (λ (x : ℕ). Put (a .args .start) (orderIn (a .args .numbers .now) (a .args .n)) (a .args .work .now) (a .args .list .now) (l .i + 1) (set (l .list) (a .args .start + x) (at (a .args .work .now) (l .i))))
+      subst (λ (x : ℕ). Put (a .args .start) (orderIn (a .args .numbers .now) (a .args .n)) (a .args .work .now) (a .args .list .now) (l .i + 1)
+          (set (l .list) (a .args .start + x) (at (a .args .work .now) (l .i))))
           (order-at (a .args .numbers .now) (a .args .n) (l .i) i)
-          (put-turn (a .args .start) (a .args .n) (orderIn (a .args .numbers .now) (a .args .n)) (a .args .work .now) (a .args .list .now) (a .pre .1 .1) (a .pre .0 .2) (l .i) (l .list) (l .inv .1) i),
+          (put-turn (a .args .start) (a .args .n) (orderIn (a .args .numbers .now) (a .args .n)) (a .args .work .now) (a .args .list .now) (a .pre .1 .1) (a .pre .0 .2) (l .i) (l .list)
+          (l .inv .1) i),
     )
 
 same-length : tie.Need-same-length Inv-loop μ-loop
@@ -86,19 +84,5 @@ pub keep-spec : {M : Type 1} → statement M
 keep-spec =
     tie.close
     (tie.spec
-    Inv-loop
-    μ-loop
-    loop-holds
-    add-x
-    mul-x
-    element-copy-out-x
-    mul-list
-    shared-slice-read-list
-    cast-list
-    add-list
-    slice-write-list
-    add-i
-    loop-less
-    loop-again
-    same-length
-    returns)
+    Inv-loop μ-loop loop-holds add-x mul-x element-copy-out-x mul-list shared-slice-read-list cast-list add-list slice-write-list add-i loop-less loop-again
+    same-length returns)

@@ -1,11 +1,8 @@
 -- `run_state::limit` meets its contract. Assumes nothing.
+use Rattle.model.specs.Kit.{needs}
 use Rattle.model.specs.Lists.{at}
-use borrow.Author.Needs.{needs}
 use Rattle.run_state.proofs.limit.Statement.{statement}
 use Rattle.run_state.proofs.limit.Tie as tie
-
-element-copy-out-result : tie.Need-element-copy-out-result
-element-copy-out-result c = search needs
 
 cast-result : tie.Need-cast-result
 unfolding at
@@ -16,4 +13,4 @@ unfolding at
 returns c = search needs
 
 pub limit-spec : {M : Type 1} → statement M
-limit-spec = tie.close (tie.spec element-copy-out-result cast-result returns)
+limit-spec = tie.close (tie.spec (λ c. search needs) cast-result returns)

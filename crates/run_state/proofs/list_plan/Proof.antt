@@ -1,24 +1,12 @@
 -- `run_state::list_plan` meets its contract: proofs/Listing. Assumes nothing.
-use mathlib.Core.Path.{refl}
-use native.Mathlib.Omega.{arith}
+use Rattle.model.specs.Kit.{refl, arith, needs}
 use Rattle.model.specs.Lists.{at}
-use Rattle.run_state.proofs.Listing.{one-more, full-now, kept-now}
-use borrow.Author.Needs.{needs}
-use Rattle.run_state.proofs.list_plan.Statement.{statement}
+use Rattle.run_state.proofs.{Listing.one-more, Listing.full-now, Listing.kept-now, list_plan.Statement.statement}
 use Rattle.run_state.proofs.list_plan.Tie as tie
-
-element-copy-out-plans : tie.Need-element-copy-out-plans
-element-copy-out-plans c = search needs
-
-element-copy-out-if1 : tie.Need-element-copy-out-if1
-element-copy-out-if1 c = search needs
 
 returns : tie.Need-returns
 unfolding at
 returns c = let a = c .before .before .before in (full-now _ _ _ _ _ (a .pre .0) (c .if1 .taken), (refl, refl))
-
-slice-aggregate-note : tie.Need-slice-aggregate-note
-slice-aggregate-note c = search needs
 
 note-requires : tie.Need-note-requires
 unfolding at
@@ -32,9 +20,6 @@ add-work : tie.Need-add-work
 unfolding at
 add-work c = let a = c .before .before .before .before .before .before .before in omega (arith, one-more _ _ _ _ (a .pre .0) (c .before .before .before .before .if1 .left), a .pre .0 .small)
 
-element-write-work : tie.Need-element-write-work
-element-write-work c = search needs
-
 returns-2 : tie.Need-returns-2
 unfolding at
 returns-2 c =
@@ -43,4 +28,6 @@ returns-2 c =
 
 pub list-plan-spec : {M : Type 1} → statement M
 list-plan-spec =
-    tie.close (tie.spec element-copy-out-plans element-copy-out-if1 returns slice-aggregate-note note-requires add-work element-write-work returns-2)
+    tie.close
+    (tie.spec
+    (λ c. search needs) (λ c. search needs) returns (λ c. search needs) note-requires add-work (λ c. search needs) returns-2)

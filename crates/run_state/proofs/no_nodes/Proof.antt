@@ -1,7 +1,6 @@
 -- `run_state::no_nodes` meets its contract. Assumes nothing.
-use mathlib.Core.Path.{refl}
-use Rattle.run_state.proofs.Walk.{none-summed}
-use Rattle.run_state.proofs.no_nodes.Statement.{statement}
+use Rattle.model.specs.Kit.{refl}
+use Rattle.run_state.proofs.{Walk.none-summed, no_nodes.Statement.statement}
 use Rattle.run_state.proofs.no_nodes.Tie as tie
 
 returns : tie.Need-returns

@@ -1,18 +1,11 @@
 -- `run_state::note` meets its contract: proofs/Listing. Assumes nothing.
-use mathlib.Core.Path.{sym, _∙_}
-use native.Mathlib.Omega.{arith}
+use Rattle.model.specs.Kit.{sym, _∙_, arith, needs}
 use Rattle.model.specs.Lists.{at}
-use Rattle.run_state.proofs.Walk.{noted-none, noted-over}
-use Rattle.run_state.proofs.Listing.{fits-bytes}
-use borrow.Author.Needs.{needs}
-use Rattle.run_state.proofs.note.Statement.{statement}
+use Rattle.run_state.proofs.{Walk.noted-none, Walk.noted-over, Listing.fits-bytes, note.Statement.statement}
 use Rattle.run_state.proofs.note.Tie as tie
 
 returns : tie.Need-returns
 returns c = sym (noted-none _ _ _ (c .if1 .taken))
-
-element-copy-out-n : tie.Need-element-copy-out-n
-element-copy-out-n c = search needs
 
 mul-keep : tie.Need-mul-keep
 unfolding at
@@ -26,12 +19,12 @@ keep-requires c κs =
       (a .pre .1 .2, a .pre .1 .3),
     )
 
-same-length : tie.Need-same-length
-same-length c = search needs
-
 returns-2 : tie.Need-returns-2
 unfolding at
 returns-2 c = c .before .before .keep .ensures ∙ sym (noted-over _ _ _ (c .before .before .before .before .before .if1 .left))
 
 pub note-spec : {M : Type 1} → statement M
-note-spec = tie.close (tie.spec returns element-copy-out-n mul-keep keep-requires same-length returns-2)
+note-spec =
+    tie.close
+    (tie.spec
+    returns (λ c. search needs) mul-keep keep-requires (λ c. search needs) returns-2)

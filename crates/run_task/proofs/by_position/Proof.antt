@@ -1,12 +1,7 @@
 -- `run_task::by_position` meets its contract: after k turns the first k numbers are put. Assumes nothing.
-use mathlib.Core.Path.{_≡_, _∙_}
-use Prim.Native.Nat.{ℕ, _-_, _≤_, _<_}
-use native.Mathlib.Nat.{not-suc-le-zero}
-use native.Mathlib.Omega.{arith}
-use lib.ListN.{length, length-set}
+use Rattle.model.specs.Kit.{_≡_, _∙_, ℕ, _-_, _≤_, _<_, not-suc-le-zero, arith, length, length-set}
 use Rattle.model.specs.Lists.{at}
-use Rattle.run_task.proofs.Task.{placed-next}
-use Rattle.run_task.proofs.by_position.Statement.{statement}
+use Rattle.run_task.proofs.{Task.placed-next, by_position.Statement.statement}
 use Rattle.run_task.proofs.by_position.Tie as tie
 
 abbrev Inv-loop : tie.InvT-loop
@@ -39,4 +34,7 @@ returns : tie.Need-returns Inv-loop μ-loop
 returns c = let l = c .before .loop in (l .inv .1, λ k m. l .inv .2 k (omega arith))
 
 pub by-position-spec : {M : Type 1} → statement M
-by-position-spec = tie.close (tie.spec Inv-loop μ-loop loop-holds cast-order element-write-order add-k loop-less loop-again returns)
+by-position-spec =
+    tie.close
+    (tie.spec
+    Inv-loop μ-loop loop-holds cast-order element-write-order add-k loop-less loop-again returns)

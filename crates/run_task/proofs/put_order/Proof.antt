@@ -1,17 +1,9 @@
 -- `run_task::put_order` meets its contract: after k turns the first k numbers of the order are put. Assumes nothing.
-use mathlib.Core.Path.{_≡_, refl, sym, ap, ap₂, _∙_}
-use mathlib.Core.List.{List}
-use Prim.Native.Nat.{ℕ, _+_, _-_, _≤_}
-use native.Mathlib.Numerals.{add-one}
-use native.Mathlib.Omega.{arith}
-use lib.ListN.{length, set}
-use denote.Ref.{now}
+use Rattle.model.specs.Kit.{_≡_, refl, sym, ap, ap₂, _∙_, List, ℕ, _+_, _-_, _≤_, add-one, arith, length, set, now, needs}
 use Rattle.model.specs.Lists.{at}
-use Rattle.arrays.specs.Places.{ORDER}
-use Rattle.run_task.specs.Task.{ordered}
-use Rattle.run_task.proofs.Task.{length-ordered}
-use Rattle.run_task.proofs.put_order.Statement.{statement}
-use borrow.Author.Needs.{needs}
+use Rattle.arrays.specs.inner.Places.{ORDER}
+use Rattle.run_task.specs.inner.Task.{ordered}
+use Rattle.run_task.proofs.{Task.length-ordered, put_order.Statement.statement}
 use Rattle.run_task.proofs.put_order.Tie as tie
 
 abbrev Inv-loop : tie.InvT-loop
@@ -37,7 +29,8 @@ mul-numbers : tie.Need-mul-numbers Inv-loop μ-loop
 mul-numbers c = omega arith
 
 slice-write-numbers : tie.Need-slice-write-numbers Inv-loop μ-loop
-slice-write-numbers c = let l = c .before .before .before .loop in let a = c .before .before .before .before .before .args in omega (arith, ap length (l .inv .1), length-ordered (now (a .order)) (l .k) (now (a .numbers)))
+slice-write-numbers c = let l = c .before .before .before .loop in let a = c .before .before .before .before .before .args in omega
+    (arith, ap length (l .inv .1), length-ordered (now (a .order)) (l .k) (now (a .numbers)))
 
 add-k : tie.Need-add-k Inv-loop μ-loop
 add-k c = omega arith
@@ -66,16 +59,4 @@ pub put-order-spec : {M : Type 1} → statement M
 put-order-spec =
     tie.close
     (tie.spec
-    Inv-loop
-    μ-loop
-    loop-holds
-    element-copy-out-wide
-    wide-requires
-    add-numbers
-    mul-numbers
-    slice-write-numbers
-    add-k
-    loop-less
-    loop-again
-    same-length
-    returns)
+    Inv-loop μ-loop loop-holds element-copy-out-wide wide-requires add-numbers mul-numbers slice-write-numbers add-k loop-less loop-again same-length returns)

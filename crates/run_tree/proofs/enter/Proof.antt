@@ -1,30 +1,9 @@
 -- `run_tree::enter` meets its contract: proofs/Turns. Assumes nothing.
-use mathlib.Core.Path.{refl, sym, _∙_, subst}
-use Prim.Native.Nat.{ℕ, _<_}
-use native.Mathlib.Omega.{arith}
+use Rattle.model.specs.Kit.{refl, sym, _∙_, subst, ℕ, _<_, arith, needs}
 use Rattle.model.specs.Lists.{at}
 use Rattle.run_tree.proofs.Turns.{child-asks, entered-dead, plan-asks, plan-bytes, plan-order, plan-sized, entered-plan, entered-inner}
-use borrow.Author.Needs.{needs}
 use Rattle.run_tree.proofs.enter.Statement.{statement}
 use Rattle.run_tree.proofs.enter.Tie as tie
-
-lowest-requires : tie.Need-lowest-requires
-lowest-requires c κs = search needs
-
-cast-work : tie.Need-cast-work
-cast-work c = search needs
-
-mul-work : tie.Need-mul-work
-mul-work c = search needs
-
-element-write-work : tie.Need-element-write-work
-element-write-work c = search needs
-
-add-work : tie.Need-add-work
-add-work c = search needs
-
-element-write-work-2 : tie.Need-element-write-work-2
-element-write-work-2 c = search needs
 
 child-requires : tie.Need-child-requires
 child-requires c κs =
@@ -40,12 +19,6 @@ returns c =
           entered-dead p _ _ _ _ _ _ made _ _ g w _ l _ _ _ (c .before .child .ensures _ _ (child-asks p _ _ _ _ _ _ made _ _ g w _ l)) (c .if1 .taken)),
       (refl, refl),
     )
-
-add-if2 : tie.Need-add-if2
-add-if2 c = search needs
-
-element-copy-out-if2 : tie.Need-element-copy-out-if2
-element-copy-out-if2 c = search needs
 
 list-plan-requires : tie.Need-list-plan-requires
 unfolding at
@@ -97,16 +70,5 @@ pub enter-spec : {M : Type 1} → statement M
 enter-spec =
     tie.close
     (tie.spec
-    lowest-requires
-    cast-work
-    mul-work
-    element-write-work
-    add-work
-    element-write-work-2
-    child-requires
-    returns
-    add-if2
-    element-copy-out-if2
-    list-plan-requires
-    returns-2
-    returns-3)
+    (λ c κs. search needs) (λ c. search needs) (λ c. search needs) (λ c. search needs) (λ c. search needs) (λ c. search needs) child-requires returns
+    (λ c. search needs) (λ c. search needs) list-plan-requires returns-2 returns-3)

@@ -1,12 +1,6 @@
 -- `copy`: after i turns the first i bytes stand in the room. Assumes nothing.
-use mathlib.Core.Path.{_≡_, refl, sym, ap, ap₂, _∙_}
-use mathlib.Core.List.{List}
-use Prim.Native.Nat.{ℕ, _+_, _-_, _≤_, _<_}
+use Rattle.model.specs.Kit.{_≡_, refl, sym, ap, ap₂, _∙_, List, ℕ, _+_, _-_, _≤_, _<_, add-one, arith, needs, length, getD, set, length-set}
 use native.Mathlib.Nat.{le-antisymm, zero-add}
-use native.Mathlib.Numerals.{add-one}
-use native.Mathlib.Omega.{arith}
-use borrow.Author.Needs.{needs}
-use lib.ListN.{length, getD, set, length-set}
 use lib.Seq.{paste, paste-zero, paste-suc}
 use Rattle.model.specs.Written.{Fronted}
 use Rattle.model.proofs.Written.{written-paste, fronted}
@@ -61,13 +55,4 @@ pub copy-spec : {M : Type 1} → statement M
 copy-spec =
     tie.close
     (tie.spec
-    Inv-loop
-    μ-loop
-    loop-holds
-    shared-slice-read-room
-    slice-write-room
-    add-i
-    loop-less
-    loop-again
-    same-length
-    returns)
+    Inv-loop μ-loop loop-holds shared-slice-read-room slice-write-room add-i loop-less loop-again same-length returns)

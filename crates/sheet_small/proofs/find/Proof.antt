@@ -1,11 +1,6 @@
 -- `find`: before candidate n, what is left of the list once `seen` sheets are passed. Assumes nothing.
-use mathlib.Core.Path.{refl, sym, _∙_, subst}
-use mathlib.Core.Logic.{⊎-elim}
-use Prim.Native.Nat.{ℕ, _+_, _-_, _≤_}
-use native.Mathlib.Omega.{arith}
-use borrow.Author.Needs.{needs}
-use Rattle.sheet_small.proofs.Walk.{Came, came-first, came-last, came-refused, came-accepted, found}
-use Rattle.sheet_small.proofs.find.Statement.{statement}
+use Rattle.model.specs.Kit.{refl, sym, _∙_, subst, ⊎-elim, ℕ, _+_, _-_, _≤_, arith, needs}
+use Rattle.sheet_small.proofs.{Walk.Came, Walk.came-first, Walk.came-last, Walk.came-refused, Walk.came-accepted, Walk.found, find.Statement.statement}
 use Rattle.sheet_small.proofs.find.Tie as tie
 
 abbrev Inv-loop : tie.InvT-loop
@@ -26,7 +21,8 @@ numbered-requires c κs = search needs
 returns : tie.Need-returns Inv-loop μ-loop
 returns c =
     let l = c .before .before .before .before .before .loop in
-    found (c .before .before .before .before .before .before .args .k) (l .seen) (l .n) (c .numbered .result) (c .before .before .before .before .loop-test .taken) (l .inv .2) (c .numbered .ensures) (sym (c .before .before .before .passes .ensures) ∙ c .before .before .if1 .taken) (c .before .if2 .taken)
+    found (c .before .before .before .before .before .before .args .k) (l .seen) (l .n) (c .numbered .result) (c .before .before .before .before .loop-test .taken) (l .inv .2)
+    (c .numbered .ensures) (sym (c .before .before .before .passes .ensures) ∙ c .before .before .if1 .taken) (c .before .if2 .taken)
 
 add-seen : tie.Need-add-seen Inv-loop μ-loop
 add-seen c = search needs
@@ -59,14 +55,4 @@ pub find-spec : {M : Type 1} → statement M
 find-spec =
     tie.close
     (tie.spec
-    Inv-loop
-    μ-loop
-    loop-holds
-    passes-requires
-    numbered-requires
-    returns
-    add-seen
-    add-n
-    loop-less
-    loop-again
-    returns-2)
+    Inv-loop μ-loop loop-holds passes-requires numbered-requires returns add-seen add-n loop-less loop-again returns-2)

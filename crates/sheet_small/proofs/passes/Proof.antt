@@ -1,18 +1,10 @@
 -- `passes`: a table that moves a number that is no pair is refused; of any other the questions say it. Assumes nothing.
-use mathlib.Core.Path.{sym, ap, _∙_}
-use Prim.Native.Nat.{_-_, _%_}
-use native.Mathlib.Omega.{arith}
-use borrow.Author.Needs.{needs}
-use lib.Seq.{length-take-le}
+use Rattle.model.specs.Kit.{sym, ap, _∙_, _-_, _%_, arith, needs, length-take-le}
 use Rattle.model.specs.Verdict.{isAccepted}
 use Rattle.sheet.specs.Meaning.{means}
 use Rattle.sheet_small.specs.Small.{isSheet}
-use Rattle.sheet_small.proofs.Pruned.{parts, few, moved-refused}
-use Rattle.sheet_small.proofs.passes.Statement.{statement}
+use Rattle.sheet_small.proofs.{Pruned.parts, Pruned.few, Pruned.moved-refused, passes.Statement.statement}
 use Rattle.sheet_small.proofs.passes.Tie as tie
-
-permuted-requires : tie.Need-permuted-requires
-permuted-requires c κs = search needs
 
 moved-requires : tie.Need-moved-requires
 moved-requires c κs =
@@ -23,13 +15,8 @@ moved-requires c κs =
 returns : tie.Need-returns
 returns c =
     let t = c .before .before .permuted in
-    moved-refused (c .before .before .before .before .args .n) (c .before .moved .result) (t .result) (c .before .before .before .if1 .taken) (c .before .before .before .before .pre) (t .ensures) (c .before .moved .ensures) (c .if2 .taken)
-
-numbered-requires : tie.Need-numbered-requires
-numbered-requires c κs = search needs
-
-array-share-prefix-bytes : tie.Need-array-share-prefix-bytes
-array-share-prefix-bytes c = search needs
+    moved-refused (c .before .before .before .before .args .n) (c .before .moved .result) (t .result) (c .before .before .before .if1 .taken) (c .before .before .before .before .pre) (t .ensures)
+    (c .before .moved .ensures) (c .if2 .taken)
 
 slice-aggregate-question : tie.Need-slice-aggregate-question
 slice-aggregate-question c =
@@ -37,35 +24,18 @@ slice-aggregate-question c =
     let d = c .before .before .numbered .ensures in
     sym (length-take-le (r .size) (r .bytes) (omega (arith, d .length-bytes, d .fits)))
 
-question-requires : tie.Need-question-requires
-question-requires c κs = search needs
-
-enum-told : tie.Need-enum-told
-enum-told c = search needs
-
-enum-told-2 : tie.Need-enum-told-2
-enum-told-2 c = search needs
-
 returns-2 : tie.Need-returns-2
 unfolding isSheet
 returns-2 c = sym (ap isSheet (sym (c .before .before .before .before .before .numbered .ensures .is)) ∙ ap isAccepted (sym (c .before .before .question .ensures) ∙ ap means (c .enum-told .given .1)))
 
 returns-3 : tie.Need-returns-3
 unfolding isSheet
-returns-3 c = sym (ap isSheet (sym (c .before .before .before .before .before .numbered .ensures .is)) ∙ ap isAccepted (sym (c .before .before .question .ensures) ∙ ap means (c .enum-told2 .given .1)))
+returns-3 c = sym (ap isSheet (sym (c .before .before .before .before .before .numbered .ensures .is)) ∙ ap isAccepted
+    (sym (c .before .before .question .ensures) ∙ ap means (c .enum-told2 .given .1)))
 
 pub passes-spec : {M : Type 1} → statement M
 passes-spec =
     tie.close
     (tie.spec
-    permuted-requires
-    moved-requires
-    returns
-    numbered-requires
-    array-share-prefix-bytes
-    slice-aggregate-question
-    question-requires
-    enum-told
-    enum-told-2
-    returns-2
-    returns-3)
+    (λ c κs. search needs) moved-requires returns (λ c κs. search needs) (λ c. search needs) slice-aggregate-question (λ c κs. search needs) (λ c. search needs)
+    (λ c. search needs) returns-2 returns-3)

@@ -1,18 +1,8 @@
 -- `small_sheet`: what is answered goes by what `find` found. Assumes nothing.
-use mathlib.Core.Path.{sym, subst}
-use mathlib.Core.List.{List}
-use Prim.Native.Nat.{ℕ}
-use native.Mathlib.Omega.{arith}
-use borrow.Author.Needs.{needs}
-use lib.ListN.{length-take}
-use lib.Seq.{length-take-le}
+use Rattle.model.specs.Kit.{sym, subst, List, ℕ, arith, needs, length-take, length-take-le}
 use Rattle.model.specs.Written.{Fronted}
-use Rattle.sheet_small.proofs.Answering.{past-last, short-room, sheet-written}
-use Rattle.sheet_small.proofs.small_sheet.Statement.{statement}
+use Rattle.sheet_small.proofs.{Answering.past-last, Answering.short-room, Answering.sheet-written, small_sheet.Statement.statement}
 use Rattle.sheet_small.proofs.small_sheet.Tie as tie
-
-find-requires : tie.Need-find-requires
-find-requires c κs = search needs
 
 returns : tie.Need-returns
 returns c =
@@ -41,25 +31,16 @@ copy-requires c κs =
     let d = c .before .before .before .before .before .find .ensures .here (c .before .before .before .before .if1 .left) .1 in
     omega (arith, length-take (r .size) (r .bytes), d .fits, c .before .before .before .if2 .left)
 
-same-length : tie.Need-same-length
-same-length c = search needs
-
 returns-3 : tie.Need-returns-3
 returns-3 c =
     let a = c .before .before .before .before .before .before .before .before .before .before .args in
     let w = c .before .before .copy in
     let h = c .before .before .before .before .before .before .before .before .find .ensures .here (c .before .before .before .before .before .before .before .if1 .left) in
-    sheet-written (a .k) (a .room .now) (h .0) _ (w .result) (c .before .before .before .before .before .before .if2 .left) (subst (λ (b : List ℕ). Fronted (a .room .now) b (w .last .1 .0) (w .result)) (h .1 .is) (w .ensures))
+    sheet-written (a .k) (a .room .now) (h .0) _ (w .result) (c .before .before .before .before .before .before .if2 .left)
+    (subst (λ (b : List ℕ). Fronted (a .room .now) b (w .last .1 .0) (w .result)) (h .1 .is) (w .ensures))
 
 pub small-sheet-spec : {M : Type 1} → statement M
 small-sheet-spec =
     tie.close
     (tie.spec
-    find-requires
-    returns
-    returns-2
-    array-share-prefix-bytes
-    slice-aggregate-copy
-    copy-requires
-    same-length
-    returns-3)
+    (λ c κs. search needs) returns returns-2 array-share-prefix-bytes slice-aggregate-copy copy-requires (λ c. search needs) returns-3)

@@ -1,30 +1,13 @@
-use mathlib.Core.Path.{_≡_, sym, _∙_}
-use mathlib.Core.Bool.{true, false}
-use mathlib.Core.List.{List}
-use Prim.Native.Nat.{ℕ}
-use denote.Ref.{now}
-use borrow.Author.Tests.{not-true, not-false}
-use Rattle.model.specs.Problem.{Problem}
-use Rattle.model.specs.Sheet.{permutesPairs}
-use Rattle.sheet_symmetries.specs.Table.{Asked, tableOf}
-use Rattle.sheet_symmetries.specs.Forbidden.{Decoded, Lent}
+use Rattle.model.specs.Kit.{_≡_, sym, _∙_, true, false, List, ℕ, now, not-true, not-false, needs}
+use Rattle.model.specs.{Problem.Problem, Sheet.permutesPairs}
+use Rattle.sheet_symmetries.specs.{inner.Table.Asked, inner.Table.tableOf, inner.Forbidden.Decoded, inner.Forbidden.Lent}
 use Rattle.sheet_symmetries.proofs.Answers.{asked-table, asked-coded, asked-lent, answer-15, answer-16, answer-last}
-use Rattle.sheet_symmetries.proofs.Targets.{blank-new}
-use borrow.Author.Needs.{needs}
-use Rattle.sheet_symmetries.proofs.table_question.Statement.{statement}
+use Rattle.sheet_symmetries.proofs.{Targets.blank-new, table_question.Statement.statement}
 use Rattle.sheet_symmetries.proofs.table_question.Tie as tie
-use Rattle.sheet_symmetries.proofs.table_question.Reads as reads
-use Rattle.sheet_symmetries.proofs.table_question.Lts as lts
-use Rattle.sheet_symmetries.proofs.moves.targets.Reads as targets-reads
-use Rattle.sheet_symmetries.proofs.table.decode.Reads as decode-reads
-use Rattle.sheet_symmetries.proofs.walk.constraints.Reads as constraints-reads
-use Rattle.sheet_symmetries.proofs.walk.variables.Reads as variables-reads
 
--- src/lib.rt:52:9
 decode-requires : tie.Need-decode-requires
 decode-requires c κs = let h = c .before .before .before .pre in ((h .0, asked-table (h .0) _ _ _ _ (h .1)), blank-new)
 
--- src/lib.rt:53:9
 returns : tie.Need-returns
 returns c = λ p a. answer-15 p _ _ _ _ a (sym (c .before .decode .ensures .drawn p (asked-table p _ _ _ _ a) .answers) ∙ not-true _ (c .if1 .taken))
 
@@ -52,24 +35,16 @@ lent c p a =
     let k = e .before .decode .ensures .drawn p (asked-table p _ _ _ _ a) .back (not-false _ (e .if1 .left)) in
     asked-lent p _ _ _ _ a t _ (decoded e p a) _ (c .targets .ensures p (a .ready .framed) (asked-coded p _ _ _ _ a t _ (decoded e p a)) k)
 
--- src/lib.rt:55:5
-targets-requires : tie.Need-targets-requires
-targets-requires c κs = search needs
-
--- src/lib.rt:56:9
 variables-requires : tie.Need-variables-requires
 variables-requires c κs = let h = c .before .before .before .before .before .before .before .before .before .before .pre in (h .0, lent (c .before .before) (h .0) (h .1))
 
--- src/lib.rt:57:9
 returns-2 : tie.Need-returns-2
 returns-2 c = λ p a. let d = c .before .before .before .before in let e = d .before .before .before in
     answer-16 p _ _ _ _ a (permuted e p a) _ (decoded e p a) _ (c .before .variables .ensures p (lent d p a)) (not-true _ (c .if2 .taken))
 
--- src/lib.rt:59:9
 constraints-requires : tie.Need-constraints-requires
 constraints-requires c κs = let d = c .before .before .before .before .before .before in let h = d .before .before .before .before .before .before .before .before .pre in (h .0, lent d (h .0) (h .1))
 
--- src/lib.rt:60:9
 returns-3 : tie.Need-returns-3
 returns-3 c =
     λ p a.
@@ -79,7 +54,6 @@ returns-3 c =
     answer-last p _ _ _ _ a (permuted e p a) _ (decoded e p a) _ (v .before .variables .ensures p (lent d p a))
     _ false (not-false _ (v .if2 .left)) (c .before .constraints .ensures p (lent d p a)) (not-true _ (c .if3 .taken))
 
--- src/lib.rt:46:1
 returns-4 : tie.Need-returns-4
 returns-4 c =
     λ p a.
@@ -93,11 +67,4 @@ pub table-question-spec : {M : Type 1} → statement M
 table-question-spec =
     tie.close
     (tie.spec
-    decode-requires
-    returns
-    targets-requires
-    variables-requires
-    returns-2
-    constraints-requires
-    returns-3
-    returns-4)
+    decode-requires returns (λ c κs. search needs) variables-requires returns-2 constraints-requires returns-3 returns-4)

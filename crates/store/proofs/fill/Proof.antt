@@ -1,37 +1,10 @@
 -- `fill`: the head, and the table behind it. Assumes nothing.
-use mathlib.Core.Path.{ap, _∙_}
-use mathlib.Core.List.{List, _∷_}
-use Prim.Native.Nat.{ℕ, _+_}
-use native.Mathlib.Omega.{arith}
-use lib.ListN.{length}
-use Rattle.model.specs.Bytes.{twoBytes}
-use Rattle.model.specs.Written.{placed}
+use Rattle.model.specs.Kit.{ap, _∙_, List, _∷_, ℕ, _+_, arith, length, needs}
+use Rattle.model.specs.{Bytes.twoBytes, Written.placed}
 use Rattle.model.proofs.Written.{placed-then}
 use Rattle.store.specs.Layout.{slotBytes}
-use borrow.Author.Needs.{needs}
 use Rattle.store.proofs.fill.Statement.{statement}
 use Rattle.store.proofs.fill.Tie as tie
-
-cast-t8 : tie.Need-cast-t8
-cast-t8 c = search needs
-
-cast-t10 : tie.Need-cast-t10
-cast-t10 c = search needs
-
-slice-aggregate-place : tie.Need-slice-aggregate-place
-slice-aggregate-place c = search needs
-
-place-requires : tie.Need-place-requires
-place-requires c κs = search needs
-
-add-copy : tie.Need-add-copy
-add-copy c = search needs
-
-copy-requires : tie.Need-copy-requires
-copy-requires c κs = search needs
-
-same-length : tie.Need-same-length
-same-length c = search needs
 
 returns : tie.Need-returns
 unfolding slotBytes
@@ -45,11 +18,4 @@ pub fill-spec : {M : Type 1} → statement M
 fill-spec =
     tie.close
     (tie.spec
-    cast-t8
-    cast-t10
-    slice-aggregate-place
-    place-requires
-    add-copy
-    copy-requires
-    same-length
-    returns)
+    (λ c. search needs) (λ c. search needs) (λ c. search needs) (λ c κs. search needs) (λ c. search needs) (λ c κs. search needs) (λ c. search needs) returns)

@@ -1,13 +1,8 @@
 -- `free_all`: after i turns the first i slots are freed. Assumes nothing.
-use mathlib.Core.Path.{_≡_, refl, sym, ap, _∙_}
-use mathlib.Core.Logic.{⊎-elim}
-use Prim.Native.Nat.{_≤_, _-_}
+use Rattle.model.specs.Kit.{_≡_, refl, sym, ap, _∙_, ⊎-elim, _≤_, _-_, length, length-set, needs}
 use native.Mathlib.Nat.{le-antisymm}
-use lib.ListN.{length, length-set}
 use Rattle.store.specs.Layout.{freed}
-use Rattle.store.proofs.Slots.{freed-taken, freed-left}
-use borrow.Author.Needs.{needs}
-use Rattle.store.proofs.free_all.Statement.{statement}
+use Rattle.store.proofs.{Slots.freed-taken, Slots.freed-left, free_all.Statement.statement}
 use Rattle.store.proofs.free_all.Tie as tie
 
 abbrev Inv-loop : tie.InvT-loop
@@ -42,7 +37,12 @@ loop-again c =
     let p = c .before .before .before .slot-at in
     let h = c .before .holds in
     ⊎-elim
-    (λ w. (search needs, w .1 ∙ freed-taken (a .store .now) (a .owner) (a .key) (l .store) (l .i) (p .result) (l .inv .1) (p .ensures) (sym (h .ensures) ∙ w .0 .taken), ap length (w .1) ∙ length-set (l .store) (p .result) 0 ∙ l .inv .2))
+    (λ w. (
+      search needs,
+      w .1 ∙ freed-taken (a .store .now) (a .owner) (a .key) (l .store) (l .i) (p .result) (l .inv .1) (p .ensures) (sym (h .ensures) ∙ w .0 .taken),
+      ap length (w .1)
+          ∙ length-set (l .store) (p .result) 0 ∙ l .inv .2,
+    ))
     (λ w. (search needs, w .1 ∙ freed-left (a .store .now) (a .owner) (a .key) (l .store) (l .i) (p .result) (l .inv .1) (p .ensures) (sym (h .ensures) ∙ w .0 .left), ap length (w .1) ∙ l .inv .2))
     (c .if1 .came)
 
@@ -56,14 +56,4 @@ pub free-all-spec : {M : Type 1} → statement M
 free-all-spec =
     tie.close
     (tie.spec
-    Inv-loop
-    μ-loop
-    loop-holds
-    slot-at-requires
-    holds-requires
-    slice-write-store
-    add-i
-    loop-less
-    loop-again
-    same-length
-    returns)
+    Inv-loop μ-loop loop-holds slot-at-requires holds-requires slice-write-store add-i loop-less loop-again same-length returns)

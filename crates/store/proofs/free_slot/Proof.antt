@@ -1,12 +1,7 @@
 -- `free_slot`: after i turns the first i slots are not free. Assumes nothing.
-use mathlib.Core.Path.{_≡_, sym, _∙_}
-use mathlib.Core.Bool.{false}
-use Prim.Native.Nat.{ℕ, _≤_, _<_, _-_}
-use native.Mathlib.Omega.{arith}
-use borrow.Author.Count.{below-more}
+use Rattle.model.specs.Kit.{_≡_, sym, _∙_, false, ℕ, _≤_, _<_, _-_, arith, below-more, needs}
 use Rattle.store.specs.Layout.{isFree}
 use Rattle.model.proofs.Least.{first-is}
-use borrow.Author.Needs.{needs}
 use Rattle.store.proofs.free_slot.Statement.{statement}
 use Rattle.store.proofs.free_slot.Tie as tie
 
@@ -47,12 +42,4 @@ pub free-slot-spec : {M : Type 1} → statement M
 free-slot-spec =
     tie.close
     (tie.spec
-    Inv-loop
-    μ-loop
-    loop-holds
-    is-free-requires
-    returns
-    add-i
-    loop-less
-    loop-again
-    returns-2)
+    Inv-loop μ-loop loop-holds is-free-requires returns add-i loop-less loop-again returns-2)

@@ -1,34 +1,15 @@
 -- `is_free`: the flag, then the first slot with its key. Assumes nothing.
-use mathlib.Core.Path.{sym, ap, _∙_}
-use Prim.Native.Nat.{ℕ, _+_}
-use lib.Dec.{ltb}
+use Rattle.model.specs.Kit.{sym, ap, _∙_, ℕ, _+_, ltb, needs}
 use Rattle.model.specs.Lists.{at}
 use Rattle.store.specs.Layout.{slotWith}
-use Rattle.store.proofs.Slots.{free-unheld, free-held}
-use borrow.Author.Needs.{needs}
-use Rattle.store.proofs.is_free.Statement.{statement}
+use Rattle.store.proofs.{Slots.free-unheld, Slots.free-held, is_free.Statement.statement}
 use Rattle.store.proofs.is_free.Tie as tie
-
-slot-at-requires : tie.Need-slot-at-requires
-slot-at-requires c κs = search needs
-
-shared-slice-read-if1 : tie.Need-shared-slice-read-if1
-shared-slice-read-if1 c = search needs
 
 returns : tie.Need-returns
 unfolding at
 returns c =
     let a = c .before .before .before .before .args in
     sym (free-unheld (a .store .now) (a .owner) (a .i) (ap (at (a .store .now)) (sym (c .before .before .slot-at .ensures)) ∙ c .if1 .taken))
-
-add-slot-with : tie.Need-add-slot-with
-add-slot-with c = search needs
-
-shared-slice-read-slot-with : tie.Need-shared-slice-read-slot-with
-shared-slice-read-slot-with c = search needs
-
-slot-with-requires : tie.Need-slot-with-requires
-slot-with-requires c κs = search needs
 
 returns-2 : tie.Need-returns-2
 unfolding at
@@ -44,10 +25,4 @@ pub is-free-spec : {M : Type 1} → statement M
 is-free-spec =
     tie.close
     (tie.spec
-    slot-at-requires
-    shared-slice-read-if1
-    returns
-    add-slot-with
-    shared-slice-read-slot-with
-    slot-with-requires
-    returns-2)
+    (λ c κs. search needs) (λ c. search needs) returns (λ c. search needs) (λ c. search needs) (λ c κs. search needs) returns-2)

@@ -1,15 +1,8 @@
 -- `put`: the questions in their order, and the slot filled. Assumes nothing.
-use mathlib.Core.Path.{_≡_, ap, _∙_}
-use Prim.Native.Nat.{ℕ, _<_}
-use native.Mathlib.Omega.{arith}
-use Rattle.model.specs.Lists.{at}
-use Rattle.model.specs.Written.{placed}
-use Rattle.store.specs.Store.{put, call}
-use Rattle.store.specs.Layout.{slotAt, slotFor, slotBytes}
-use Rattle.store.proofs.Calls.{verdict-wrong}
-use Rattle.store.proofs.Answers.{refuses, accepts, asks-31, put-33, put-32, put-yes}
-use borrow.Author.Needs.{needs}
-use Rattle.store.proofs.put.Statement.{statement}
+use Rattle.model.specs.Kit.{_≡_, ap, _∙_, ℕ, _<_, arith, needs}
+use Rattle.model.specs.{Lists.at, Written.placed}
+use Rattle.store.specs.{Store.put, Store.call, Layout.slotAt, Layout.slotFor, Layout.slotBytes}
+use Rattle.store.proofs.{Calls.verdict-wrong, Answers.refuses, Answers.accepts, Answers.asks-31, Answers.put-33, Answers.put-32, Answers.put-yes, put.Statement.statement}
 use Rattle.store.proofs.put.Tie as tie
 
 returns : tie.Need-returns
@@ -30,12 +23,6 @@ returns-2 c =
     let bytes : (i : ℕ) → at b i < 256 = λ i. omega (arith, c .before .before .before .slice-known .given i) in
     refuses b (a .owner) (a .key) (put t) bytes (asks-31 b (a .owner) (a .key) (put t) (omega (arith, c .before .if1 .left)) (c .if2 .taken))
 
-slot-for-requires : tie.Need-slot-for-requires
-slot-for-requires c κs = search needs
-
-same-length : tie.Need-same-length
-same-length c = search needs
-
 returns-3 : tie.Need-returns-3
 unfolding at
 returns-3 c =
@@ -43,10 +30,8 @@ returns-3 c =
     let b = a .store .now in
     let t = a .table .now in
     let bytes : (i : ℕ) → at b i < 256 = λ i. omega (arith, c .before .before .before .before .before .before .slice-known .given i) in
-    refuses b (a .owner) (a .key) (put t) bytes (put-33 b (a .owner) (a .key) (omega (arith, c .before .before .before .before .if1 .left)) (c .before .before .before .if2 .left) bytes t (c .if3 .taken))
-
-same-length-2 : tie.Need-same-length-2
-same-length-2 c = search needs
+    refuses b (a .owner) (a .key) (put t) bytes (put-33 b (a .owner) (a .key) (omega (arith, c .before .before .before .before .if1 .left)) (c .before .before .before .if2 .left) bytes t
+    (c .if3 .taken))
 
 returns-4 : tie.Need-returns-4
 unfolding at
@@ -56,40 +41,27 @@ returns-4 c =
     let t = a .table .now in
     let bytes : (i : ℕ) → at b i < 256 = λ i. omega (arith, c .before .before .before .before .before .before .before .slice-known .given i) in
     let e : c .before .before .slot-for .result ≡ slotFor b (a .owner) (a .key) = c .before .before .slot-for .ensures in
-    refuses b (a .owner) (a .key) (put t) bytes (put-32 b (a .owner) (a .key) (omega (arith, c .before .before .before .before .before .if1 .left)) (c .before .before .before .before .if2 .left) bytes t (c .before .if3 .left) (omega (arith, e, c .if4 .taken)))
-
-slot-at-requires : tie.Need-slot-at-requires
-slot-at-requires c κs = search needs
-
-fill-requires : tie.Need-fill-requires
-fill-requires c κs = search needs
-
-same-length-3 : tie.Need-same-length-3
-same-length-3 c = search needs
+    refuses b (a .owner) (a .key) (put t) bytes (put-32 b (a .owner) (a .key) (omega (arith, c .before .before .before .before .before .if1 .left))
+    (c .before .before .before .before .if2 .left) bytes t (c .before .if3 .left) (omega (arith, e, c .if4 .taken)))
 
 returns-5 : tie.Need-returns-5
 unfolding at
 returns-5 c =
-    let a = c .before .before .before .before .before .before .before .before .before .before .before .before .before .args in
+    let c10 = c .before .before .before .before .before .before .before .before .before .before in
+    let a = c10 .before .before .before .args in
     let b = a .store .now in
     let t = a .table .now in
-    let bytes : (i : ℕ) → at b i < 256 = λ i. omega (arith, c .before .before .before .before .before .before .before .before .before .before .before .before .slice-known .given i) in
-    let e : c .before .before .before .before .before .before .before .slot-for .result ≡ slotFor b (a .owner) (a .key) = c .before .before .before .before .before .before .before .slot-for .ensures in
-    accepts b (a .owner) (a .key) (put t) bytes _ (put-yes b (a .owner) (a .key) (omega (arith, c .before .before .before .before .before .before .before .before .before .before .if1 .left)) (c .before .before .before .before .before .before .before .before .before .if2 .left) bytes t (c .before .before .before .before .before .before .if3 .left) (omega (arith, e, c .before .before .before .before .before .if4 .left)))
+    let bytes : (i : ℕ) → at b i < 256 = λ i. omega (arith, c10 .before .before .slice-known .given i) in
+    let e : c .before .before .before .before .before .before .before .slot-for .result ≡ slotFor b (a .owner)
+    (a .key) = c .before .before .before .before .before .before .before .slot-for .ensures in
+    accepts b (a .owner) (a .key) (put t) bytes _ (put-yes b (a .owner) (a .key) (omega (arith, c10 .if1 .left))
+    (c .before .before .before .before .before .before .before .before .before .if2 .left) bytes t (c .before .before .before .before .before .before .if3 .left)
+    (omega (arith, e, c .before .before .before .before .before .if4 .left)))
     (c .before .before .fill .ensures ∙ ap (λ (p : ℕ). placed b p (slotBytes (a .key) t)) (c .before .before .before .slot-at .ensures ∙ ap (slotAt (a .owner)) e))
 
 pub put-spec : {M : Type 1} → statement M
 put-spec =
     tie.close
     (tie.spec
-    returns
-    returns-2
-    slot-for-requires
-    same-length
-    returns-3
-    same-length-2
-    returns-4
-    slot-at-requires
-    fill-requires
-    same-length-3
-    returns-5)
+    returns returns-2 (λ c κs. search needs) (λ c. search needs) returns-3 (λ c. search needs) returns-4 (λ c κs. search needs) (λ c κs. search needs)
+    (λ c. search needs) returns-5)

@@ -1,14 +1,8 @@
 -- `remove`: the questions in their order, and the slots freed. Assumes nothing.
-use mathlib.Core.Path.{_≡_}
-use Prim.Native.Nat.{ℕ, _<_}
-use native.Mathlib.Omega.{arith}
+use Rattle.model.specs.Kit.{_≡_, ℕ, _<_, arith, needs}
 use Rattle.model.specs.Lists.{at}
-use Rattle.store.specs.Store.{remove, call}
-use Rattle.store.specs.Layout.{slotWith}
-use Rattle.store.proofs.Calls.{verdict-wrong}
-use Rattle.store.proofs.Answers.{refuses, accepts, asks-31, remove-34, remove-yes}
-use borrow.Author.Needs.{needs}
-use Rattle.store.proofs.remove.Statement.{statement}
+use Rattle.store.specs.{Store.remove, Store.call, Layout.slotWith}
+use Rattle.store.proofs.{Calls.verdict-wrong, Answers.refuses, Answers.accepts, Answers.asks-31, Answers.remove-34, Answers.remove-yes, remove.Statement.statement}
 use Rattle.store.proofs.remove.Tie as tie
 
 returns : tie.Need-returns
@@ -27,12 +21,6 @@ returns-2 c =
     let bytes : (i : ℕ) → at b i < 256 = λ i. omega (arith, c .before .before .slice-known .given i) in
     refuses b (a .owner) (a .key) remove bytes (asks-31 b (a .owner) (a .key) remove (omega (arith, c .before .if1 .left)) (c .if2 .taken))
 
-slot-with-requires : tie.Need-slot-with-requires
-slot-with-requires c κs = search needs
-
-same-length : tie.Need-same-length
-same-length c = search needs
-
 returns-3 : tie.Need-returns-3
 unfolding at
 returns-3 c =
@@ -40,13 +28,8 @@ returns-3 c =
     let b = a .store .now in
     let bytes : (i : ℕ) → at b i < 256 = λ i. omega (arith, c .before .before .before .before .before .slice-known .given i) in
     let e : c .before .slot-with .result ≡ slotWith b (a .owner) (a .key) = c .before .slot-with .ensures in
-    refuses b (a .owner) (a .key) remove bytes (remove-34 b (a .owner) (a .key) (omega (arith, c .before .before .before .before .if1 .left)) (c .before .before .before .if2 .left) (omega (arith, e, c .if3 .taken)))
-
-free-all-requires : tie.Need-free-all-requires
-free-all-requires c κs = search needs
-
-same-length-2 : tie.Need-same-length-2
-same-length-2 c = search needs
+    refuses b (a .owner) (a .key) remove bytes (remove-34 b (a .owner) (a .key) (omega (arith, c .before .before .before .before .if1 .left)) (c .before .before .before .if2 .left)
+    (omega (arith, e, c .if3 .taken)))
 
 returns-4 : tie.Need-returns-4
 unfolding at
@@ -55,17 +38,11 @@ returns-4 c =
     let b = a .store .now in
     let bytes : (i : ℕ) → at b i < 256 = λ i. omega (arith, c .before .before .before .before .before .before .before .before .before .slice-known .given i) in
     let e : c .before .before .before .before .before .slot-with .result ≡ slotWith b (a .owner) (a .key) = c .before .before .before .before .before .slot-with .ensures in
-    accepts b (a .owner) (a .key) remove bytes _ (remove-yes b (a .owner) (a .key) (omega (arith, c .before .before .before .before .before .before .before .before .if1 .left)) (c .before .before .before .before .before .before .before .if2 .left) (omega (arith, e, c .before .before .before .before .if3 .left))) (c .before .before .free-all .ensures)
+    accepts b (a .owner) (a .key) remove bytes _ (remove-yes b (a .owner) (a .key) (omega (arith, c .before .before .before .before .before .before .before .before .if1 .left))
+    (c .before .before .before .before .before .before .before .if2 .left) (omega (arith, e, c .before .before .before .before .if3 .left))) (c .before .before .free-all .ensures)
 
 pub remove-spec : {M : Type 1} → statement M
 remove-spec =
     tie.close
     (tie.spec
-    returns
-    returns-2
-    slot-with-requires
-    same-length
-    returns-3
-    free-all-requires
-    same-length-2
-    returns-4)
+    returns returns-2 (λ c κs. search needs) (λ c. search needs) returns-3 (λ c κs. search needs) (λ c. search needs) returns-4)

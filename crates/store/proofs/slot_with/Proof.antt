@@ -1,13 +1,7 @@
 -- `slot_with`: after i turns the first i slots do not hold the key. Assumes nothing.
-use mathlib.Core.Path.{_≡_, sym, ap, _∙_}
-use mathlib.Core.Bool.{false}
-use Prim.Native.Nat.{ℕ, _≤_, _<_, _-_}
-use native.Mathlib.Omega.{arith}
-use borrow.Author.Count.{below-more}
+use Rattle.model.specs.Kit.{_≡_, sym, ap, _∙_, false, ℕ, _≤_, _<_, _-_, arith, below-more, needs}
 use Rattle.store.specs.Layout.{slotAt, holds}
-use Rattle.store.proofs.Slots.{with-is}
-use borrow.Author.Needs.{needs}
-use Rattle.store.proofs.slot_with.Statement.{statement}
+use Rattle.store.proofs.{Slots.with-is, slot_with.Statement.statement}
 use Rattle.store.proofs.slot_with.Tie as tie
 
 abbrev Inv-loop : tie.InvT-loop
@@ -29,7 +23,8 @@ returns : tie.Need-returns Inv-loop μ-loop
 returns c =
     let a = c .before .before .before .before .before .before .args in
     let l = c .before .before .before .before .loop in
-    sym (with-is (a .store .now) (a .owner) (a .key) (l .i) (l .inv .0) (l .inv .1) (λ h. ap (holds (a .store .now) (a .key)) (sym (c .before .before .slot-at .ensures)) ∙ sym (c .before .holds .ensures) ∙ c .if1 .taken))
+    sym (with-is (a .store .now) (a .owner) (a .key) (l .i) (l .inv .0) (l .inv .1) (λ h. ap (holds (a .store .now) (a .key)) (sym (c .before .before .slot-at .ensures)) ∙ sym
+    (c .before .holds .ensures) ∙ c .if1 .taken))
 
 add-i : tie.Need-add-i Inv-loop μ-loop
 add-i c = search needs
@@ -53,13 +48,4 @@ pub slot-with-spec : {M : Type 1} → statement M
 slot-with-spec =
     tie.close
     (tie.spec
-    Inv-loop
-    μ-loop
-    loop-holds
-    slot-at-requires
-    holds-requires
-    returns
-    add-i
-    loop-less
-    loop-again
-    returns-2)
+    Inv-loop μ-loop loop-holds slot-at-requires holds-requires returns add-i loop-less loop-again returns-2)

@@ -1,13 +1,8 @@
 -- `three`: three numbers, which fill the twelve bytes. Assumes nothing.
-use native.Mathlib.Omega.{arith}
+use Rattle.model.specs.Kit.{arith, needs}
 use Rattle.model.specs.Bytes.{fourBytes}
-use Rattle.wire.proofs.Numbers.{put-three}
-use borrow.Author.Needs.{needs}
-use Rattle.wire.proofs.three.Statement.{statement}
+use Rattle.wire.proofs.{Numbers.put-three, three.Statement.statement}
 use Rattle.wire.proofs.three.Tie as tie
-
-four-requires : tie.Need-four-requires
-four-requires c κs = search needs
 
 four-requires-2 : tie.Need-four-requires-2
 unfolding fourBytes
@@ -24,9 +19,6 @@ four-requires-3 c κs =
     let s = p .before .before .before in
     (omega (arith, q .four2 .ensures .ends, q .four2 .kept .0, p .four .ensures .ends, p .four .kept .0, s .pre .0), s .pre .3)
 
-same-length : tie.Need-same-length
-same-length c = search needs
-
 returns : tie.Need-returns
 returns c =
     let r = c .before .before in
@@ -36,4 +28,7 @@ returns c =
     put-three (s .args .kind) (s .args .a) (s .args .b) (s .pre .0) (p .four .ensures) (q .four2 .ensures) (r .four3 .ensures)
 
 pub three-spec : {M : Type 1} → statement M
-three-spec = tie.close (tie.spec four-requires four-requires-2 four-requires-3 same-length returns)
+three-spec =
+    tie.close
+    (tie.spec
+    (λ c κs. search needs) four-requires-2 four-requires-3 (λ c. search needs) returns)

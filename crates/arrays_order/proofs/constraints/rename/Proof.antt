@@ -1,12 +1,8 @@
 -- One constraint after another. Assumes nothing.
-use mathlib.Core.Path.{_∙_}
-use Prim.Native.Nat.{_-_, _≤_}
-use native.Mathlib.Omega.{arith}
-use borrow.Author.Needs.{needs}
+use Rattle.model.specs.Kit.{_∙_, _-_, _≤_, arith, needs}
 use Rattle.model.specs.Lists.{at}
-use Rattle.arrays_order.specs.Steps.{Renamed}
-use Rattle.arrays_order.proofs.Scopes.{renamed-begin, renamed-turn, scope-still, renamed-end}
-use Rattle.arrays_order.proofs.constraints.rename.Statement.{statement}
+use Rattle.arrays_order.specs.inner.Steps.{Renamed}
+use Rattle.arrays_order.proofs.{Scopes.renamed-begin, Scopes.renamed-turn, Scopes.scope-still, Scopes.renamed-end, constraints.rename.Statement.statement}
 use Rattle.arrays_order.proofs.constraints.rename.Tie as tie
 
 abbrev Inv-loop : tie.InvT-loop
@@ -32,7 +28,12 @@ mul-scope-2 c = search needs
 
 scope-requires : tie.Need-scope-requires Inv-loop μ-loop
 unfolding at
-scope-requires c κs = (omega arith, search needs, scope-still _ _ _ _ _ _ _ (c .before .before .before .loop .inv .1) (c .before .before .before .before .pre .2 _ (search needs)), c .before .before .before .loop .inv .1 .supports-size ∙ c .before .before .before .before .pre .4)
+scope-requires c κs = (
+  omega arith,
+  search needs,
+  scope-still _ _ _ _ _ _ _ (c .before .before .before .loop .inv .1) (c .before .before .before .before .pre .2 _ (search needs)),
+  c .before .before .before .loop .inv .1 .supports-size ∙ c .before .before .before .before .pre .4,
+)
 
 add-numbers : tie.Need-add-numbers Inv-loop μ-loop
 add-numbers c = search needs
@@ -51,7 +52,11 @@ loop-less c = search needs
 
 loop-again : tie.Need-loop-again Inv-loop μ-loop
 unfolding at
-loop-again c = (search needs, renamed-turn _ _ _ _ _ _ _ _ (omega arith) (c .before .before .before .before .before .pre .3) (c .before .before .before .before .loop .inv .1) (c .scope .ensures .0) (c .scope .ensures .1))
+loop-again c = (
+  search needs,
+  renamed-turn _ _ _ _ _ _ _ _ (omega arith) (c .before .before .before .before .before .pre .3) (c .before .before .before .before .loop .inv .1)
+      (c .scope .ensures .0) (c .scope .ensures .1),
+)
 
 returns : tie.Need-returns Inv-loop μ-loop
 returns c = renamed-end _ _ _ _ _ _ _ (search needs) (search needs) (c .before .loop .inv .1)
@@ -60,18 +65,5 @@ pub rename-spec : {M : Type 1} → statement M
 rename-spec =
     tie.close
     (tie.spec
-    Inv-loop
-    μ-loop
-    loop-holds
-    add-scope
-    mul-scope
-    element-copy-out-scope
-    mul-scope-2
-    scope-requires
-    add-numbers
-    mul-numbers
-    element-write-numbers
-    add-k
-    loop-less
-    loop-again
-    returns)
+    Inv-loop μ-loop loop-holds add-scope mul-scope element-copy-out-scope mul-scope-2 scope-requires add-numbers mul-numbers element-write-numbers add-k
+    loop-less loop-again returns)

@@ -1,9 +1,7 @@
 -- One symmetry after another. Assumes nothing.
-use Prim.Native.Nat.{_-_, _≤_}
-use borrow.Author.Needs.{needs}
-use Rattle.arrays_order.specs.Steps.{MovedImages}
-use Rattle.arrays_order.proofs.Moves.{images-begin, images-turn, images-end}
-use Rattle.arrays_order.proofs.images.rename.Statement.{statement}
+use Rattle.model.specs.Kit.{_-_, _≤_, needs}
+use Rattle.arrays_order.specs.inner.Steps.{MovedImages}
+use Rattle.arrays_order.proofs.{Moves.images-begin, Moves.images-turn, Moves.images-end, images.rename.Statement.statement}
 use Rattle.arrays_order.proofs.images.rename.Tie as tie
 
 abbrev Inv-loop : tie.InvT-loop
@@ -37,12 +35,4 @@ pub rename-spec : {M : Type 1} → statement M
 rename-spec =
     tie.close
     (tie.spec
-    Inv-loop
-    μ-loop
-    loop-holds
-    mul-symmetry
-    symmetry-requires
-    add-e
-    loop-less
-    loop-again
-    returns)
+    Inv-loop μ-loop loop-holds mul-symmetry symmetry-requires add-e loop-less loop-again returns)

@@ -1,17 +1,14 @@
 -- One pair after another. Assumes nothing.
-use mathlib.Core.Path.{_≡_, refl, ap, _∙_}
-use Prim.Native.Nat.{ℕ, _+_, _*_, _/_, _%_, _-_, _≤_, _<_}
-use native.Mathlib.Omega.{arith}
-use borrow.Author.Needs.{needs}
-use Rattle.model.specs.Lists.{at}
+use Rattle.model.specs.Kit.{_≡_, refl, ap, _∙_, ℕ, _+_, _*_, _/_, _%_, _-_, _≤_, _<_, arith, needs}
+use Rattle.model.specs.{Lists.at, inner.Filling.Filled}
 use Rattle.model.proofs.Filling.{filled-begin, filled-turn, filled-end}
-use Rattle.model.specs.Filling.{Filled}
-use Rattle.arrays_order.specs.Steps.{renamedTo, imageFrom}
+use Rattle.arrays_order.specs.inner.Steps.{renamedTo, imageFrom}
 use Rattle.arrays_order.proofs.images.symmetry.Statement.{statement}
 use Rattle.arrays_order.proofs.images.symmetry.Tie as tie
 
 abbrev Inv-loop : tie.InvT-loop
-Inv-loop order stands n from images₀ old m j₀ images j = (j ≤ m) × (m ≡ 16 * n) × ((i : ℕ) → i < 192 → at old i ≡ at images₀ (from + i)) × Filled (λ i. from + i) (λ i r. r ≡ renamedTo stands (at images₀ (from + imageFrom order i))) j images₀ images
+Inv-loop order stands n from images₀ old m j₀ images j = (j ≤ m) × (m ≡ 16 * n) × ((i : ℕ) → i < 192 → at old i ≡ at images₀ (from + i)) × Filled (λ i. from + i)
+    (λ i r. r ≡ renamedTo stands (at images₀ (from + imageFrom order i))) j images₀ images
 
 abbrev μ-loop : tie.MeasureT-loop
 μ-loop order stands n from images₀ old m j₀ images j = m - j
@@ -38,7 +35,13 @@ add-image : tie.Need-add-image Inv-loop μ-loop
 add-image c = search needs
 
 image-requires : tie.Need-image-requires Inv-loop μ-loop
-image-requires c κs = (let l : c .before .before .before .loop .j / 16 < c .before .before .before .before .before .before .before .args .n = omega (arith, c .before .before .before .loop .inv .1) in omega (arith, c .before .entry .ensures, c .before .before .before .before .before .before .before .pre .2 (c .before .before .before .loop .j / 16) l))
+image-requires c κs = (let l : c .before .before .before .loop .j / 16 < c .before .before .before .before .before .before .before .args .n = omega
+    (arith, c .before .before .before .loop .inv .1) in omega (
+      arith,
+      c .before .entry .ensures,
+      c .before .before .before .before .before .before .before .pre .2
+          (c .before .before .before .loop .j / 16) l,
+    ))
 
 renamed-requires : tie.Need-renamed-requires Inv-loop μ-loop
 renamed-requires c κs = search needs
@@ -57,9 +60,24 @@ loop-less c = search needs
 
 loop-again : tie.Need-loop-again Inv-loop μ-loop
 loop-again c =
-    let l : c .before .before .before .before .before .loop .j / 16 < c .before .before .before .before .before .before .before .before .before .args .n = omega (arith, c .before .before .before .before .before .loop .inv .1) in
-    let s : 16 * c .before .before .before .entry .result + c .before .before .before .before .before .loop .j % 16 < 192 = omega (arith, c .before .before .before .entry .ensures, c .before .before .before .before .before .before .before .before .before .pre .2 (c .before .before .before .before .before .loop .j / 16) l) in
-    (search needs, refl, c .before .before .before .before .before .loop .inv .2, filled-turn _ _ _ _ _ _ _ (c .before .before .before .before .before .loop .inv .3) refl (omega arith) (λ v l e. omega arith) (c .renamed .ensures ∙ ap (renamedTo (c .before .before .before .before .before .before .before .before .before .args .stands .now)) (c .before .image .ensures ∙ c .before .before .before .before .before .loop .inv .2 _ s ∙ ap (λ (z : ℕ). at (c .before .before .before .before .before .before .before .before .before .args .images .now) (c .before .before .before .before .before .before .before .before .before .args .from + (16 * z + c .before .before .before .before .before .loop .j % 16))) (c .before .before .before .entry .ensures))))
+    let l : c .before .before .before .before .before .loop .j / 16 < c .before .before .before .before .before .before .before .before .before .args .n = omega
+    (arith, c .before .before .before .before .before .loop .inv .1) in
+    let s : 16 * c .before .before .before .entry .result + c .before .before .before .before .before .loop .j % 16 < 192 = omega (
+      arith,
+      c .before .before .before .entry .ensures,
+      c .before .before .before .before .before .before .before .before .before .pre .2
+          (c .before .before .before .before .before .loop .j / 16) l,
+    ) in (
+      search needs,
+      refl,
+      c .before .before .before .before .before .loop .inv .2,
+      filled-turn _ _ _ _ _ _ _ (c .before .before .before .before .before .loop .inv .3) refl (omega arith)
+          (λ v l e. omega arith) (c .renamed .ensures ∙ ap (renamedTo (c .before .before .before .before .before .before .before .before .before .args .stands .now))
+          (c .before .image .ensures ∙ c .before .before .before .before .before .loop .inv .2 _ s ∙ ap
+          (λ (z : ℕ). at (c .before .before .before .before .before .before .before .before .before .args .images .now)
+          (c .before .before .before .before .before .before .before .before .before .args .from + (16 * z + c .before .before .before .before .before .loop .j % 16)))
+          (c .before .before .before .entry .ensures))),
+    )
 
 returns : tie.Need-returns Inv-loop μ-loop
 returns c = filled-end _ _ _ _ _ _ (search needs) (search needs) (c .before .loop .inv .3)
@@ -68,20 +86,5 @@ pub symmetry-spec : {M : Type 1} → statement M
 symmetry-spec =
     tie.close
     (tie.spec
-    Inv-loop
-    μ-loop
-    load-requires
-    mul-m
-    loop-holds
-    entry-requires
-    cast-x
-    mul-image
-    add-image
-    image-requires
-    renamed-requires
-    add-images
-    element-write-images
-    add-j
-    loop-less
-    loop-again
-    returns)
+    Inv-loop μ-loop load-requires mul-m loop-holds entry-requires cast-x mul-image add-image image-requires renamed-requires add-images element-write-images
+    add-j loop-less loop-again returns)

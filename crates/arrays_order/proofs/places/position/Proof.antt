@@ -1,15 +1,9 @@
 -- No index passed is that of x. Assumes nothing.
-use mathlib.Core.Bool.{false}
-use mathlib.Core.Path.{_≡_, sym, ap, _∙_}
-use Prim.Native.Nat.{ℕ, _-_, _≤_, _<_}
-use native.Mathlib.Omega.{arith}
-use lib.Dec.{eqb}
-use borrow.Author.Needs.{needs}
-use borrow.Author.Tests.{eq-eqb, ne-eqb}
+use Rattle.model.specs.Kit.{false, _≡_, sym, ap, _∙_, ℕ, _-_, _≤_, _<_, arith, eqb, needs, eq-eqb, ne-eqb}
 use Rattle.model.specs.Lists.{at}
 use Rattle.model.proofs.Masks.{least-at, least-none}
-use Rattle.arrays_order.proofs.Loops.{more-no}
 use Rattle.arrays_order.proofs.places.position.Statement.{statement}
+use Rattle.order.proofs.Placing.{more-no}
 use Rattle.arrays_order.proofs.places.position.Tie as tie
 
 abbrev Inv-loop : tie.InvT-loop
@@ -37,7 +31,11 @@ loop-less : tie.Need-loop-less Inv-loop μ-loop
 loop-less c = search needs
 
 loop-again : tie.Need-loop-again Inv-loop μ-loop
-loop-again c = (search needs, more-no _ _ (c .before .before .before .loop .inv .1) (ap (λ (z : ℕ). eqb z (c .before .before .before .before .args .x)) (sym (c .before .entry .ensures)) ∙ ne-eqb _ _ (c .if1 .left)))
+loop-again c = (
+  search needs,
+  more-no _ _ (c .before .before .before .loop .inv .1) (ap (λ (z : ℕ). eqb z (c .before .before .before .before .args .x)) (sym (c .before .entry .ensures))
+      ∙ ne-eqb _ _ (c .if1 .left)),
+)
 
 returns-2 : tie.Need-returns-2 Inv-loop μ-loop
 returns-2 c = (sym (least-none _ _ (λ j k. c .before .loop .inv .1 j (omega arith))), search needs)
@@ -46,13 +44,4 @@ pub position-spec : {M : Type 1} → statement M
 position-spec =
     tie.close
     (tie.spec
-    Inv-loop
-    μ-loop
-    loop-holds
-    entry-requires
-    cast-if1
-    returns
-    add-i
-    loop-less
-    loop-again
-    returns-2)
+    Inv-loop μ-loop loop-holds entry-requires cast-if1 returns add-i loop-less loop-again returns-2)

@@ -1,11 +1,8 @@
 -- One variable after another. Assumes nothing.
-use mathlib.Core.Path.{_≡_, refl}
-use Prim.Native.Nat.{_-_, _≤_}
-use native.Mathlib.Omega.{arith}
-use borrow.Author.Needs.{needs}
+use Rattle.model.specs.Kit.{_≡_, refl, _-_, _≤_, arith, needs}
 use Rattle.model.proofs.Filling.{filled-begin, filled-turn, filled-end}
-use Rattle.model.specs.Filling.{Filled}
-use Rattle.arrays_order.specs.Steps.{stand}
+use Rattle.model.specs.inner.Filling.{Filled}
+use Rattle.arrays_order.specs.inner.Steps.{stand}
 use Rattle.arrays_order.proofs.places.positions.Statement.{statement}
 use Rattle.arrays_order.proofs.places.positions.Tie as tie
 
@@ -43,13 +40,4 @@ pub positions-spec : {M : Type 1} → statement M
 positions-spec =
     tie.close
     (tie.spec
-    Inv-loop
-    μ-loop
-    loop-holds
-    position-requires
-    cast-stands
-    element-write-stands
-    add-x
-    loop-less
-    loop-again
-    returns)
+    Inv-loop μ-loop loop-holds position-requires cast-stands element-write-stands add-x loop-less loop-again returns)

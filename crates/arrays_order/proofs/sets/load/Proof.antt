@@ -1,11 +1,7 @@
 -- One number after another. Assumes nothing.
-use mathlib.Core.Path.{_≡_, refl}
-use Prim.Native.Nat.{_+_, _-_, _≤_}
-use native.Mathlib.Omega.{arith}
-use borrow.Author.Needs.{needs}
-use Rattle.model.specs.Lists.{at}
+use Rattle.model.specs.Kit.{_≡_, refl, _+_, _-_, _≤_, arith, needs}
+use Rattle.model.specs.{Lists.at, inner.Filling.Filled}
 use Rattle.model.proofs.Filling.{filled-begin, filled-turn, filled-end}
-use Rattle.model.specs.Filling.{Filled}
 use Rattle.arrays_order.proofs.sets.load.Statement.{statement}
 use Rattle.arrays_order.proofs.sets.load.Tie as tie
 
@@ -50,15 +46,4 @@ pub load-spec : {M : Type 1} → statement M
 load-spec =
     tie.close
     (tie.spec
-    Inv-loop
-    μ-loop
-    loop-holds
-    add-old
-    mul-old
-    element-copy-out-old
-    mul-old-2
-    element-write-old
-    add-j
-    loop-less
-    loop-again
-    returns)
+    Inv-loop μ-loop loop-holds add-old mul-old element-copy-out-old mul-old-2 element-write-old add-j loop-less loop-again returns)

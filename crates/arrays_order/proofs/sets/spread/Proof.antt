@@ -1,16 +1,13 @@
 -- One number after another. Assumes nothing.
-use mathlib.Core.Path.{_≡_, refl, ap, _∙_}
-use Prim.Native.Nat.{ℕ, _+_, _-_, _≤_, _<_}
-use native.Mathlib.Omega.{arith}
-use borrow.Author.Needs.{needs}
-use Rattle.model.specs.Lists.{at}
+use Rattle.model.specs.Kit.{_≡_, refl, ap, _∙_, ℕ, _+_, _-_, _≤_, _<_, arith, needs}
+use Rattle.model.specs.{Lists.at, inner.Filling.Filled}
 use Rattle.model.proofs.Filling.{filled-begin, filled-turn, filled-end}
-use Rattle.model.specs.Filling.{Filled}
 use Rattle.arrays_order.proofs.sets.spread.Statement.{statement}
 use Rattle.arrays_order.proofs.sets.spread.Tie as tie
 
 abbrev Inv-loop : tie.InvT-loop
-Inv-loop order n from numbers₀ old i₀ numbers i = (i ≤ n) × ((j : ℕ) → j < 16 → at old j ≡ at numbers₀ (from + j)) × Filled (λ j. from + j) (λ j r. r ≡ at numbers₀ (from + at order j)) i numbers₀ numbers
+Inv-loop order n from numbers₀ old i₀ numbers i = (i ≤ n) × ((j : ℕ) → j < 16 → at old j ≡ at numbers₀ (from + j)) × Filled (λ j. from + j)
+    (λ j r. r ≡ at numbers₀ (from + at order j)) i numbers₀ numbers
 
 abbrev μ-loop : tie.MeasureT-loop
 μ-loop order n from numbers₀ old i₀ numbers i = n - i
@@ -50,7 +47,13 @@ loop-less c = search needs
 
 loop-again : tie.Need-loop-again Inv-loop μ-loop
 unfolding at
-loop-again c = (search needs, c .before .before .loop .inv .1, filled-turn _ _ _ _ _ _ _ (c .before .before .loop .inv .2) refl (omega arith) (λ v l e. omega arith) (c .before .before .loop .inv .1 _ (omega (arith, c .entry .ensures, c .before .before .before .before .before .before .pre .2 (c .before .before .loop .i) (search needs))) ∙ ap (λ (z : ℕ). at (c .before .before .before .before .before .before .args .numbers .now) (c .before .before .before .before .before .before .args .from + z)) (c .entry .ensures)))
+loop-again c = (
+  search needs,
+  c .before .before .loop .inv .1,
+  filled-turn _ _ _ _ _ _ _ (c .before .before .loop .inv .2) refl (omega arith) (λ v l e. omega arith)
+      (c .before .before .loop .inv .1 _ (omega (arith, c .entry .ensures, c .before .before .before .before .before .before .pre .2 (c .before .before .loop .i) (search needs))) ∙ ap
+      (λ (z : ℕ). at (c .before .before .before .before .before .before .args .numbers .now) (c .before .before .before .before .before .before .args .from + z)) (c .entry .ensures)),
+)
 
 returns : tie.Need-returns Inv-loop μ-loop
 returns c = filled-end _ _ _ _ _ _ (search needs) (search needs) (c .before .loop .inv .2)
@@ -59,18 +62,5 @@ pub spread-spec : {M : Type 1} → statement M
 spread-spec =
     tie.close
     (tie.spec
-    Inv-loop
-    μ-loop
-    load-requires
-    loop-holds
-    entry-requires
-    cast-numbers
-    mul-numbers
-    array-read-numbers
-    add-numbers
-    mul-numbers-2
-    element-write-numbers
-    add-i
-    loop-less
-    loop-again
-    returns)
+    Inv-loop μ-loop load-requires loop-holds entry-requires cast-numbers mul-numbers array-read-numbers add-numbers mul-numbers-2 element-write-numbers add-i
+    loop-less loop-again returns)

@@ -1,13 +1,8 @@
 -- One column after another. Assumes nothing.
-use mathlib.Core.Path.{refl, ap}
-use Prim.Native.Nat.{ℕ, _-_, _≤_}
-use native.Mathlib.Omega.{arith}
-use lib.Bits.{bitOr}
-use borrow.Author.Needs.{needs}
-use Rattle.model.specs.Lists.{at}
+use Rattle.model.specs.Kit.{refl, ap, ℕ, _-_, _≤_, arith, bitOr, needs}
+use Rattle.model.specs.{Lists.at, inner.Filling.Filled}
 use Rattle.model.proofs.Filling.{filled-begin, filled-turn, filled-end}
-use Rattle.model.specs.Filling.{Filled}
-use Rattle.arrays_order.specs.Steps.{Added}
+use Rattle.arrays_order.specs.inner.Steps.{Added}
 use Rattle.arrays_order.proofs.supports.add.Statement.{statement}
 use Rattle.arrays_order.proofs.supports.add.Tie as tie
 
@@ -43,7 +38,11 @@ loop-less c = search needs
 
 loop-again : tie.Need-loop-again Inv-loop μ-loop
 unfolding at
-loop-again c = (search needs, filled-turn _ _ _ _ _ _ _ (c .before .before .before .loop .inv .1) refl (omega arith) (λ v l e. omega arith) (_, c .cell .ensures, ap (λ (z : ℕ). bitOr z (c .cell .result)) (c .before .before .before .loop .inv .1 .other _ (λ v l e. omega arith))))
+loop-again c = (
+  search needs,
+  filled-turn _ _ _ _ _ _ _ (c .before .before .before .loop .inv .1) refl (omega arith) (λ v l e. omega arith)
+      (_, c .cell .ensures, ap (λ (z : ℕ). bitOr z (c .cell .result)) (c .before .before .before .loop .inv .1 .other _ (λ v l e. omega arith))),
+)
 
 returns : tie.Need-returns Inv-loop μ-loop
 returns c = filled-end _ _ _ _ _ _ (search needs) (search needs) (c .before .loop .inv .1)
@@ -52,15 +51,4 @@ pub add-spec : {M : Type 1} → statement M
 add-spec =
     tie.close
     (tie.spec
-    Inv-loop
-    μ-loop
-    loop-holds
-    mul-columns
-    element-copy-out-columns
-    cell-requires
-    mul-columns-2
-    element-write-columns
-    add-w
-    loop-less
-    loop-again
-    returns)
+    Inv-loop μ-loop loop-holds mul-columns element-copy-out-columns cell-requires mul-columns-2 element-write-columns add-w loop-less loop-again returns)

@@ -1,11 +1,8 @@
 -- One value after another. Assumes nothing.
-use Prim.Native.Nat.{_-_, _≤_}
-use native.Mathlib.Omega.{arith}
-use borrow.Author.Needs.{needs}
+use Rattle.model.specs.Kit.{_-_, _≤_, arith, needs}
 use Rattle.model.specs.Lists.{at}
-use Rattle.arrays_order.specs.Steps.{Crossed}
-use Rattle.arrays_order.proofs.Swaps.{crossed-begin, crossed-turn, crossed-end}
-use Rattle.arrays_order.proofs.supports.cross.Statement.{statement}
+use Rattle.arrays_order.specs.inner.Steps.{Crossed}
+use Rattle.arrays_order.proofs.{Swaps.crossed-begin, Swaps.crossed-turn, Swaps.crossed-end, supports.cross.Statement.statement}
 use Rattle.arrays_order.proofs.supports.cross.Tie as tie
 
 abbrev Inv-loop : tie.InvT-loop
@@ -76,24 +73,5 @@ pub cross-spec : {M : Type 1} → statement M
 cross-spec =
     tie.close
     (tie.spec
-    Inv-loop
-    μ-loop
-    loop-holds
-    mul-p
-    add-p
-    add-p-2
-    mul-q
-    add-q
-    add-q-2
-    mul-set
-    element-copy-out-set
-    mul-supports
-    element-copy-out-supports
-    mul-supports-2
-    element-write-supports
-    mul-supports-3
-    element-write-supports-2
-    add-w
-    loop-less
-    loop-again
-    returns)
+    Inv-loop μ-loop loop-holds mul-p add-p add-p-2 mul-q add-q add-q-2 mul-set element-copy-out-set mul-supports element-copy-out-supports mul-supports-2
+    element-write-supports mul-supports-3 element-write-supports-2 add-w loop-less loop-again returns)

@@ -1,10 +1,7 @@
 -- One set after another. Assumes nothing.
-use Prim.Native.Nat.{_-_, _≤_}
-use native.Mathlib.Omega.{arith}
-use borrow.Author.Needs.{needs}
+use Rattle.model.specs.Kit.{_-_, _≤_, arith, needs}
 use Rattle.model.specs.Lists.{at}
-use Rattle.arrays_order.proofs.Loops.{Columns, columns-begin, columns-turn, columns-end}
-use Rattle.arrays_order.proofs.supports.gather.Statement.{statement}
+use Rattle.arrays_order.proofs.{Loops.Columns, Loops.columns-begin, Loops.columns-turn, Loops.columns-end, supports.gather.Statement.statement}
 use Rattle.arrays_order.proofs.supports.gather.Tie as tie
 
 abbrev Inv-loop : tie.InvT-loop
@@ -45,14 +42,4 @@ pub gather-spec : {M : Type 1} → statement M
 gather-spec =
     tie.close
     (tie.spec
-    Inv-loop
-    μ-loop
-    loop-holds
-    add-add
-    mul-add
-    element-copy-out-add
-    add-requires
-    add-v
-    loop-less
-    loop-again
-    returns)
+    Inv-loop μ-loop loop-holds add-add mul-add element-copy-out-add add-requires add-v loop-less loop-again returns)

@@ -1,10 +1,6 @@
 -- One value after another. Assumes nothing.
-use mathlib.Core.Path.{_∙_}
-use Prim.Native.Nat.{_-_, _≤_}
-use native.Mathlib.Omega.{arith}
-use borrow.Author.Needs.{needs}
-use Rattle.arrays_order.proofs.Swaps.{Turned, turned-begin, turned-turn, swapped-of}
-use Rattle.arrays_order.proofs.supports.swap.Statement.{statement}
+use Rattle.model.specs.Kit.{_∙_, _-_, _≤_, arith, needs}
+use Rattle.arrays_order.proofs.{Swaps.Turned, Swaps.turned-begin, Swaps.turned-turn, Swaps.swapped-of, supports.swap.Statement.statement}
 use Rattle.arrays_order.proofs.supports.swap.Tie as tie
 
 abbrev Inv-loop : tie.InvT-loop
@@ -34,4 +30,5 @@ returns c = swapped-of _ _ _ _ _ (search needs) (search needs) (search needs) (c
 pub swap-spec : {M : Type 1} → statement M
 swap-spec =
     tie.close
-    (tie.spec Inv-loop μ-loop loop-holds cross-requires add-v loop-less loop-again returns)
+    (tie.spec
+    Inv-loop μ-loop loop-holds cross-requires add-v loop-less loop-again returns)

@@ -1,13 +1,8 @@
 -- Sixteen sets after another sixteen. Assumes nothing.
-use mathlib.Core.Path.{_∙_}
-use Prim.Native.Nat.{_*_, _-_, _≤_}
-use native.Mathlib.Omega.{arith}
-use borrow.Author.Needs.{needs}
+use Rattle.model.specs.Kit.{_∙_, _*_, _-_, _≤_, arith, needs}
 use Rattle.model.proofs.Filling.{filled-begin}
-use Rattle.arrays_order.specs.Steps.{Transposed}
-use Rattle.arrays_order.proofs.Tables.{transposed-turn}
-use Rattle.arrays_order.proofs.Swaps.{transposed-of}
-use Rattle.arrays_order.proofs.supports.transpose_each.Statement.{statement}
+use Rattle.arrays_order.specs.inner.Steps.{Transposed}
+use Rattle.arrays_order.proofs.{Tables.transposed-turn, Swaps.transposed-of, supports.transpose_each.Statement.statement}
 use Rattle.arrays_order.proofs.supports.transpose_each.Tie as tie
 
 abbrev Inv-loop : tie.InvT-loop
@@ -44,13 +39,4 @@ pub transpose-each-spec : {M : Type 1} → statement M
 transpose-each-spec =
     tie.close
     (tie.spec
-    Inv-loop
-    μ-loop
-    loop-holds
-    mul-transpose
-    add-transpose
-    transpose-requires
-    add-v
-    loop-less
-    loop-again
-    returns)
+    Inv-loop μ-loop loop-holds mul-transpose add-transpose transpose-requires add-v loop-less loop-again returns)

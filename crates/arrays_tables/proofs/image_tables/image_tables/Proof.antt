@@ -1,13 +1,9 @@
 -- The symmetries. Assumes nothing.
-use mathlib.Core.Path.{_≡_, refl}
-use Prim.Native.Nat.{_-_, _≤_}
-use native.Mathlib.Omega.{arith}
-use borrow.Author.Needs.{needs}
+use Rattle.model.specs.Kit.{_≡_, refl, _-_, _≤_, arith, needs}
 use Rattle.model.specs.Lists.{at}
-use Rattle.arrays.specs.Places.{SYMMETRIES, VARIABLES}
-use Rattle.arrays_tables.specs.Steps.{SymmetriesStored}
-use Rattle.arrays_tables.proofs.Images.{symmetries-begin, symmetries-turn, symmetries-end}
-use Rattle.arrays_tables.proofs.image_tables.image_tables.Statement.{statement}
+use Rattle.arrays.specs.inner.Places.{SYMMETRIES, VARIABLES}
+use Rattle.arrays_tables.specs.inner.Steps.{SymmetriesStored}
+use Rattle.arrays_tables.proofs.{Images.symmetries-begin, Images.symmetries-turn, Images.symmetries-end, image_tables.image_tables.Statement.statement}
 use Rattle.arrays_tables.proofs.image_tables.image_tables.Tie as tie
 
 abbrev Inv-loop : tie.InvT-loop
@@ -45,13 +41,4 @@ pub image-tables-spec : {M : Type 1} → statement M
 image-tables-spec =
     tie.close
     (tie.spec
-    Inv-loop
-    μ-loop
-    element-copy-out-g
-    loop-holds
-    mul-symmetry
-    symmetry-requires
-    add-e
-    loop-less
-    loop-again
-    returns)
+    Inv-loop μ-loop element-copy-out-g loop-holds mul-symmetry symmetry-requires add-e loop-less loop-again returns)

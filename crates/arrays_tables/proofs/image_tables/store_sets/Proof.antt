@@ -1,10 +1,6 @@
 -- Sixteen sets are stored one after another. Assumes nothing.
-use mathlib.Core.Path.{_≡_, refl}
-use Prim.Native.Nat.{_+_, _-_, _≤_}
-use native.Mathlib.Omega.{arith}
-use borrow.Author.Needs.{needs}
-use Rattle.model.specs.Lists.{at}
-use Rattle.model.specs.Filling.{Filled}
+use Rattle.model.specs.Kit.{_≡_, refl, _+_, _-_, _≤_, arith, needs}
+use Rattle.model.specs.{Lists.at, inner.Filling.Filled}
 use Rattle.model.proofs.Filling.{filled-end, filled-begin, filled-turn}
 use Rattle.arrays_tables.proofs.image_tables.store_sets.Statement.{statement}
 use Rattle.arrays_tables.proofs.image_tables.store_sets.Tie as tie
@@ -50,15 +46,4 @@ pub store-sets-spec : {M : Type 1} → statement M
 store-sets-spec =
     tie.close
     (tie.spec
-    Inv-loop
-    μ-loop
-    loop-holds
-    mul-tables
-    element-copy-out-tables
-    add-tables
-    mul-tables-2
-    element-write-tables
-    add-i
-    loop-less
-    loop-again
-    returns)
+    Inv-loop μ-loop loop-holds mul-tables element-copy-out-tables add-tables mul-tables-2 element-write-tables add-i loop-less loop-again returns)

@@ -1,13 +1,9 @@
 -- The variables of a symmetry. Assumes nothing.
-use mathlib.Core.Path.{_≡_, refl}
-use Prim.Native.Nat.{_-_, _≤_}
-use native.Mathlib.Omega.{arith}
-use borrow.Author.Needs.{needs}
+use Rattle.model.specs.Kit.{_≡_, refl, _-_, _≤_, arith, needs}
 use Rattle.model.specs.Lists.{at}
-use Rattle.arrays.specs.Places.{VARIABLES}
-use Rattle.arrays_tables.specs.Steps.{SymmetryStored}
-use Rattle.arrays_tables.proofs.Images.{symmetry-begin, symmetry-turn, symmetry-end}
-use Rattle.arrays_tables.proofs.image_tables.symmetry.Statement.{statement}
+use Rattle.arrays.specs.inner.Places.{VARIABLES}
+use Rattle.arrays_tables.specs.inner.Steps.{SymmetryStored}
+use Rattle.arrays_tables.proofs.{Images.symmetry-begin, Images.symmetry-turn, Images.symmetry-end, image_tables.symmetry.Statement.statement}
 use Rattle.arrays_tables.proofs.image_tables.symmetry.Tie as tie
 
 abbrev Inv-loop : tie.InvT-loop
@@ -43,7 +39,12 @@ loop-less c = search needs
 
 loop-again : tie.Need-loop-again Inv-loop μ-loop
 unfolding at
-loop-again c = (search needs, c .before .before .before .before .loop .inv .1, symmetry-turn _ _ _ _ _ _ _ _ (c .before .before .initial .ensures) (c .before .before .before .before .loop .inv .2) (c .variable .ensures))
+loop-again c = (
+  search needs,
+  c .before .before .before .before .loop .inv .1,
+  symmetry-turn _ _ _ _ _ _ _ _ (c .before .before .initial .ensures) (c .before .before .before .before .loop .inv .2)
+      (c .variable .ensures),
+)
 
 returns : tie.Need-returns Inv-loop μ-loop
 returns c = symmetry-end _ _ _ _ _ _ _ (omega (arith, c .before .loop .inv .1)) (c .before .loop .inv .2)
@@ -52,15 +53,4 @@ pub symmetry-spec : {M : Type 1} → statement M
 symmetry-spec =
     tie.close
     (tie.spec
-    Inv-loop
-    μ-loop
-    element-copy-out-n
-    loop-holds
-    initial-requires
-    mul-variable
-    add-variable
-    variable-requires
-    add-x
-    loop-less
-    loop-again
-    returns)
+    Inv-loop μ-loop element-copy-out-n loop-holds initial-requires mul-variable add-variable variable-requires add-x loop-less loop-again returns)

@@ -1,10 +1,7 @@
 -- The pairs of a variable, value after value. Assumes nothing.
-use Prim.Native.Nat.{_-_, _≤_}
-use native.Mathlib.Omega.{arith}
-use borrow.Author.Needs.{needs}
-use Rattle.arrays_tables.specs.Steps.{PairsStored}
-use Rattle.arrays_tables.proofs.Images.{pairs-begin, pairs-end}
-use Rattle.arrays_tables.proofs.image_tables.variable.Statement.{statement}
+use Rattle.model.specs.Kit.{_-_, _≤_, arith, needs}
+use Rattle.arrays_tables.specs.inner.Steps.{PairsStored}
+use Rattle.arrays_tables.proofs.{Images.pairs-begin, Images.pairs-end, image_tables.variable.Statement.statement}
 use Rattle.arrays_tables.proofs.image_tables.variable.Tie as tie
 
 abbrev Inv-loop : tie.InvT-loop
@@ -34,4 +31,5 @@ returns c = pairs-end _ _ _ _ _ _ _ (search needs) (c .before .loop .inv .1)
 pub variable-spec : {M : Type 1} → statement M
 variable-spec =
     tie.close
-    (tie.spec Inv-loop μ-loop loop-holds pair-requires add-v loop-less loop-again returns)
+    (tie.spec
+    Inv-loop μ-loop loop-holds pair-requires add-v loop-less loop-again returns)

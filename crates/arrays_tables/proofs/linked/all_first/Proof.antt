@@ -1,16 +1,7 @@
 -- The first constraints, one after another. Assumes nothing.
-use mathlib.Core.Bool.{Bool}
-use mathlib.Core.Path.{_≡_, refl, ap, _∙_}
-use Prim.Native.Nat.{_-_, _≤_}
-use native.Mathlib.Omega.{arith}
-use borrow.Author.Needs.{needs}
-use Rattle.model.specs.Problem.{Problem}
-use Rattle.model.specs.Lists.{at}
-use Rattle.model.specs.Filling.{Gathered}
-use Rattle.arrays.specs.Tables.{byRows}
-use Rattle.arrays.specs.Places.{CONSTRAINTS}
-use Rattle.arrays.specs.Layout.{Numbers}
-use Rattle.model.specs.ValueSets.{oneIf}
+use Rattle.model.specs.Kit.{Bool, _≡_, refl, ap, _∙_, _-_, _≤_, arith, needs}
+use Rattle.model.specs.{Problem.Problem, Lists.at, inner.Filling.Gathered, ValueSets.oneIf}
+use Rattle.arrays.specs.{inner.Tables.byRows, inner.Places.CONSTRAINTS, inner.Layout.Numbers}
 use Rattle.model.proofs.Filling.{gathered-begin, gathered-turn, gathered-end}
 use Rattle.arrays_tables.proofs.linked.all_first.Statement.{statement}
 use Rattle.arrays_tables.proofs.linked.all_first.Tie as tie
@@ -41,7 +32,13 @@ loop-less : tie.Need-loop-less Inv-loop μ-loop
 loop-less c = search needs
 
 loop-again : tie.Need-loop-again Inv-loop μ-loop
-loop-again c = (search needs, c .before .before .before .loop .inv .1, λ p nb. gathered-turn _ _ _ _ (c .before .before .before .loop .inv .2 p nb) (c .one-if .ensures ∙ ap (λ (b : Bool). oneIf b (c .before .before .before .loop .k)) (c .before .first .ensures p nb (omega (arith, nb .constraints, c .before .before .before .loop .inv .1)))))
+loop-again c = (
+  search needs,
+  c .before .before .before .loop .inv .1,
+  λ p nb. gathered-turn _ _ _ _ (c .before .before .before .loop .inv .2 p nb)
+      (c .one-if .ensures ∙ ap (λ (b : Bool). oneIf b (c .before .before .before .loop .k))
+      (c .before .first .ensures p nb (omega (arith, nb .constraints, c .before .before .before .loop .inv .1)))),
+)
 
 returns : tie.Need-returns Inv-loop μ-loop
 returns c = λ p nb. gathered-end _ _ _ _ (omega (arith, nb .constraints, c .before .loop .inv .1)) (omega (arith, nb .constraints, c .before .loop .inv .1)) (c .before .loop .inv .2 p nb)
@@ -50,13 +47,4 @@ pub all-first-spec : {M : Type 1} → statement M
 all-first-spec =
     tie.close
     (tie.spec
-    Inv-loop
-    μ-loop
-    element-copy-out-c
-    loop-holds
-    first-requires
-    one-if-requires
-    add-k
-    loop-less
-    loop-again
-    returns)
+    Inv-loop μ-loop element-copy-out-c loop-holds first-requires one-if-requires add-k loop-less loop-again returns)

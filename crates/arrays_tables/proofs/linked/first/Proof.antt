@@ -1,12 +1,8 @@
 -- No constraint before has the same number. Assumes nothing.
-use mathlib.Core.Path.{_≡_, refl}
-use Prim.Native.Nat.{ℕ, _+_, _-_, _%_, _≤_, _<_}
-use native.Mathlib.Omega.{arith}
-use borrow.Author.Needs.{needs}
+use Rattle.model.specs.Kit.{_≡_, refl, ℕ, _+_, _-_, _%_, _≤_, _<_, arith, needs}
 use Rattle.model.specs.Lists.{at}
-use Rattle.arrays.specs.Places.{SCOPES}
-use Rattle.arrays_tables.proofs.Scopes.{first-other, first-no, first-yes, none-more}
-use Rattle.arrays_tables.proofs.linked.first.Statement.{statement}
+use Rattle.arrays.specs.inner.Places.{SCOPES}
+use Rattle.arrays_tables.proofs.{Scopes.first-other, Scopes.first-no, Scopes.first-yes, Scopes.none-more, linked.first.Statement.statement}
 use Rattle.arrays_tables.proofs.linked.first.Tie as tie
 
 abbrev Inv-loop : tie.InvT-loop
@@ -53,7 +49,12 @@ loop-less c = search needs
 
 loop-again : tie.Need-loop-again Inv-loop μ-loop
 unfolding at
-loop-again c = (search needs, refl, none-more (λ j. at (c .before .before .before .before .before .before .args .numbers .now) (SCOPES + j) % 16777216) _ _ (c .before .before .before .loop .inv .2) (c .if2 .left))
+loop-again c = (
+  search needs,
+  refl,
+  none-more (λ j. at (c .before .before .before .before .before .before .args .numbers .now) (SCOPES + j) % 16777216) _ _
+      (c .before .before .before .loop .inv .2) (c .if2 .left),
+)
 
 returns-3 : tie.Need-returns-3 Inv-loop μ-loop
 unfolding at
@@ -63,18 +64,4 @@ pub first-spec : {M : Type 1} → statement M
 first-spec =
     tie.close
     (tie.spec
-    Inv-loop
-    μ-loop
-    add-w
-    mul-w
-    element-copy-out-w
-    returns
-    loop-holds
-    add-if2
-    mul-if2
-    element-copy-out-if2
-    returns-2
-    add-i
-    loop-less
-    loop-again
-    returns-3)
+    Inv-loop μ-loop add-w mul-w element-copy-out-w returns loop-holds add-if2 mul-if2 element-copy-out-if2 returns-2 add-i loop-less loop-again returns-3)

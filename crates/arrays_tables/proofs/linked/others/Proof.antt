@@ -1,12 +1,7 @@
 -- The other constraints of each variable. Assumes nothing.
-use mathlib.Core.Path.{_≡_, refl, ap}
-use Prim.Native.Nat.{ℕ, _+_, _-_, _^_, _≤_}
-use native.Mathlib.Omega.{arith}
-use lib.Bits.{bitAnd}
-use borrow.Author.Needs.{needs}
-use Rattle.model.specs.Lists.{at}
-use Rattle.model.specs.Filling.{Filled}
-use Rattle.arrays.specs.Places.{OTHERS}
+use Rattle.model.specs.Kit.{_≡_, refl, ap, ℕ, _+_, _-_, _^_, _≤_, arith, bitAnd, needs}
+use Rattle.model.specs.{Lists.at, inner.Filling.Filled}
+use Rattle.arrays.specs.inner.Places.{OTHERS}
 use Rattle.model.proofs.Filling.{filled-begin, filled-turn, filled-end}
 use Rattle.arrays_tables.proofs.linked.others.Statement.{statement}
 use Rattle.arrays_tables.proofs.linked.others.Tie as tie
@@ -43,7 +38,11 @@ loop-less c = search needs
 
 loop-again : tie.Need-loop-again Inv-loop μ-loop
 unfolding at
-loop-again c = (search needs, filled-turn _ _ _ _ _ _ _ (c .before .before .loop .inv .1) refl (omega arith) (λ v l e. omega arith) (ap (λ (n : ℕ). bitAnd n ((2 ^ 64 - 1) - c .before .before .before .args .set)) (c .before .before .loop .inv .1 .other _ (λ v l e. omega arith))))
+loop-again c = (
+  search needs,
+  filled-turn _ _ _ _ _ _ _ (c .before .before .loop .inv .1) refl (omega arith) (λ v l e. omega arith)
+      (ap (λ (n : ℕ). bitAnd n ((2 ^ 64 - 1) - c .before .before .before .args .set)) (c .before .before .loop .inv .1 .other _ (λ v l e. omega arith))),
+)
 
 returns : tie.Need-returns Inv-loop μ-loop
 returns c = filled-end _ _ _ _ _ _ (search needs) (search needs) (c .before .loop .inv .1)
@@ -52,15 +51,4 @@ pub others-spec : {M : Type 1} → statement M
 others-spec =
     tie.close
     (tie.spec
-    Inv-loop
-    μ-loop
-    loop-holds
-    mul-numbers
-    element-copy-out-numbers
-    add-numbers
-    mul-numbers-2
-    element-write-numbers
-    add-x
-    loop-less
-    loop-again
-    returns)
+    Inv-loop μ-loop loop-holds mul-numbers element-copy-out-numbers add-numbers mul-numbers-2 element-write-numbers add-x loop-less loop-again returns)

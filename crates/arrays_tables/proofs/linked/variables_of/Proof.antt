@@ -1,14 +1,7 @@
 -- The variables of a set of constraints. Assumes nothing.
-use mathlib.Core.Bool.{not}
-use mathlib.Core.Path.{_≡_, refl}
-use Prim.Native.Nat.{_-_, _≤_}
-use native.Mathlib.Omega.{arith}
-use lib.Dec.{eqb}
-use lib.Bits.{bitAnd}
-use borrow.Author.Needs.{needs}
-use Rattle.model.specs.Lists.{at}
-use Rattle.model.specs.Filling.{Gathered}
-use Rattle.arrays.specs.Places.{VARIABLES}
+use Rattle.model.specs.Kit.{not, _≡_, refl, _-_, _≤_, arith, eqb, bitAnd, needs}
+use Rattle.model.specs.{Lists.at, inner.Filling.Gathered}
+use Rattle.arrays.specs.inner.Places.{VARIABLES}
 use Rattle.model.proofs.Filling.{gathered-begin, gathered-turn, gathered-end}
 use Rattle.arrays_tables.proofs.linked.variables_of.Statement.{statement}
 use Rattle.arrays_tables.proofs.linked.variables_of.Tie as tie
@@ -52,14 +45,4 @@ pub variables-of-spec : {M : Type 1} → statement M
 variables-of-spec =
     tie.close
     (tie.spec
-    Inv-loop
-    μ-loop
-    element-copy-out-n
-    loop-holds
-    mul-one-if
-    element-copy-out-one-if
-    one-if-requires
-    add-x
-    loop-less
-    loop-again
-    returns)
+    Inv-loop μ-loop element-copy-out-n loop-holds mul-one-if element-copy-out-one-if one-if-requires add-x loop-less loop-again returns)

@@ -1,15 +1,9 @@
 -- The constraints that are looked up at a depth, one after another. Assumes nothing.
-use mathlib.Core.Path.{_≡_, refl}
-use Prim.Native.Nat.{_+_, _-_, _*_, _≤_}
-use native.Mathlib.Omega.{arith}
-use borrow.Author.Needs.{needs}
-use Rattle.model.specs.Lists.{at}
-use Rattle.model.specs.Filling.{Gathered}
-use Rattle.model.proofs.Members.{has-0}
-use Rattle.model.proofs.Filling.{gathered-begin, gathered-turn, gathered-end}
-use Rattle.arrays.specs.Places.{CONSTRAINTS}
-use Rattle.arrays_tables.proofs.LookScopes.{isLook, look-scopes}
-use Rattle.arrays_tables.proofs.looks.at_depth.Statement.{statement}
+use Rattle.model.specs.Kit.{_≡_, refl, _+_, _-_, _*_, _≤_, arith, needs}
+use Rattle.model.specs.{Lists.at, inner.Filling.Gathered}
+use Rattle.model.proofs.{Members.has-0, Filling.gathered-begin, Filling.gathered-turn, Filling.gathered-end}
+use Rattle.arrays.specs.inner.Places.{CONSTRAINTS}
+use Rattle.arrays_tables.proofs.{LookScopes.isLook, LookScopes.look-scopes, looks.at_depth.Statement.statement}
 use Rattle.arrays_tables.proofs.looks.at_depth.Tie as tie
 
 abbrev Inv-loop : tie.InvT-loop
@@ -75,22 +69,5 @@ pub at-depth-spec : {M : Type 1} → statement M
 at-depth-spec =
     tie.close
     (tie.spec
-    Inv-loop
-    μ-loop
-    element-copy-out-if1
-    returns
-    element-copy-out-c
-    mul-key
-    add-key
-    loop-holds
-    add-w
-    mul-w
-    element-copy-out-w
-    add-one-if
-    mul-one-if
-    add-one-if-2
-    one-if-requires
-    add-i
-    loop-less
-    loop-again
-    returns-2)
+    Inv-loop μ-loop element-copy-out-if1 returns element-copy-out-c mul-key add-key loop-holds add-w mul-w element-copy-out-w add-one-if mul-one-if add-one-if-2
+    one-if-requires add-i loop-less loop-again returns-2)

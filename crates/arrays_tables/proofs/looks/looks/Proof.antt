@@ -1,14 +1,10 @@
 -- The constraints that are looked up, depth by depth. Assumes nothing.
-use mathlib.Core.Path.{refl}
-use Prim.Native.Nat.{_+_, _-_, _≤_}
-use native.Mathlib.Omega.{arith}
-use borrow.Author.Needs.{needs}
-use Rattle.model.specs.Filling.{Filled}
+use Rattle.model.specs.Kit.{refl, _+_, _-_, _≤_, arith, needs}
+use Rattle.model.specs.inner.Filling.{Filled}
 use Rattle.model.proofs.Filling.{filled-begin, filled-turn, filled-end}
-use Rattle.arrays.specs.Places.{CONSTRAINTS, LOOKS}
-use Rattle.arrays_tables.specs.Steps.{LookScopes}
-use Rattle.arrays_tables.proofs.LookScopes.{look-scopes-from}
-use Rattle.arrays_tables.proofs.looks.looks.Statement.{statement}
+use Rattle.arrays.specs.inner.Places.{CONSTRAINTS, LOOKS}
+use Rattle.arrays_tables.specs.inner.Steps.{LookScopes}
+use Rattle.arrays_tables.proofs.{LookScopes.look-scopes-from, looks.looks.Statement.statement}
 use Rattle.arrays_tables.proofs.looks.looks.Tie as tie
 
 abbrev Inv-loop : tie.InvT-loop
@@ -39,7 +35,11 @@ loop-less : tie.Need-loop-less Inv-loop μ-loop
 loop-less c = search needs
 
 loop-again : tie.Need-loop-again Inv-loop μ-loop
-loop-again c = (search needs, filled-turn _ _ _ _ _ _ _ (c .before .before .before .loop .inv .1) refl (omega arith) (λ v l e. omega arith) (look-scopes-from _ _ _ _ (λ j l. c .before .before .before .loop .inv .1 .other j (λ v m e. omega arith)) (search needs) (c .at-depth .ensures)))
+loop-again c = (
+  search needs,
+  filled-turn _ _ _ _ _ _ _ (c .before .before .before .loop .inv .1) refl (omega arith) (λ v l e. omega arith)
+      (look-scopes-from _ _ _ _ (λ j l. c .before .before .before .loop .inv .1 .other j (λ v m e. omega arith)) (search needs) (c .at-depth .ensures)),
+)
 
 returns : tie.Need-returns Inv-loop μ-loop
 returns c = filled-end _ _ _ _ _ _ (search needs) (search needs) (c .before .loop .inv .1)
@@ -48,14 +48,4 @@ pub looks-spec : {M : Type 1} → statement M
 looks-spec =
     tie.close
     (tie.spec
-    Inv-loop
-    μ-loop
-    loop-holds
-    at-depth-requires
-    add-numbers
-    mul-numbers
-    element-write-numbers
-    add-k
-    loop-less
-    loop-again
-    returns)
+    Inv-loop μ-loop loop-holds at-depth-requires add-numbers mul-numbers element-write-numbers add-k loop-less loop-again returns)

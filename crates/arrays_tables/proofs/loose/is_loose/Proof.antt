@@ -1,16 +1,9 @@
 -- A loose variable. Assumes nothing.
-use mathlib.Core.Path.{_≡_, refl, sym, ap, subst, _∙_}
-use Prim.Native.Nat.{_-_, _≤_}
-use native.Mathlib.Omega.{arith}
-use lib.Dec.{T}
-use borrow.Author.Needs.{needs}
-use borrow.Author.Tests.{eqb-true, not-false}
-use Rattle.model.specs.Lists.{at}
-use Rattle.model.specs.ValueSets.{commonMask}
-use Rattle.arrays.specs.Places.{VARIABLES}
-use Rattle.arrays_tables.specs.Steps.{initialOf, LooseTo}
-use Rattle.arrays_tables.proofs.LooseVariables.{loose-begin, loose-turn, loose-end}
-use Rattle.arrays_tables.proofs.loose.is_loose.Statement.{statement}
+use Rattle.model.specs.Kit.{_≡_, refl, sym, ap, subst, _∙_, _-_, _≤_, arith, T, needs, eqb-true, not-false}
+use Rattle.model.specs.{Lists.at, ValueSets.commonMask}
+use Rattle.arrays.specs.inner.Places.{VARIABLES}
+use Rattle.arrays_tables.specs.inner.Steps.{initialOf, LooseTo}
+use Rattle.arrays_tables.proofs.{LooseVariables.loose-begin, LooseVariables.loose-turn, LooseVariables.loose-end, loose.is_loose.Statement.statement}
 use Rattle.arrays_tables.proofs.loose.is_loose.Tie as tie
 
 abbrev Inv-loop : tie.InvT-loop
@@ -65,7 +58,8 @@ loop-again c =
       refl,
       l .loop .inv .2,
       loose-turn _ _ _ _ _ _ _ (l .loop .inv .2) (l .loop .inv .3) (t .ensures)
-          (c .before .before .common .ensures ∙ ap (commonMask (t .result .bits)) (c .before .before .before .initial2 .ensures)) (eqb-true _ 0 (sym (c .before .is-empty .ensures) ∙ not-false _ (c .if1 .left))),
+          (c .before .before .common .ensures ∙ ap (commonMask (t .result .bits)) (c .before .before .before .initial2 .ensures))
+          (eqb-true _ 0 (sym (c .before .is-empty .ensures) ∙ not-false _ (c .if1 .left))),
     )
 
 returns-2 : tie.Need-returns-2 Inv-loop μ-loop
@@ -75,19 +69,5 @@ pub is-loose-spec : {M : Type 1} → statement M
 is-loose-spec =
     tie.close
     (tie.spec
-    Inv-loop
-    μ-loop
-    element-copy-out-n
-    initial-requires
-    loop-holds
-    mul-twice
-    add-twice
-    twice-requires
-    initial-requires-2
-    common-requires
-    is-empty-requires
-    returns
-    add-y
-    loop-less
-    loop-again
-    returns-2)
+    Inv-loop μ-loop element-copy-out-n initial-requires loop-holds mul-twice add-twice twice-requires initial-requires-2 common-requires is-empty-requires
+    returns add-y loop-less loop-again returns-2)

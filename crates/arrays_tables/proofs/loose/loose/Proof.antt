@@ -1,13 +1,9 @@
 -- The loose variables. Assumes nothing.
-use mathlib.Core.Path.{_≡_, refl}
-use Prim.Native.Nat.{_-_, _≤_}
-use native.Mathlib.Omega.{arith}
-use borrow.Author.Needs.{needs}
+use Rattle.model.specs.Kit.{_≡_, refl, _-_, _≤_, arith, needs}
 use Rattle.model.specs.Lists.{at}
-use Rattle.arrays.specs.Places.{VARIABLES}
-use Rattle.arrays_tables.specs.Steps.{LooseSet}
-use Rattle.arrays_tables.proofs.LooseVariables.{loose-none, loose-more, loose-all}
-use Rattle.arrays_tables.proofs.loose.loose.Statement.{statement}
+use Rattle.arrays.specs.inner.Places.{VARIABLES}
+use Rattle.arrays_tables.specs.inner.Steps.{LooseSet}
+use Rattle.arrays_tables.proofs.{LooseVariables.loose-none, LooseVariables.loose-more, LooseVariables.loose-all, loose.loose.Statement.statement}
 use Rattle.arrays_tables.proofs.loose.loose.Tie as tie
 
 abbrev Inv-loop : tie.InvT-loop
@@ -45,13 +41,4 @@ pub loose-spec : {M : Type 1} → statement M
 loose-spec =
     tie.close
     (tie.spec
-    Inv-loop
-    μ-loop
-    element-copy-out-n
-    loop-holds
-    is-loose-requires
-    one-if-requires
-    add-x
-    loop-less
-    loop-again
-    returns)
+    Inv-loop μ-loop element-copy-out-n loop-holds is-loose-requires one-if-requires add-x loop-less loop-again returns)

@@ -1,6 +1,5 @@
 -- What two values refuse. Assumes nothing.
-use Prim.Native.Nat.{_-_, _≤_}
-use borrow.Author.Needs.{needs}
+use Rattle.model.specs.Kit.{_-_, _≤_, needs}
 use Rattle.arrays_tables.proofs.LooseVariables.{RefusedSoFar, refused-begin, refused-turn, refused-end}
 use Rattle.arrays_tables.proofs.loose.twice.Statement.{statement}
 use Rattle.arrays_tables.proofs.loose.twice.Tie as tie
@@ -33,7 +32,11 @@ loop-less : tie.Need-loop-less Inv-loop μ-loop
 loop-less c = search needs
 
 loop-again : tie.Need-loop-again Inv-loop μ-loop
-loop-again c = (search needs, refused-turn _ _ _ _ _ _ _ (c .before .before .before .before .before .loop .inv .1) (c .before .before .before .refused .ensures) _ _ _ (c .before .before .common .ensures) (c .union2 .ensures) (c .before .union .ensures))
+loop-again c = (
+  search needs,
+  refused-turn _ _ _ _ _ _ _ (c .before .before .before .before .before .loop .inv .1) (c .before .before .before .refused .ensures) _ _ _
+      (c .before .before .common .ensures) (c .union2 .ensures) (c .before .union .ensures),
+)
 
 returns : tie.Need-returns Inv-loop μ-loop
 returns c = refused-end _ _ _ _ _ _ (search needs) (c .before .loop .inv .1)
@@ -42,14 +45,4 @@ pub twice-spec : {M : Type 1} → statement M
 twice-spec =
     tie.close
     (tie.spec
-    Inv-loop
-    μ-loop
-    loop-holds
-    refused-requires
-    common-requires
-    union-requires
-    union-requires-2
-    add-v
-    loop-less
-    loop-again
-    returns)
+    Inv-loop μ-loop loop-holds refused-requires common-requires union-requires union-requires-2 add-v loop-less loop-again returns)

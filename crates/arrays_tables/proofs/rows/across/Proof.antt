@@ -1,10 +1,6 @@
 -- Support sets go into rows. Assumes nothing.
-use mathlib.Core.Path.{_≡_, refl}
-use Prim.Native.Nat.{_+_, _*_, _-_, _≤_}
-use native.Mathlib.Omega.{arith}
-use borrow.Author.Needs.{needs}
-use Rattle.model.specs.Lists.{at}
-use Rattle.model.specs.Filling.{Filled}
+use Rattle.model.specs.Kit.{_≡_, refl, _+_, _*_, _-_, _≤_, arith, needs}
+use Rattle.model.specs.{Lists.at, inner.Filling.Filled}
 use Rattle.model.proofs.Filling.{filled-begin, filled-turn, filled-end}
 use Rattle.arrays_tables.proofs.rows.across.Statement.{statement}
 use Rattle.arrays_tables.proofs.rows.across.Tie as tie
@@ -56,17 +52,5 @@ pub across-spec : {M : Type 1} → statement M
 across-spec =
     tie.close
     (tie.spec
-    Inv-loop
-    μ-loop
-    loop-holds
-    add-tables
-    mul-tables
-    element-copy-out-tables
-    mul-tables-2
-    add-tables-2
-    mul-tables-3
-    element-write-tables
-    add-v
-    loop-less
-    loop-again
-    returns)
+    Inv-loop μ-loop loop-holds add-tables mul-tables element-copy-out-tables mul-tables-2 add-tables-2 mul-tables-3 element-write-tables add-v loop-less
+    loop-again returns)

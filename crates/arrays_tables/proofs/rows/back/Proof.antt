@@ -1,11 +1,6 @@
 -- Columns go into rows. Assumes nothing.
-use mathlib.Core.Path.{_≡_, refl}
-use Prim.Native.Nat.{_+_, _*_, _-_, _≤_}
-use native.Mathlib.Omega.{arith}
-use borrow.Author.Needs.{needs}
-use Rattle.model.specs.Lists.{at}
-use Rattle.model.specs.ValueSets.{has, maskOf}
-use Rattle.model.specs.Filling.{Filled}
+use Rattle.model.specs.Kit.{_≡_, refl, _+_, _*_, _-_, _≤_, arith, needs}
+use Rattle.model.specs.{Lists.at, ValueSets.has, ValueSets.maskOf, inner.Filling.Filled}
 use Rattle.model.proofs.Filling.{filled-begin, filled-turn, filled-end}
 use Rattle.arrays_tables.proofs.rows.back.Statement.{statement}
 use Rattle.arrays_tables.proofs.rows.back.Tie as tie
@@ -53,16 +48,4 @@ pub back-spec : {M : Type 1} → statement M
 back-spec =
     tie.close
     (tie.spec
-    Inv-loop
-    μ-loop
-    loop-holds
-    cast-column
-    column-requires
-    mul-tables
-    add-tables
-    mul-tables-2
-    element-write-tables
-    add-w
-    loop-less
-    loop-again
-    returns)
+    Inv-loop μ-loop loop-holds cast-column column-requires mul-tables add-tables mul-tables-2 element-write-tables add-w loop-less loop-again returns)

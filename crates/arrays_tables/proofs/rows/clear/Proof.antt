@@ -1,11 +1,8 @@
 -- All sets are full. Assumes nothing.
-use mathlib.Core.Path.{_≡_, refl}
-use Prim.Native.Nat.{_-_, _≤_}
-use native.Mathlib.Omega.{arith}
-use borrow.Author.Needs.{needs}
-use Rattle.model.specs.Filling.{Filled}
+use Rattle.model.specs.Kit.{_≡_, refl, _-_, _≤_, arith, needs}
+use Rattle.model.specs.inner.Filling.{Filled}
 use Rattle.model.proofs.Filling.{filled-begin, filled-turn, filled-end}
-use Rattle.arrays.specs.Places.{SMALLER}
+use Rattle.arrays.specs.inner.Places.{SMALLER}
 use Rattle.arrays_tables.proofs.rows.clear.Statement.{statement}
 use Rattle.arrays_tables.proofs.rows.clear.Tie as tie
 
@@ -40,12 +37,4 @@ pub clear-spec : {M : Type 1} → statement M
 clear-spec =
     tie.close
     (tie.spec
-    Inv-loop
-    μ-loop
-    loop-holds
-    mul-tables
-    element-write-tables
-    add-i
-    loop-less
-    loop-again
-    returns)
+    Inv-loop μ-loop loop-holds mul-tables element-write-tables add-i loop-less loop-again returns)

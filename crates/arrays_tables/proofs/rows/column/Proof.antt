@@ -1,15 +1,8 @@
 -- A column of sixteen sets. Assumes nothing.
-use mathlib.Core.Bool.{Bool, not}
-use mathlib.Core.Path.{ap, _∙_}
-use Prim.Native.Nat.{ℕ, _+_, _-_, _≤_}
-use borrow.Author.Needs.{needs}
-use Rattle.model.specs.Lists.{at}
-use Rattle.model.specs.ValueSets.{has, onlyMask, oneIf}
-use Rattle.model.specs.Filling.{Gathered}
-use Rattle.model.proofs.Members.{one-op}
-use Rattle.model.proofs.Filling.{gathered-begin, gathered-turn, gathered-end}
-use Rattle.arrays_tables.proofs.RowTables.{meets-one, gathered-mask}
-use Rattle.arrays_tables.proofs.rows.column.Statement.{statement}
+use Rattle.model.specs.Kit.{Bool, not, ap, _∙_, ℕ, _+_, _-_, _≤_, needs}
+use Rattle.model.specs.{Lists.at, ValueSets.has, ValueSets.onlyMask, ValueSets.oneIf, inner.Filling.Gathered}
+use Rattle.model.proofs.{Members.one-op, Filling.gathered-begin, Filling.gathered-turn, Filling.gathered-end}
+use Rattle.arrays_tables.proofs.{RowTables.meets-one, RowTables.gathered-mask, rows.column.Statement.statement}
 use Rattle.arrays_tables.proofs.rows.column.Tie as tie
 
 abbrev Inv-loop : tie.InvT-loop
@@ -71,19 +64,5 @@ pub column-spec : {M : Type 1} → statement M
 column-spec =
     tie.close
     (tie.spec
-    Inv-loop
-    μ-loop
-    full-requires
-    only-requires
-    loop-holds
-    add-t10
-    mul-t11
-    element-copy-out-t14
-    common-requires
-    is-empty-requires
-    one-if-requires
-    add-v
-    loop-less
-    loop-again
-    cast-t19
-    returns)
+    Inv-loop μ-loop full-requires only-requires loop-holds add-t10 mul-t11 element-copy-out-t14 common-requires is-empty-requires one-if-requires add-v
+    loop-less loop-again cast-t19 returns)

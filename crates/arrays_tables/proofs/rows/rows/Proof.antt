@@ -1,15 +1,9 @@
 -- The rows of all constraints. Assumes nothing.
-use mathlib.Core.Path.{_≡_, refl, sym, _∙_}
-use Prim.Native.Nat.{_-_, _≤_}
-use native.Mathlib.Omega.{arith}
-use lib.ListN.{length}
-use borrow.Author.Needs.{needs}
-use Rattle.model.specs.Problem.{Problem}
-use Rattle.model.specs.Lists.{at}
-use Rattle.arrays.specs.Places.{CONSTRAINTS, TABLES}
-use Rattle.arrays_tables.specs.Steps.{RowsSource, RowsTo}
-use Rattle.arrays_tables.proofs.RowTables.{rows-begin, rows-end}
-use Rattle.arrays_tables.proofs.rows.rows.Statement.{statement}
+use Rattle.model.specs.Kit.{_≡_, refl, sym, _∙_, _-_, _≤_, arith, length, needs}
+use Rattle.model.specs.{Problem.Problem, Lists.at}
+use Rattle.arrays.specs.inner.Places.{CONSTRAINTS, TABLES}
+use Rattle.arrays_tables.specs.inner.Steps.{RowsSource, RowsTo}
+use Rattle.arrays_tables.proofs.{RowTables.rows-begin, RowTables.rows-end, rows.rows.Statement.statement}
 use Rattle.arrays_tables.proofs.rows.rows.Tie as tie
 
 abbrev Inv-loop : tie.InvT-loop
@@ -38,22 +32,23 @@ loop-less : tie.Need-loop-less Inv-loop μ-loop
 loop-less c = search needs
 
 loop-again : tie.Need-loop-again Inv-loop μ-loop
-loop-again c = (search needs, c .before .before .before .loop .inv .1, c .link .ensures .0 ∙ c .before .before .before .loop .inv .2, λ p g. c .link .ensures .1 p g (omega (arith, g .numbered .constraints, c .before .before .before .loop .inv .1)) (c .before .before .before .loop .inv .3 p g))
+loop-again c = (
+  search needs,
+  c .before .before .before .loop .inv .1,
+  c .link .ensures .0 ∙ c .before .before .before .loop .inv .2,
+  λ p g. c .link .ensures .1 p g
+      (omega (arith, g .numbered .constraints, c .before .before .before .loop .inv .1)) (c .before .before .before .loop .inv .3 p g),
+)
 
 returns : tie.Need-returns Inv-loop μ-loop
-returns c = (c .before .loop .inv .2 ∙ sym (c .before .before .before .before .before .pre .1), λ p g. rows-end p _ _ (omega (arith, g .numbered .constraints, c .before .loop .inv .1)) (c .before .loop .inv .3 p g))
+returns c = (
+  c .before .loop .inv .2 ∙ sym (c .before .before .before .before .before .pre .1),
+  λ p g. rows-end p _ _ (omega (arith, g .numbered .constraints, c .before .loop .inv .1))
+      (c .before .loop .inv .3 p g),
+)
 
 pub rows-spec : {M : Type 1} → statement M
 rows-spec =
     tie.close
     (tie.spec
-    Inv-loop
-    μ-loop
-    clear-requires
-    element-copy-out-c
-    loop-holds
-    link-requires
-    add-k
-    loop-less
-    loop-again
-    returns)
+    Inv-loop μ-loop clear-requires element-copy-out-c loop-holds link-requires add-k loop-less loop-again returns)

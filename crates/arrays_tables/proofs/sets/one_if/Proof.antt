@@ -1,14 +1,9 @@
 -- A set of one, or none. Assumes nothing.
-use mathlib.Core.Bool.{Bool}
-use mathlib.Core.Path.{sym, ap, _∙_}
-use borrow.Author.Needs.{needs}
+use Rattle.model.specs.Kit.{Bool, sym, ap, _∙_, needs}
 use Rattle.model.specs.ValueSets.{oneIf}
 use Rattle.model.proofs.Members.{one-bit}
 use Rattle.arrays_tables.proofs.sets.one_if.Statement.{statement}
 use Rattle.arrays_tables.proofs.sets.one_if.Tie as tie
-
-shl-result : tie.Need-shl-result
-shl-result c = search needs
 
 returns : tie.Need-returns
 returns c = one-bit 64 _ (search needs) ∙ ap (λ (b : Bool). oneIf b (c .before .args .v)) (sym (c .if1 .taken))
@@ -17,4 +12,4 @@ returns-2 : tie.Need-returns-2
 returns-2 c = ap (λ (b : Bool). oneIf b (c .before .args .v)) (sym (c .if1 .left))
 
 pub one-if-spec : {M : Type 1} → statement M
-one-if-spec = tie.close (tie.spec shl-result returns returns-2)
+one-if-spec = tie.close (tie.spec (λ c. search needs) returns returns-2)

@@ -1,5 +1,5 @@
 -- What a set lacks. Assumes nothing.
-use borrow.Author.Needs.{needs}
+use Rattle.model.specs.Kit.{needs}
 use Rattle.model.proofs.Masks.{has-not}
 use Rattle.arrays_tables.proofs.sets.outside.Statement.{statement}
 use Rattle.arrays_tables.proofs.sets.outside.Tie as tie

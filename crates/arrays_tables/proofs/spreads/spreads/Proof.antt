@@ -1,16 +1,10 @@
 -- All of the lanes of each set, from those of its half. Assumes nothing.
-use mathlib.Core.Path.{refl}
-use Prim.Native.Nat.{_+_, _-_, _≤_}
-use native.Mathlib.Omega.{arith}
-use lib.ListN.{length-set}
-use borrow.Author.Needs.{needs}
-use Rattle.model.specs.Lists.{at}
-use Rattle.model.specs.Filling.{Filled}
+use Rattle.model.specs.Kit.{refl, _+_, _-_, _≤_, arith, length-set, needs}
+use Rattle.model.specs.{Lists.at, inner.Filling.Filled}
 use Rattle.model.proofs.Filling.{filled-turn, filled-end}
-use Rattle.arrays.specs.Places.{SPREAD}
-use Rattle.arrays_tables.specs.Steps.{Spread}
-use Rattle.arrays_tables.proofs.Lanes.{spread-turn, spread-fits, spreads-begin, spreads-end}
-use Rattle.arrays_tables.proofs.spreads.spreads.Statement.{statement}
+use Rattle.arrays.specs.inner.Places.{SPREAD}
+use Rattle.arrays_tables.specs.inner.Steps.{Spread}
+use Rattle.arrays_tables.proofs.{Lanes.spread-turn, Lanes.spread-fits, Lanes.spreads-begin, Lanes.spreads-end, spreads.spreads.Statement.statement}
 use Rattle.arrays_tables.proofs.spreads.spreads.Tie as tie
 
 abbrev Inv-loop : tie.InvT-loop
@@ -62,7 +56,12 @@ loop-less c = search needs
 
 loop-again : tie.Need-loop-again Inv-loop μ-loop
 unfolding at
-loop-again c = (search needs, search needs, filled-turn _ _ _ _ _ _ _ (c .before .before .loop .inv .2) refl (omega (arith, length-set (c .before .before .before .args .numbers .now) SPREAD 0)) (λ v l e. omega arith) (spread-turn _ _ (c .before .before .loop .inv .2 .here _ (omega arith))))
+loop-again c = (
+  search needs,
+  search needs,
+  filled-turn _ _ _ _ _ _ _ (c .before .before .loop .inv .2) refl (omega (arith, length-set (c .before .before .before .args .numbers .now) SPREAD 0))
+      (λ v l e. omega arith) (spread-turn _ _ (c .before .before .loop .inv .2 .here _ (omega arith))),
+)
 
 returns : tie.Need-returns Inv-loop μ-loop
 returns c = spreads-end _ _ (filled-end _ _ _ _ _ _ (search needs) (search needs) (c .before .loop .inv .2))
@@ -71,20 +70,5 @@ pub spreads-spec : {M : Type 1} → statement M
 spreads-spec =
     tie.close
     (tie.spec
-    Inv-loop
-    μ-loop
-    element-write-numbers
-    loop-holds
-    add-numbers
-    mul-numbers
-    element-copy-out-numbers
-    mul-numbers-2
-    mul-numbers-3
-    add-numbers-2
-    add-numbers-3
-    mul-numbers-4
-    element-write-numbers-2
-    add-b
-    loop-less
-    loop-again
-    returns)
+    Inv-loop μ-loop element-write-numbers loop-holds add-numbers mul-numbers element-copy-out-numbers mul-numbers-2 mul-numbers-3 add-numbers-2 add-numbers-3
+    mul-numbers-4 element-write-numbers-2 add-b loop-less loop-again returns)

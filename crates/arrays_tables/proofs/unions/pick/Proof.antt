@@ -1,13 +1,8 @@
 -- A number, or 0. Assumes nothing.
-use mathlib.Core.Path.{sym, ap, _∙_}
-use mathlib.Core.Bool.{Bool}
-use borrow.Author.Needs.{needs}
+use Rattle.model.specs.Kit.{sym, ap, _∙_, Bool, needs}
 use Rattle.model.specs.Lists.{choose}
 use Rattle.arrays_tables.proofs.unions.pick.Statement.{statement}
 use Rattle.arrays_tables.proofs.unions.pick.Tie as tie
-
-contains-requires : tie.Need-contains-requires
-contains-requires c κs = search needs
 
 returns : tie.Need-returns
 returns c = ap (λ (b : Bool). choose b (c .before .before .args .w) 0) (sym (c .if1 .taken) ∙ c .before .contains .ensures)
@@ -16,4 +11,4 @@ returns-2 : tie.Need-returns-2
 returns-2 c = ap (λ (b : Bool). choose b (c .before .before .args .w) 0) (sym (c .if1 .left) ∙ c .before .contains .ensures)
 
 pub pick-spec : {M : Type 1} → statement M
-pick-spec = tie.close (tie.spec contains-requires returns returns-2)
+pick-spec = tie.close (tie.spec (λ c κs. search needs) returns returns-2)

@@ -1,14 +1,9 @@
 -- The unions of one constraint after another. Assumes nothing.
-use mathlib.Core.Path.{refl, sym, ap, _∙_, subst}
-use mathlib.Core.Logic.{⊎-elim}
-use Prim.Native.Nat.{ℕ, _+_, _-_, _%_, _≤_}
-use native.Mathlib.Omega.{arith}
-use borrow.Author.Needs.{needs}
+use Rattle.model.specs.Kit.{refl, sym, ap, _∙_, subst, ⊎-elim, ℕ, _+_, _-_, _%_, _≤_, arith, needs}
 use Rattle.model.specs.Lists.{at}
-use Rattle.arrays.specs.Places.{SCOPES}
-use Rattle.arrays_tables.specs.Steps.{Unions}
-use Rattle.arrays_tables.proofs.UnionTables.{unions-begin, unions-turn, unions-end}
-use Rattle.arrays_tables.proofs.unions.unions.Statement.{statement}
+use Rattle.arrays.specs.inner.Places.{SCOPES}
+use Rattle.arrays_tables.specs.inner.Steps.{Unions}
+use Rattle.arrays_tables.proofs.{UnionTables.unions-begin, UnionTables.unions-turn, UnionTables.unions-end, unions.unions.Statement.statement}
 use Rattle.arrays_tables.proofs.unions.unions.Tie as tie
 
 abbrev Inv-loop : tie.InvT-loop
@@ -44,7 +39,8 @@ loop-again c =
     let r = c .before .before .before .loop .inv .1 in (
       search needs,
       ⊎-elim (λ q. subst (Unions _ _ _) (sym (q .3)) (unions-turn _ _ _ _ _ r (q .2 .ensures .size) (λ j h. q .2 .ensures .other j (λ v l e. omega arith)) (λ t. q .2 .ensures .here)))
-          (λ q. subst (Unions _ _ _) (sym (q .1)) (unions-turn _ _ _ _ _ r refl (λ j h. refl) (λ t. absurd (q .0 .left (ap (λ (n : ℕ). n % 256) (r .kept (SCOPES + c .before .before .before .loop .k) (omega arith)) ∙ t))))) (c .if1 .came),
+          (λ q. subst (Unions _ _ _) (sym (q .1)) (unions-turn _ _ _ _ _ r refl (λ j h. refl)
+          (λ t. absurd (q .0 .left (ap (λ (n : ℕ). n % 256) (r .kept (SCOPES + c .before .before .before .loop .k) (omega arith)) ∙ t))))) (c .if1 .came),
     )
 
 returns : tie.Need-returns Inv-loop μ-loop
@@ -54,14 +50,4 @@ pub unions-spec : {M : Type 1} → statement M
 unions-spec =
     tie.close
     (tie.spec
-    Inv-loop
-    μ-loop
-    loop-holds
-    add-if1
-    mul-if1
-    element-copy-out-if1
-    unite-requires
-    add-k
-    loop-less
-    loop-again
-    returns)
+    Inv-loop μ-loop loop-holds add-if1 mul-if1 element-copy-out-if1 unite-requires add-k loop-less loop-again returns)

@@ -1,12 +1,9 @@
 -- The unions of a constraint, one after another. Assumes nothing.
-use mathlib.Core.Path.{refl}
-use Prim.Native.Nat.{_+_, _-_, _*_, _/_, _%_, _≤_}
-use native.Mathlib.Omega.{arith}
-use borrow.Author.Needs.{needs}
-use Rattle.model.specs.Filling.{Filled}
+use Rattle.model.specs.Kit.{refl, _+_, _-_, _*_, _/_, _%_, _≤_, arith, needs}
+use Rattle.model.specs.inner.Filling.{Filled}
 use Rattle.model.proofs.Filling.{filled-begin, filled-turn, filled-end}
-use Rattle.arrays.specs.Places.{UNIONS}
-use Rattle.arrays_tables.specs.Steps.{Unioned}
+use Rattle.arrays.specs.inner.Places.{UNIONS}
+use Rattle.arrays_tables.specs.inner.Steps.{Unioned}
 use Rattle.arrays_tables.proofs.unions.unite.Statement.{statement}
 use Rattle.arrays_tables.proofs.unions.unite.Tie as tie
 
@@ -50,7 +47,11 @@ loop-less : tie.Need-loop-less Inv-loop μ-loop
 loop-less c = search needs
 
 loop-again : tie.Need-loop-again Inv-loop μ-loop
-loop-again c = (search needs, filled-turn _ _ _ _ _ _ _ (c .before .before .before .loop .inv .1) refl (omega arith) (λ v l e. omega arith) (record { words = _; made = c .before .before .before .before .words .ensures .here; union = c .union .ensures }))
+loop-again c = (
+  search needs,
+  filled-turn _ _ _ _ _ _ _ (c .before .before .before .loop .inv .1) refl (omega arith) (λ v l e. omega arith)
+      (record { words = _; made = c .before .before .before .before .words .ensures .here; union = c .union .ensures }),
+)
 
 returns : tie.Need-returns Inv-loop μ-loop
 returns c = filled-end _ _ _ _ _ _ (search needs) (search needs) (c .before .loop .inv .1)
@@ -59,18 +60,5 @@ pub unite-spec : {M : Type 1} → statement M
 unite-spec =
     tie.close
     (tie.spec
-    Inv-loop
-    μ-loop
-    words-requires
-    loop-holds
-    mul-union
-    union-requires
-    mul-numbers
-    add-numbers
-    add-numbers-2
-    mul-numbers-2
-    element-write-numbers
-    add-c
-    loop-less
-    loop-again
-    returns)
+    Inv-loop μ-loop words-requires loop-holds mul-union union-requires mul-numbers add-numbers add-numbers-2 mul-numbers-2 element-write-numbers add-c loop-less
+    loop-again returns)

@@ -1,12 +1,8 @@
 -- Eight sets go into one number, the last first. Assumes nothing.
-use Prim.Native.Nat.{_+_, _-_, _*_}
-use native.Mathlib.Omega.{arith}
-use lib.ListN.{getD}
-use borrow.Author.Needs.{needs}
+use Rattle.model.specs.Kit.{_+_, _-_, _*_, arith, getD, needs}
 use Rattle.model.specs.Lists.{at}
 use Rattle.model.proofs.Masks.{byte-lt}
-use Rattle.arrays_tables.proofs.Lanes.{LanesSoFar, lanes-begin, lanes-fit, lanes-turn, lanes-end, step-fits}
-use Rattle.arrays_tables.proofs.words.lanes.Statement.{statement}
+use Rattle.arrays_tables.proofs.{Lanes.LanesSoFar, Lanes.lanes-begin, Lanes.lanes-fit, Lanes.lanes-turn, Lanes.lanes-end, Lanes.step-fits, words.lanes.Statement.statement}
 use Rattle.arrays_tables.proofs.words.lanes.Tie as tie
 
 abbrev Inv-loop : tie.InvT-loop
@@ -37,10 +33,19 @@ element-copy-out-all : tie.Need-element-copy-out-all Inv-loop μ-loop
 element-copy-out-all c = omega (arith, step-fits (c .before .before .args .step) (c .before .loop .t) (c .before .before .pre .1))
 
 cast-all : tie.Need-cast-all Inv-loop μ-loop
-cast-all c = record { fits = omega (arith, byte-lt (getD (c .before .before .before .args .supports .now) (c .before .before .before .args .base + c .before .before .before .args .step * (7 - c .before .before .loop .t)) 0)) }
+cast-all c = record {
+  fits = omega (
+    arith,
+    byte-lt (getD (c .before .before .before .args .supports .now)
+        (c .before .before .before .args .base + c .before .before .before .args .step * (7 - c .before .before .loop .t)) 0),
+  );
+}
 
 add-all-2 : tie.Need-add-all-2 Inv-loop μ-loop
-add-all-2 c = record { fits = lanes-fit _ _ _ (getD (c .before .before .before .args .supports .now) (c .before .before .before .args .base + c .before .before .before .args .step * (7 - c .before .before .loop .t)) 0) (c .before .before .loop .inv) (c .before .loop-test .taken) }
+add-all-2 c = record {
+  fits = lanes-fit _ _ _ (getD (c .before .before .before .args .supports .now)
+      (c .before .before .before .args .base + c .before .before .before .args .step * (7 - c .before .before .loop .t)) 0) (c .before .before .loop .inv) (c .before .loop-test .taken);
+}
 
 add-t : tie.Need-add-t Inv-loop μ-loop
 add-t c = search needs
@@ -59,18 +64,4 @@ pub lanes-spec : {M : Type 1} → statement M
 lanes-spec =
     tie.close
     (tie.spec
-    Inv-loop
-    μ-loop
-    loop-holds
-    mul-all
-    sub-all
-    mul-all-2
-    add-all
-    mul-all-3
-    element-copy-out-all
-    cast-all
-    add-all-2
-    add-t
-    loop-less
-    loop-again
-    returns)
+    Inv-loop μ-loop loop-holds mul-all sub-all mul-all-2 add-all mul-all-3 element-copy-out-all cast-all add-all-2 add-t loop-less loop-again returns)

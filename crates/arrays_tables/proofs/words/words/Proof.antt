@@ -1,11 +1,8 @@
 -- The sixteen numbers of a constraint, one after another. Assumes nothing.
-use mathlib.Core.Path.{refl}
-use Prim.Native.Nat.{_-_, _≤_}
-use native.Mathlib.Omega.{arith}
-use borrow.Author.Needs.{needs}
-use Rattle.model.specs.Filling.{Filled}
+use Rattle.model.specs.Kit.{refl, _-_, _≤_, arith, needs}
+use Rattle.model.specs.inner.Filling.{Filled}
 use Rattle.model.proofs.Filling.{filled-begin, filled-turn, filled-end}
-use Rattle.arrays_tables.specs.Steps.{Word}
+use Rattle.arrays_tables.specs.inner.Steps.{Word}
 use Rattle.arrays_tables.proofs.words.words.Statement.{statement}
 use Rattle.arrays_tables.proofs.words.words.Tie as tie
 
@@ -43,13 +40,4 @@ pub words-spec : {M : Type 1} → statement M
 words-spec =
     tie.close
     (tie.spec
-    Inv-loop
-    μ-loop
-    loop-holds
-    word-requires
-    mul-made
-    element-write-made
-    add-n
-    loop-less
-    loop-again
-    returns)
+    Inv-loop μ-loop loop-holds word-requires mul-made element-write-made add-n loop-less loop-again returns)

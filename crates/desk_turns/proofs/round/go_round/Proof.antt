@@ -1,13 +1,8 @@
 -- `go_round`: after i turns of the loop the first i slots of the round were given the turns due to them. Assumes nothing.
-use mathlib.Core.Path.{sym, _∙_}
-use mathlib.Core.Logic.{inl, inr, ⊎-elim}
-use Prim.Native.Nat.{_-_, _≤_}
-use native.Mathlib.Omega.{arith}
+use Rattle.model.specs.Kit.{sym, _∙_, inl, inr, ⊎-elim, _-_, _≤_, arith, needs}
 use Rattle.model.specs.Lists.{at}
-use Rattle.desk_turns.proofs.Rounding.{RoundTo, round-begin, round-more, round-end}
+use Rattle.desk_turns.proofs.{Rounding.RoundTo, Rounding.round-begin, Rounding.round-more, Rounding.round-end, round.go_round.Statement.statement}
 use Rattle.desk.specs.Places.{NEXT}
-use borrow.Author.Needs.{needs}
-use Rattle.desk_turns.proofs.round.go_round.Statement.{statement}
 use Rattle.desk_turns.proofs.round.go_round.Tie as tie
 
 abbrev Inv-loop : tie.InvT-loop
@@ -52,7 +47,8 @@ unfolding at
 loop-again c =
     let l = c .before .before .before .before .before .before .loop in (
       omega (arith, c .before .before .before .before .before .loop-test .taken),
-      round-more _ _ (l .i) (c .before .before .before .before .before .loop-test .taken) _ _ _ (l .inv .1) _ _ (c .before .before .before .give .ensures) _ _ (⊎-elim (λ q. inl (q .0 .taken, q .1, q .2)) (λ q. inr (q .0 .left, q .1, q .2)) (c .if1 .came)),
+      round-more _ _ (l .i) (c .before .before .before .before .before .loop-test .taken) _ _ _ (l .inv .1) _ _ (c .before .before .before .give .ensures) _ _
+          (⊎-elim (λ q. inl (q .0 .taken, q .1, q .2)) (λ q. inr (q .0 .left, q .1, q .2)) (c .if1 .came)),
     )
 
 same-length : tie.Need-same-length Inv-loop μ-loop
@@ -66,18 +62,4 @@ pub go-round-spec : {M : Type 1} → statement M
 go-round-spec =
     tie.close
     (tie.spec
-    Inv-loop
-    μ-loop
-    slice-read-first
-    cast-first
-    slice-read-next
-    loop-holds
-    add-k
-    give-requires
-    add-next
-    cast-next
-    add-i
-    loop-less
-    loop-again
-    same-length
-    returns)
+    Inv-loop μ-loop slice-read-first cast-first slice-read-next loop-holds add-k give-requires add-next cast-next add-i loop-less loop-again same-length returns)

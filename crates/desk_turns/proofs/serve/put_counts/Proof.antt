@@ -1,18 +1,10 @@
 -- `put_counts`: after x turns of the loop the first x counts are put. Assumes nothing.
-use mathlib.Core.Path.{_≡_, refl, sym, ap, _∙_}
-use Prim.Native.Nat.{_+_, _-_, _≤_}
-use native.Mathlib.Omega.{arith}
-use lib.ListN.{length, take}
-use Rattle.model.specs.Lists.{at}
-use Rattle.model.specs.Bytes.{fourBytes}
-use Rattle.model.specs.Written.{placed}
+use Rattle.model.specs.Kit.{_≡_, refl, sym, ap, _∙_, _+_, _-_, _≤_, arith, length, take, needs}
+use Rattle.model.specs.{Lists.at, Bytes.fourBytes, Written.placed}
 use Rattle.run_cut.specs.Parts.{added}
 use Rattle.run_cut.proofs.Counts.{length-added, at-added}
-use Rattle.desk.specs.Places.{COUNTS}
-use Rattle.desk.specs.Layout.{countBytes}
-use Rattle.desk_turns.proofs.Counting.{counts-begin, counts-turn, counts-end}
-use borrow.Author.Needs.{needs}
-use Rattle.desk_turns.proofs.serve.put_counts.Statement.{statement}
+use Rattle.desk.specs.{Places.COUNTS, Layout.countBytes}
+use Rattle.desk_turns.proofs.{Counting.counts-begin, Counting.counts-turn, Counting.counts-end, serve.put_counts.Statement.statement}
 use Rattle.desk_turns.proofs.serve.put_counts.Tie as tie
 
 abbrev Inv-loop : tie.InvT-loop
@@ -83,27 +75,12 @@ returns : tie.Need-returns Inv-loop μ-loop
 returns c =
     let l = c .before in
     let a = l .before .before in
-    counts-end (a .args .queue .now) (added (a .args .t3) (a .args .t4)) (a .args .p + COUNTS) (l .loop .x) _ (omega (arith, c .loop-test .left, length-added (a .args .t3) (a .args .t4))) (l .loop .inv .2)
+    counts-end (a .args .queue .now) (added (a .args .t3) (a .args .t4)) (a .args .p + COUNTS) (l .loop .x) _ (omega (arith, c .loop-test .left, length-added (a .args .t3) (a .args .t4)))
+    (l .loop .inv .2)
 
 pub put-counts-spec : {M : Type 1} → statement M
 put-counts-spec =
     tie.close
     (tie.spec
-    Inv-loop
-    μ-loop
-    loop-holds
-    mul-k
-    array-read-k
-    mul-k-2
-    array-read-k-2
-    add-k
-    add-four
-    mul-four
-    add-four-2
-    cast-four
-    four-requires
-    add-x
-    loop-less
-    loop-again
-    same-length
-    returns)
+    Inv-loop μ-loop loop-holds mul-k array-read-k mul-k-2 array-read-k-2 add-k add-four mul-four add-four-2 cast-four four-requires add-x loop-less loop-again
+    same-length returns)

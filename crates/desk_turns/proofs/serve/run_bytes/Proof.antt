@@ -1,13 +1,8 @@
 -- `run_bytes`: after i turns of the loop the first i values of the last node stand behind the figures. Assumes nothing.
-use mathlib.Core.Path.{_≡_, refl, ap, _∙_}
-use Prim.Native.Nat.{_+_, _≤_, _-_}
-use native.Mathlib.Omega.{arith}
-use lib.ListN.{length}
+use Rattle.model.specs.Kit.{_≡_, refl, ap, _∙_, _+_, _≤_, _-_, arith, length, needs}
 use Rattle.model.specs.Lists.{at}
 use Rattle.model.proofs.Filling.{filled-begin, filled-turn, filled-end}
-use Rattle.desk_turns.proofs.Telling.{ToldTo, begun-is, told}
-use borrow.Author.Needs.{needs}
-use Rattle.desk_turns.proofs.serve.run_bytes.Statement.{statement}
+use Rattle.desk_turns.proofs.{Telling.ToldTo, Telling.begun-is, Telling.told, serve.run_bytes.Statement.statement}
 use Rattle.desk_turns.proofs.serve.run_bytes.Tie as tie
 
 abbrev Inv-loop : tie.InvT-loop
@@ -118,32 +113,6 @@ pub run-bytes-spec : {M : Type 1} → statement M
 run-bytes-spec =
     tie.close
     (tie.spec
-    Inv-loop
-    μ-loop
-    element-copy-out-plans
-    element-copy-out-last
-    array-write-bytes
-    slice-aggregate-four
-    sub-four
-    four-requires
-    cast-bytes
-    sub-bytes
-    array-write-bytes-2
-    cast-bytes-2
-    add-bytes
-    sub-bytes-2
-    array-write-bytes-3
-    cast-bytes-3
-    sub-bytes-3
-    array-write-bytes-4
-    loop-holds
-    mul-bytes
-    element-copy-out-bytes
-    cast-bytes-4
-    sub-bytes-4
-    add-bytes-2
-    array-write-bytes-5
-    add-i
-    loop-less
-    loop-again
-    returns)
+    Inv-loop μ-loop element-copy-out-plans element-copy-out-last array-write-bytes slice-aggregate-four sub-four four-requires cast-bytes sub-bytes
+    array-write-bytes-2 cast-bytes-2 add-bytes sub-bytes-2 array-write-bytes-3 cast-bytes-3 sub-bytes-3 array-write-bytes-4 loop-holds mul-bytes
+    element-copy-out-bytes cast-bytes-4 sub-bytes-4 add-bytes-2 array-write-bytes-5 add-i loop-less loop-again returns)

@@ -1,11 +1,6 @@
 -- `load`: after i turns the first i words are read. Assumes nothing.
-use mathlib.Core.Path.{_≡_, refl}
-use Prim.Native.Nat.{ℕ, _+_, _*_, _-_, _≤_, _<_}
-use native.Mathlib.Omega.{arith}
-use borrow.Author.Needs.{needs}
-use lib.ListN.{length, getD, length-set}
-use Rattle.export_filter.proofs.SetBytes.{stored-more, loaded}
-use Rattle.export_filter.proofs.sets.load.Statement.{statement}
+use Rattle.model.specs.Kit.{_≡_, refl, ℕ, _+_, _*_, _-_, _≤_, _<_, arith, needs, length, getD, length-set}
+use Rattle.export_filter.proofs.{SetBytes.stored-more, SetBytes.loaded, sets.load.Statement.statement}
 use Rattle.export_filter.proofs.sets.load.Tie as tie
 
 abbrev Inv-loop : tie.InvT-loop
@@ -50,7 +45,8 @@ loop-again c =
     let s = l .before .before .before in (
       simp length-set (l .loop .inv .0),
       omega arith,
-      stored-more (λ k x. x ≡ getD (s .args .sets .now) (2 * k) 0 + 256 * getD (s .args .sets .now) (2 * k + 1) 0) (l .loop .words) (l .loop .i) (c .word .result) (omega arith) (l .loop .inv .2) (c .word .ensures),
+      stored-more (λ k x. x ≡ getD (s .args .sets .now) (2 * k) 0 + 256 * getD (s .args .sets .now) (2 * k + 1) 0) (l .loop .words) (l .loop .i) (c .word .result) (omega arith) (l .loop .inv .2)
+          (c .word .ensures),
     )
 
 same-length : tie.Need-same-length Inv-loop μ-loop
@@ -65,18 +61,5 @@ pub load-spec : {M : Type 1} → statement M
 load-spec =
     tie.close
     (tie.spec
-    Inv-loop
-    μ-loop
-    loop-holds
-    mul-at
-    shared-slice-read-word
-    add-word
-    shared-slice-read-word-2
-    word-requires
-    mul-words
-    slice-write-words
-    add-i
-    loop-less
-    loop-again
-    same-length
-    returns)
+    Inv-loop μ-loop loop-holds mul-at shared-slice-read-word add-word shared-slice-read-word-2 word-requires mul-words slice-write-words add-i loop-less
+    loop-again same-length returns)

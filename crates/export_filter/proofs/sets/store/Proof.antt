@@ -1,17 +1,10 @@
 -- `store`: after i turns the first i words are written. Assumes nothing.
-use mathlib.Core.Path.{_≡_, refl, sym, _∙_, subst}
-use mathlib.Core.List.{List, []}
-use Prim.Native.Nat.{ℕ, _*_, _-_, _≤_}
-use native.Mathlib.Omega.{arith}
-use borrow.Author.Needs.{needs}
-use lib.ListN.{length, take}
-use lib.Seq.{take-all}
+use Rattle.model.specs.Kit.{_≡_, refl, sym, _∙_, subst, List, [], ℕ, _*_, _-_, _≤_, arith, needs, length, take, take-all}
 use Rattle.model.specs.Written.{Written}
 use Rattle.model.proofs.Written.{written-none}
 use Rattle.export_filter.specs.Filter.{bytesOf}
-use Rattle.export_filter.proofs.SetBytes.{bytes-turn, length-bytes}
+use Rattle.export_filter.proofs.{SetBytes.bytes-turn, SetBytes.length-bytes, sets.store.Statement.statement}
 use Rattle.wire.proofs.Numbers.{whole}
-use Rattle.export_filter.proofs.sets.store.Statement.{statement}
 use Rattle.export_filter.proofs.sets.store.Tie as tie
 
 abbrev Inv-loop : tie.InvT-loop
@@ -71,14 +64,4 @@ pub store-spec : {M : Type 1} → statement M
 store-spec =
     tie.close
     (tie.spec
-    Inv-loop
-    μ-loop
-    loop-holds
-    mul-two
-    shared-slice-read-two
-    two-requires
-    add-i
-    loop-less
-    loop-again
-    same-length
-    returns)
+    Inv-loop μ-loop loop-holds mul-two shared-slice-read-two two-requires add-i loop-less loop-again same-length returns)

@@ -1,15 +1,8 @@
 -- `eight`: two halves. Assumes nothing.
-use mathlib.Core.Path.{refl}
-use native.Mathlib.Omega.{arith}
-use borrow.Author.Needs.{needs}
-use Rattle.model.specs.Lists.{at}
-use Rattle.model.specs.Bytes.{fourBytes}
-use Rattle.export_join.proofs.Wides.{eight-put}
-use Rattle.export_join.proofs.pieces.eight.Statement.{statement}
+use Rattle.model.specs.Kit.{refl, arith, needs}
+use Rattle.model.specs.{Lists.at, Bytes.fourBytes}
+use Rattle.export_join.proofs.{Wides.eight-put, pieces.eight.Statement.statement}
 use Rattle.export_join.proofs.pieces.eight.Tie as tie
-
-four-requires : tie.Need-four-requires
-four-requires c κs = search needs
 
 four-requires-2 : tie.Need-four-requires-2
 unfolding fourBytes
@@ -17,9 +10,6 @@ four-requires-2 c κs =
     let p = c .before .before .before in
     let s = p .before .before .before in
     (omega (arith, p .four .ensures .ends, p .four .kept .0, s .pre), omega arith)
-
-same-length : tie.Need-same-length
-same-length c = search needs
 
 returns : tie.Need-returns
 returns c =
@@ -29,4 +19,4 @@ returns c =
     eight-put (s .args .at) (s .args .x) _ _ (s .pre) refl refl (p .four .ensures) (q .four2 .ensures)
 
 pub eight-spec : {M : Type 1} → statement M
-eight-spec = tie.close (tie.spec four-requires four-requires-2 same-length returns)
+eight-spec = tie.close (tie.spec (λ c κs. search needs) four-requires-2 (λ c. search needs) returns)

@@ -1,14 +1,8 @@
 -- `put_counts`: after i turns the first i counts are written. Assumes nothing.
-use mathlib.Core.Path.{_≡_, refl, _∙_}
-use Prim.Native.Nat.{_+_, _-_, _*_, _≤_}
-use native.Mathlib.Omega.{arith}
-use borrow.Author.Needs.{needs}
-use lib.ListN.{length}
-use Rattle.model.specs.Lists.{at, tabulate}
-use Rattle.model.specs.Written.{Written}
+use Rattle.model.specs.Kit.{_≡_, refl, _∙_, _+_, _-_, _*_, _≤_, arith, needs, length}
+use Rattle.model.specs.{Lists.at, Lists.tabulate, Written.Written}
 use Rattle.export_join.specs.Joined.{widesOf}
-use Rattle.export_join.proofs.Wides.{wides-start, wides-turn, wides-all, eight-ends}
-use Rattle.export_join.proofs.pieces.put_counts.Statement.{statement}
+use Rattle.export_join.proofs.{Wides.wides-start, Wides.wides-turn, Wides.wides-all, Wides.eight-ends, pieces.put_counts.Statement.statement}
 use Rattle.export_join.proofs.pieces.put_counts.Tie as tie
 
 abbrev Inv-loop : tie.InvT-loop
@@ -57,14 +51,4 @@ pub put-counts-spec : {M : Type 1} → statement M
 put-counts-spec =
     tie.close
     (tie.spec
-    Inv-loop
-    μ-loop
-    loop-holds
-    mul-eight
-    array-read-eight
-    eight-requires
-    add-i
-    loop-less
-    loop-again
-    same-length
-    returns)
+    Inv-loop μ-loop loop-holds mul-eight array-read-eight eight-requires add-i loop-less loop-again same-length returns)

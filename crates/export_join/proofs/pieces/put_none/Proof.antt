@@ -1,26 +1,9 @@
 -- `put_none`: twice the empty path. Assumes nothing.
-use borrow.Author.Needs.{needs}
-use lib.ListN.{replicate}
+use Rattle.model.specs.Kit.{needs, replicate}
 use Rattle.export_join.specs.Joined.{pathBytesAt}
 use Rattle.run_join.proofs.Turns.{startBytes}
-use Rattle.export_join.proofs.Wides.{none-at, two-put}
-use Rattle.export_join.proofs.pieces.put_none.Statement.{statement}
+use Rattle.export_join.proofs.{Wides.none-at, Wides.two-put, pieces.put_none.Statement.statement}
 use Rattle.export_join.proofs.pieces.put_none.Tie as tie
-
-slice-aggregate-put-path : tie.Need-slice-aggregate-put-path
-slice-aggregate-put-path c = search needs
-
-put-path-requires : tie.Need-put-path-requires
-put-path-requires c κs = search needs
-
-slice-aggregate-put-path-2 : tie.Need-slice-aggregate-put-path-2
-slice-aggregate-put-path-2 c = search needs
-
-put-path-requires-2 : tie.Need-put-path-requires-2
-put-path-requires-2 c κs = search needs
-
-same-length : tie.Need-same-length
-same-length c = search needs
 
 returns : tie.Need-returns
 returns c =
@@ -33,9 +16,4 @@ pub put-none-spec : {M : Type 1} → statement M
 put-none-spec =
     tie.close
     (tie.spec
-    slice-aggregate-put-path
-    put-path-requires
-    slice-aggregate-put-path-2
-    put-path-requires-2
-    same-length
-    returns)
+    (λ c. search needs) (λ c κs. search needs) (λ c. search needs) (λ c κs. search needs) (λ c. search needs) returns)

@@ -1,12 +1,8 @@
 -- `put_path`: after i turns the first i bytes are written. Assumes nothing.
-use mathlib.Core.Path.{_≡_, refl, _∙_}
-use Prim.Native.Nat.{_+_, _-_, _≤_}
-use native.Mathlib.Omega.{arith}
-use lib.ListN.{length, length-set}
-use Rattle.model.specs.Lists.{at, tabulate}
-use Rattle.model.specs.Written.{Written}
-use Rattle.export_join.proofs.Wides.{bytes-start, bytes-turn, bytes-all}
-use Rattle.export_join.proofs.pieces.put_path.Statement.{statement}
+use Rattle.model.specs.Kit.{_≡_, refl, _∙_, _+_, _-_, _≤_, arith, length, length-set}
+use Rattle.model.specs.{Lists.at, Lists.tabulate, Written.Written}
+use Rattle.export_join.proofs.{Wides.bytes-all, pieces.put_path.Statement.statement}
+use Rattle.model.proofs.Written.{written-start, written-turn}
 use Rattle.export_join.proofs.pieces.put_path.Tie as tie
 
 abbrev Inv-loop : tie.InvT-loop
@@ -16,7 +12,7 @@ abbrev μ-loop : tie.MeasureT-loop
 μ-loop out₀ start l o i₀ out i = 13 - i
 
 loop-holds : tie.Need-loop-holds Inv-loop μ-loop
-loop-holds c = let a = c .args in (omega arith, refl, bytes-start (a .out .now) (a .start) (λ k. at (a .l .now) (a .o + k)))
+loop-holds c = let a = c .args in (omega arith, refl, written-start (a .out .now) (a .start) (λ k. at (a .l .now) (a .o + k)))
 
 add-out : tie.Need-add-out Inv-loop μ-loop
 add-out c = omega arith
@@ -43,7 +39,7 @@ loop-again c =
     let a = c .before .before .before .args in (
       omega arith,
       length-set (l .out) (a .start + l .i) _ ∙ l .inv .1,
-      bytes-turn (a .out .now) (l .out) (a .start) (l .i) _ (λ k. at (a .l .now) (a .o + k)) (omega arith) (l .inv .1) refl (l .inv .2),
+      written-turn (a .out .now) (l .out) (a .start) (l .i) _ (λ k. at (a .l .now) (a .o + k)) (omega arith) (l .inv .1) refl (l .inv .2),
     )
 
 same-length : tie.Need-same-length Inv-loop μ-loop
@@ -59,15 +55,4 @@ pub put-path-spec : {M : Type 1} → statement M
 put-path-spec =
     tie.close
     (tie.spec
-    Inv-loop
-    μ-loop
-    loop-holds
-    add-out
-    shared-slice-read-out
-    add-out-2
-    slice-write-out
-    add-i
-    loop-less
-    loop-again
-    same-length
-    returns)
+    Inv-loop μ-loop loop-holds add-out shared-slice-read-out add-out-2 slice-write-out add-i loop-less loop-again same-length returns)

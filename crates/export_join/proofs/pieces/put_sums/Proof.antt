@@ -1,13 +1,8 @@
 -- `put_sums`: numbers one behind the other. Assumes nothing.
-use native.Mathlib.Omega.{arith}
-use borrow.Author.Needs.{needs}
+use Rattle.model.specs.Kit.{arith, needs}
 use Rattle.model.specs.Bytes.{fourBytes}
-use Rattle.export_join.proofs.Wides.{sums-put, eight-ends}
-use Rattle.export_join.proofs.pieces.put_sums.Statement.{statement}
+use Rattle.export_join.proofs.{Wides.sums-put, Wides.eight-ends, pieces.put_sums.Statement.statement}
 use Rattle.export_join.proofs.pieces.put_sums.Tie as tie
-
-four-requires : tie.Need-four-requires
-four-requires c κs = search needs
 
 four-requires-2 : tie.Need-four-requires-2
 unfolding fourBytes
@@ -33,12 +28,6 @@ eight-requires-2 c κs =
     let s = p .before .before .before in
     omega (arith, eight-ends (s .args .plans) (r .eight .ensures), r .eight .kept .0, q .four2 .ensures .ends, q .four2 .kept .0, p .four .ensures .ends, p .four .kept .0, s .pre .0)
 
-put-counts-requires : tie.Need-put-counts-requires
-put-counts-requires c κs = search needs
-
-same-length : tie.Need-same-length
-same-length c = search needs
-
 returns : tie.Need-returns
 returns c =
     let n = c .before .before in
@@ -53,10 +42,4 @@ pub put-sums-spec : {M : Type 1} → statement M
 put-sums-spec =
     tie.close
     (tie.spec
-    four-requires
-    four-requires-2
-    eight-requires
-    eight-requires-2
-    put-counts-requires
-    same-length
-    returns)
+    (λ c κs. search needs) four-requires-2 eight-requires eight-requires-2 (λ c κs. search needs) (λ c. search needs) returns)

@@ -1,12 +1,7 @@
 -- `digest`: after i turns it is the digest of the first i bytes. Assumes nothing.
-use mathlib.Core.Path.{_≡_}
-use Prim.Native.Nat.{_≤_, _<_, _-_}
-use native.Mathlib.Omega.{arith}
-use borrow.Author.Needs.{needs}
-use lib.ListN.{length, take}
+use Rattle.model.specs.Kit.{_≡_, _≤_, _<_, _-_, arith, needs, length, take}
 use Rattle.export_parts.specs.Head.{digest}
-use Rattle.export_parts.proofs.Pieces.{digest-none, digest-turn, digest-all}
-use Rattle.export_parts.proofs.digests.digest.Statement.{statement}
+use Rattle.export_parts.proofs.{Pieces.digest-none, Pieces.digest-turn, Pieces.digest-all, digests.digest.Statement.statement}
 use Rattle.export_parts.proofs.digests.digest.Tie as tie
 
 abbrev Inv-loop : tie.InvT-loop
@@ -37,8 +32,12 @@ loop-again : tie.Need-loop-again Inv-loop μ-loop
 loop-again c =
     let t = c .before .before .before in
     let l = t .before .loop in
-    let s = t .before .before .before in
-    (omega arith, c .with-byte .ensures .1, digest-turn (s .args .base) (l .i) (l .h) (c .before .byte .result) (c .with-byte .result) (s .args .bytes .now) (t .loop-test .taken) (l .inv .2) (c .before .byte .ensures .0) (c .with-byte .ensures .0))
+    let s = t .before .before .before in (
+      omega arith,
+      c .with-byte .ensures .1,
+      digest-turn (s .args .base) (l .i) (l .h) (c .before .byte .result) (c .with-byte .result) (s .args .bytes .now) (t .loop-test .taken) (l .inv .2)
+          (c .before .byte .ensures .0) (c .with-byte .ensures .0),
+    )
 
 returns : tie.Need-returns Inv-loop μ-loop
 returns c =
@@ -50,13 +49,4 @@ pub digest-spec : {M : Type 1} → statement M
 digest-spec =
     tie.close
     (tie.spec
-    Inv-loop
-    μ-loop
-    loop-holds
-    shared-slice-read-byte
-    byte-requires
-    with-byte-requires
-    add-i
-    loop-less
-    loop-again
-    returns)
+    Inv-loop μ-loop loop-holds shared-slice-read-byte byte-requires with-byte-requires add-i loop-less loop-again returns)

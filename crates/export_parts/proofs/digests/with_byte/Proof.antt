@@ -1,8 +1,5 @@
 -- `with_byte`: no step wraps. Assumes nothing.
-use Prim.Native.Nat.{_*_, _≤_}
-use native.Mathlib.Nat.{mul-le-mul-right}
-use native.Mathlib.Omega.{arith}
-use borrow.Author.Needs.{needs}
+use Rattle.model.specs.Kit.{_*_, _≤_, mul-le-mul-right, arith, needs}
 use Rattle.export_parts.proofs.digests.with_byte.Statement.{statement}
 use Rattle.export_parts.proofs.digests.with_byte.Tie as tie
 

@@ -1,13 +1,8 @@
 -- `put_figures`: three numbers and twelve counts, one behind the other. Assumes nothing.
-use native.Mathlib.Omega.{arith}
+use Rattle.model.specs.Kit.{arith, needs}
 use Rattle.model.specs.Bytes.{fourBytes}
-use Rattle.export_parts.proofs.Pieces.{figures-put}
-use borrow.Author.Needs.{needs}
-use Rattle.export_parts.proofs.heads.put_figures.Statement.{statement}
+use Rattle.export_parts.proofs.{Pieces.figures-put, heads.put_figures.Statement.statement}
 use Rattle.export_parts.proofs.heads.put_figures.Tie as tie
-
-four-requires : tie.Need-four-requires
-four-requires c κs = search needs
 
 four-requires-2 : tie.Need-four-requires-2
 unfolding fourBytes
@@ -33,9 +28,6 @@ numbers-requires c κs =
     let s = p .before .before .before in
     (omega (arith, r .four3 .ensures .ends, r .four3 .kept .0, q .four2 .ensures .ends, q .four2 .kept .0, p .four .ensures .ends, p .four .kept .0, s .pre .0), s .pre .4)
 
-same-length : tie.Need-same-length
-same-length c = search needs
-
 returns : tie.Need-returns
 returns c =
     let n = c .before .before in
@@ -46,4 +38,7 @@ returns c =
     figures-put (s .args .kind) (s .args .plans) (s .args .nodes) (s .args .counts) (s .pre .0) (s .pre .4 .long) (p .four .ensures) (q .four2 .ensures) (r .four3 .ensures) (n .numbers .ensures)
 
 pub put-figures-spec : {M : Type 1} → statement M
-put-figures-spec = tie.close (tie.spec four-requires four-requires-2 four-requires-3 numbers-requires same-length returns)
+put-figures-spec =
+    tie.close
+    (tie.spec
+    (λ c κs. search needs) four-requires-2 four-requires-3 numbers-requires (λ c. search needs) returns)

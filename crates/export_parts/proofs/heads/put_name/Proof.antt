@@ -1,19 +1,8 @@
 -- `put_name`: four digests, one behind the other. Assumes nothing.
-use native.Mathlib.Omega.{arith}
+use Rattle.model.specs.Kit.{arith, needs}
 use Rattle.model.specs.Bytes.{fourBytes}
-use Rattle.export_parts.proofs.Pieces.{name-put}
-use borrow.Author.Needs.{needs}
-use Rattle.export_parts.proofs.heads.put_name.Statement.{statement}
+use Rattle.export_parts.proofs.{Pieces.name-put, heads.put_name.Statement.statement}
 use Rattle.export_parts.proofs.heads.put_name.Tie as tie
-
-digest-requires : tie.Need-digest-requires
-digest-requires c κs = search needs
-
-four-requires : tie.Need-four-requires
-four-requires c κs = search needs
-
-digest-requires-2 : tie.Need-digest-requires-2
-digest-requires-2 c κs = search needs
 
 four-requires-2 : tie.Need-four-requires-2
 unfolding fourBytes
@@ -22,9 +11,6 @@ four-requires-2 c κs =
     let s = p .before .before .before .before .before .before .before in
     (omega (arith, p .four .ensures .ends, p .four .kept .0, s .pre), omega (arith, c .digest2 .ensures .1))
 
-digest-requires-3 : tie.Need-digest-requires-3
-digest-requires-3 c κs = search needs
-
 four-requires-3 : tie.Need-four-requires-3
 unfolding fourBytes
 four-requires-3 c κs =
@@ -32,9 +18,6 @@ four-requires-3 c κs =
     let p = q .before .before .before .before .before in
     let s = p .before .before .before .before .before .before .before in
     (omega (arith, q .four2 .ensures .ends, q .four2 .kept .0, p .four .ensures .ends, p .four .kept .0, s .pre), omega (arith, c .digest3 .ensures .1))
-
-digest-requires-4 : tie.Need-digest-requires-4
-digest-requires-4 c κs = search needs
 
 four-requires-4 : tie.Need-four-requires-4
 unfolding fourBytes
@@ -45,9 +28,6 @@ four-requires-4 c κs =
     let s = p .before .before .before .before .before .before .before in
     (omega (arith, r .four3 .ensures .ends, r .four3 .kept .0, q .four2 .ensures .ends, q .four2 .kept .0, p .four .ensures .ends, p .four .kept .0, s .pre), omega (arith, c .digest4 .ensures .1))
 
-same-length : tie.Need-same-length
-same-length c = search needs
-
 returns : tie.Need-returns
 returns c =
     let t = c .before .before in
@@ -55,7 +35,8 @@ returns c =
     let q = r .before .before .before .before .before in
     let p = q .before .before .before .before .before in
     let s = p .before .before .before .before .before .before .before in
-    name-put (s .args .sheet .now) (s .args .pairs .now) (s .args .block .now) (p .before .digest .result) (q .before .digest2 .result) (r .before .digest3 .result) (t .before .digest4 .result) (s .pre)
+    name-put (s .args .sheet .now) (s .args .pairs .now) (s .args .block .now) (p .before .digest .result) (q .before .digest2 .result) (r .before .digest3 .result)
+    (t .before .digest4 .result) (s .pre)
     (p .before .digest .ensures .0) (q .before .digest2 .ensures .0) (r .before .digest3 .ensures .0) (t .before .digest4 .ensures .0)
     (p .four .ensures) (q .four2 .ensures) (r .four3 .ensures) (t .four4 .ensures)
 
@@ -63,13 +44,5 @@ pub put-name-spec : {M : Type 1} → statement M
 put-name-spec =
     tie.close
     (tie.spec
-    digest-requires
-    four-requires
-    digest-requires-2
-    four-requires-2
-    digest-requires-3
-    four-requires-3
-    digest-requires-4
-    four-requires-4
-    same-length
-    returns)
+    (λ c κs. search needs) (λ c κs. search needs) (λ c κs. search needs) four-requires-2 (λ c κs. search needs) four-requires-3 (λ c κs. search needs)
+    four-requires-4 (λ c. search needs) returns)

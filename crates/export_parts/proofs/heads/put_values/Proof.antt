@@ -1,13 +1,8 @@
 -- `put_values`: after i turns the first i values are written. Assumes nothing.
-use mathlib.Core.Path.{_≡_, refl, _∙_}
-use Prim.Native.Nat.{_+_, _-_, _≤_}
-use native.Mathlib.Omega.{arith}
-use borrow.Author.Needs.{needs}
-use lib.ListN.{length, take, length-set}
-use Rattle.model.specs.Lists.{at, tabulate}
-use Rattle.model.specs.Written.{Written}
-use Rattle.export_parts.proofs.Pieces.{values-start, values-turn, values-all}
-use Rattle.export_parts.proofs.heads.put_values.Statement.{statement}
+use Rattle.model.specs.Kit.{_≡_, refl, _∙_, _+_, _-_, _≤_, arith, needs, length, take, length-set}
+use Rattle.model.specs.{Lists.at, Lists.tabulate, Written.Written}
+use Rattle.export_parts.proofs.{Pieces.values-all, heads.put_values.Statement.statement}
+use Rattle.model.proofs.Written.{written-start, written-turn}
 use Rattle.export_parts.proofs.heads.put_values.Tie as tie
 
 abbrev Inv-loop : tie.InvT-loop
@@ -17,7 +12,7 @@ abbrev μ-loop : tie.MeasureT-loop
 μ-loop out₀ start path n i₀ out i = 12 - i
 
 loop-holds : tie.Need-loop-holds Inv-loop μ-loop
-loop-holds c = let a = c .before .before .args in (omega arith, refl, values-start (a .out .now) (a .start) (at (take (a .n) (a .path .now))))
+loop-holds c = let a = c .before .before .args in (omega arith, refl, written-start (a .out .now) (a .start) (at (take (a .n) (a .path .now))))
 
 value-at-requires : tie.Need-value-at-requires Inv-loop μ-loop
 value-at-requires c κs = search needs
@@ -40,7 +35,7 @@ loop-again c =
     let a = c .before .before .before .before .before .args in (
       omega arith,
       length-set (l .out) (a .start + l .i) (c .value-at .result) ∙ l .inv .1,
-      values-turn (a .out .now) (l .out) (a .start) (l .i) (c .value-at .result) (at (take (a .n) (a .path .now))) (omega arith) (l .inv .1) (c .value-at .ensures) (l .inv .2),
+      written-turn (a .out .now) (l .out) (a .start) (l .i) (c .value-at .result) (at (take (a .n) (a .path .now))) (omega arith) (l .inv .1) (c .value-at .ensures) (l .inv .2),
     )
 
 same-length : tie.Need-same-length Inv-loop μ-loop
@@ -56,14 +51,4 @@ pub put-values-spec : {M : Type 1} → statement M
 put-values-spec =
     tie.close
     (tie.spec
-    Inv-loop
-    μ-loop
-    loop-holds
-    value-at-requires
-    add-out
-    slice-write-out
-    add-i
-    loop-less
-    loop-again
-    same-length
-    returns)
+    Inv-loop μ-loop loop-holds value-at-requires add-out slice-write-out add-i loop-less loop-again same-length returns)

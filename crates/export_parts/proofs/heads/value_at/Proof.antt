@@ -1,14 +1,7 @@
 -- `value_at`: an index inside, or behind. Assumes nothing.
-use borrow.Author.Needs.{needs}
-use Rattle.export_parts.proofs.Pieces.{value-in, value-behind}
-use Rattle.export_parts.proofs.heads.value_at.Statement.{statement}
+use Rattle.model.specs.Kit.{needs}
+use Rattle.export_parts.proofs.{Pieces.value-in, Pieces.value-behind, heads.value_at.Statement.statement}
 use Rattle.export_parts.proofs.heads.value_at.Tie as tie
-
-lesser-requires : tie.Need-lesser-requires
-lesser-requires c κs = search needs
-
-shared-slice-read-result : tie.Need-shared-slice-read-result
-shared-slice-read-result c = search needs
 
 returns : tie.Need-returns
 returns c =
@@ -23,4 +16,4 @@ returns-2 c =
     value-behind (a .path .now) (a .n) (a .i) (f .lesser .result) (f .lesser .ensures) (c .if1 .left)
 
 pub value-at-spec : {M : Type 1} → statement M
-value-at-spec = tie.close (tie.spec lesser-requires shared-slice-read-result returns returns-2)
+value-at-spec = tie.close (tie.spec (λ c κs. search needs) (λ c. search needs) returns returns-2)

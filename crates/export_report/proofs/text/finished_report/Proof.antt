@@ -1,19 +1,13 @@
 -- `finished_report`: the figure is a number or the dash. Assumes nothing.
-use mathlib.Core.Path.{_≡_, sym, ap, _∙_, subst}
-use mathlib.Core.Logic.{⊎-elim}
-use mathlib.Core.List.{[], _∷_}
-use Prim.Native.Nat.{ℕ}
-use native.Mathlib.Omega.{arith}
+use Rattle.model.specs.Kit.{_≡_, sym, ap, _∙_, subst, ⊎-elim, [], _∷_, ℕ, arith, needs}
 use types.Run.{OneOf}
 use denote.Enum.Declared.{tagOf}
-use borrow.Author.Needs.{needs}
 use Rattle.model.specs.Run.{finished}
 use Rattle.families_figure.specs.Figure.{Figure, number, dash}
-use Rattle.families_count.specs.Told.{refusal, told, means}
-use Rattle.families_count.specs.declared.Answer.{Answer}
-use Rattle.families_count.specs.declared.Answer.the-variants.{Number, Dash, Refused}
+use Rattle.families_count.specs.{Told.refusal, Told.told, Told.means, declared.Answer.Answer, declared.Answer.the-variants.Number, declared.Answer.the-variants.Dash}
+use Rattle.families_count.specs.declared.Answer.the-variants.{Refused}
 use Rattle.families_count.proofs.Answer.{the-type}
-use Rattle.report.specs.Text.{endedText, Fitted}
+use Rattle.report.specs.inner.Text.{endedText, Fitted}
 use Rattle.export_report.proofs.text.finished_report.Statement.{statement}
 use Rattle.export_report.proofs.text.finished_report.Tie as tie
 
@@ -29,15 +23,6 @@ dash-told (Number k) f t e = absurd (⊎-elim {C = ⊥} (λ z. omega arith) (λ 
 dash-told Dash f t e = figured dash f e
 dash-told (Refused n i) f t e = absurd (never-refused n i f e)
 
-enum-known-figure : tie.Need-enum-known-figure
-enum-known-figure c = search needs
-
-uncounted-requires : tie.Need-uncounted-requires
-uncounted-requires c κs = search needs
-
-same-length : tie.Need-same-length
-same-length c = search needs
-
 returns : tie.Need-returns
 returns c = λ f t.
     let m = c .before .before .before .before in
@@ -46,28 +31,17 @@ returns c = λ f t.
     let e : dash ≡ f = dash-told (s .args .figure) f (m .match .keys2) t in
     subst (λ (g : Figure). Fitted (s .args .out .now) (endedText (finished (s .args .plans) (s .args .nodes)) g (s .args .n) (s .args .list .now)) (r .last .1 .1 .1 .1 .0) (r .result)) e (r .ensures)
 
-finished-requires : tie.Need-finished-requires
-finished-requires c κs = search needs
-
-same-length-2 : tie.Need-same-length-2
-same-length-2 c = search needs
-
 returns-2 : tie.Need-returns-2
 returns-2 c = λ f t.
     let s = c .before .before .before .before .before .before .before .before .before in
     let r = c .before .before .finished in
     let g = c .before .before .before .before .before .figure .given in
     let e : number (g .0 .0) ≡ f = figured _ _ (sym (ap means (g .1)) ∙ t) in
-    subst (λ (h : Figure). Fitted (s .args .out .now) (endedText (finished (s .args .plans) (s .args .nodes)) h (s .args .n) (s .args .list .now)) (r .last .1 .1 .1 .1 .1 .0) (r .result)) e (r .ensures)
+    subst (λ (h : Figure). Fitted (s .args .out .now) (endedText (finished (s .args .plans) (s .args .nodes)) h (s .args .n) (s .args .list .now)) (r .last .1 .1 .1 .1 .1 .0) (r .result)) e
+    (r .ensures)
 
 pub finished-report-spec : {M : Type 1} → statement M
 finished-report-spec =
     tie.close
     (tie.spec
-    enum-known-figure
-    uncounted-requires
-    same-length
-    returns
-    finished-requires
-    same-length-2
-    returns-2)
+    (λ c. search needs) (λ c κs. search needs) (λ c. search needs) returns (λ c κs. search needs) (λ c. search needs) returns-2)

@@ -1,16 +1,9 @@
 -- `ending`: each ending has its kind. Assumes nothing.
-use mathlib.Core.Path.{sym, ap, _∙_, subst}
-use native.Mathlib.Omega.{arith}
-use Rattle.run_state.specs.declared.Ending.{Ending}
-use Rattle.run_state.specs.Meaning.{endingOf}
-use Rattle.export_run.specs.Run.{endingBytes}
-use Rattle.export_run.specs.Inner.{Counted}
-use borrow.Author.Needs.{needs}
+use Rattle.model.specs.Kit.{sym, ap, _∙_, subst, arith, needs}
+use Rattle.run_state.specs.{declared.Ending.Ending, Meaning.endingOf}
+use Rattle.export_run.specs.{Run.endingBytes, inner.Inner.Counted}
 use Rattle.export_run.proofs.runs.ending.Statement.{statement}
 use Rattle.export_run.proofs.runs.ending.Tie as tie
-
-enum-known-e : tie.Need-enum-known-e
-enum-known-e c = search needs
 
 three-requires : tie.Need-three-requires
 three-requires c κs =
@@ -18,17 +11,11 @@ three-requires c κs =
     let k = subst (λ (x : Ending). Counted (endingOf x)) (g .1) (c .before .before .before .before .before .pre .1) in
     (c .before .before .before .before .before .pre .0, omega arith, k .plans, k .made)
 
-enum-known-e-2 : tie.Need-enum-known-e-2
-enum-known-e-2 c = search needs
-
 three-requires-2 : tie.Need-three-requires-2
 three-requires-2 c κs =
     let g = c .before .before .e2 .given in
     let k = subst (λ (x : Ending). Counted (endingOf x)) (g .1) (c .before .before .before .before .before .pre .1) in
     (c .before .before .before .before .before .pre .0, omega arith, k .plans, k .made)
-
-enum-known-e-3 : tie.Need-enum-known-e-3
-enum-known-e-3 c = search needs
 
 three-requires-3 : tie.Need-three-requires-3
 three-requires-3 c κs =
@@ -36,20 +23,11 @@ three-requires-3 c κs =
     let k = subst (λ (x : Ending). Counted (endingOf x)) (g .1) (c .before .before .before .before .before .pre .1) in
     (c .before .before .before .before .before .pre .0, omega arith, k .plans, k .made)
 
-same-length : tie.Need-same-length
-same-length c = search needs
-
 returns : tie.Need-returns
 returns c = c .before .before .three .ensures ∙ ap (λ (x : Ending). endingBytes (endingOf x)) (sym (c .before .before .before .before .before .e .given .1))
 
-same-length-2 : tie.Need-same-length-2
-same-length-2 c = search needs
-
 returns-2 : tie.Need-returns-2
 returns-2 c = c .before .before .three2 .ensures ∙ ap (λ (x : Ending). endingBytes (endingOf x)) (sym (c .before .before .before .before .before .e2 .given .1))
-
-same-length-3 : tie.Need-same-length-3
-same-length-3 c = search needs
 
 returns-3 : tie.Need-returns-3
 returns-3 c = c .before .before .three3 .ensures ∙ ap (λ (x : Ending). endingBytes (endingOf x)) (sym (c .before .before .before .before .before .e3 .given .1))
@@ -58,15 +36,5 @@ pub ending-spec : {M : Type 1} → statement M
 ending-spec =
     tie.close
     (tie.spec
-    enum-known-e
-    three-requires
-    enum-known-e-2
-    three-requires-2
-    enum-known-e-3
-    three-requires-3
-    same-length
-    returns
-    same-length-2
-    returns-2
-    same-length-3
-    returns-3)
+    (λ c. search needs) three-requires (λ c. search needs) three-requires-2 (λ c. search needs) three-requires-3 (λ c. search needs) returns (λ c. search needs)
+    returns-2 (λ c. search needs) returns-3)

@@ -1,22 +1,12 @@
 -- `question`: the verdict as one number. Assumes nothing.
-use mathlib.Core.Path.{sym, ap, _∙_}
+use Rattle.model.specs.Kit.{sym, ap, _∙_, needs}
 use Rattle.model.specs.Sheet.{verdictOf}
 use Rattle.sheet.specs.Meaning.{means}
 use Rattle.wire.specs.Wire.{codeOf}
 use Rattle.export_run.specs.Run.{questionCode}
 use Rattle.wire.proofs.Codes.{verdict-small, refused-small}
-use borrow.Author.Needs.{needs}
 use Rattle.export_run.proofs.runs.question.Statement.{statement}
 use Rattle.export_run.proofs.runs.question.Tie as tie
-
-question-requires : tie.Need-question-requires
-question-requires c κs = search needs
-
-enum-told : tie.Need-enum-told
-enum-told c = search needs
-
-enum-known-answer : tie.Need-enum-known-answer
-enum-known-answer c = search needs
 
 code-requires : tie.Need-code-requires
 code-requires c κs =
@@ -35,4 +25,5 @@ returns-2 c = c .code .ensures ∙ ap codeOf (sym (ap means (c .before .before .
 pub question-spec : {M : Type 1} → statement M
 question-spec =
     tie.close
-    (tie.spec question-requires enum-told enum-known-answer code-requires returns returns-2)
+    (tie.spec
+    (λ c κs. search needs) (λ c. search needs) (λ c. search needs) code-requires returns returns-2)

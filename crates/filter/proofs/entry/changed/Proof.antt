@@ -1,10 +1,7 @@
 -- `filter::entry::changed` meets its contract. The sets before `y` are compared. Assumes nothing.
-use Prim.Native.Nat.{_-_, _≤_}
-use native.Mathlib.Nat.{not-suc-le-zero}
-use borrow.Author.Needs.{needs}
+use Rattle.model.specs.Kit.{_-_, _≤_, not-suc-le-zero, needs}
 use Rattle.model.specs.Lists.{at}
-use Rattle.filter.proofs.Steps.{Compared, compared-next, compared-all}
-use Rattle.filter.proofs.entry.changed.Statement.{statement}
+use Rattle.filter.proofs.{Steps.Compared, Steps.compared-next, Steps.compared-all, entry.changed.Statement.statement}
 use Rattle.filter.proofs.entry.changed.Tie as tie
 
 abbrev Inv-loop : tie.InvT-loop
@@ -42,20 +39,11 @@ loop-again c =
     (search needs, compared-next (a .old .now) (a .new .now) (l .other) (l .y) (l .inv .1))
 
 returns : tie.Need-returns Inv-loop μ-loop
-returns c = compared-all (c .before .before .args .old .now) (c .before .before .args .new .now) (c .before .loop .other) (c .before .loop .y) (c .loop-test .left) (c .before .loop .inv .0) (c .before .loop .inv .1)
+returns c = compared-all (c .before .before .args .old .now) (c .before .before .args .new .now) (c .before .loop .other) (c .before .loop .y) (c .loop-test .left) (c .before .loop .inv .0)
+    (c .before .loop .inv .1)
 
 pub changed-spec : {M : Type 1} → statement M
 changed-spec =
     tie.close
     (tie.spec
-    Inv-loop
-    μ-loop
-    loop-holds
-    mul-other
-    element-copy-out-other
-    mul-other-2
-    element-copy-out-other-2
-    add-y
-    loop-less
-    loop-again
-    returns)
+    Inv-loop μ-loop loop-holds mul-other element-copy-out-other mul-other-2 element-copy-out-other-2 add-y loop-less loop-again returns)

@@ -1,27 +1,8 @@
 -- `filter::entry::disequality` meets its contract. Assumes nothing.
+use Rattle.model.specs.Kit.{needs}
 use Rattle.model.specs.Lists.{at}
-use Rattle.filter.proofs.Steps.{cut-failed, cut-next}
-use borrow.Author.Needs.{needs}
-use Rattle.filter.proofs.entry.disequality.Statement.{statement}
+use Rattle.filter.proofs.{Steps.cut-failed, Steps.cut-next, entry.disequality.Statement.statement}
 use Rattle.filter.proofs.entry.disequality.Tie as tie
-
-mul-without : tie.Need-mul-without
-mul-without c = search needs
-
-element-copy-out-without : tie.Need-element-copy-out-without
-element-copy-out-without c = search needs
-
-without-requires : tie.Need-without-requires
-without-requires c κs = search needs
-
-mul-sets : tie.Need-mul-sets
-mul-sets c = search needs
-
-element-write-sets : tie.Need-element-write-sets
-element-write-sets c = search needs
-
-is-empty-requires : tie.Need-is-empty-requires
-is-empty-requires c κs = search needs
 
 returns : tie.Need-returns
 unfolding at
@@ -41,11 +22,4 @@ pub disequality-spec : {M : Type 1} → statement M
 disequality-spec =
     tie.close
     (tie.spec
-    mul-without
-    element-copy-out-without
-    without-requires
-    mul-sets
-    element-write-sets
-    is-empty-requires
-    returns
-    returns-2)
+    (λ c. search needs) (λ c. search needs) (λ c κs. search needs) (λ c. search needs) (λ c. search needs) (λ c κs. search needs) returns returns-2)

@@ -1,22 +1,8 @@
 -- `filter::entry::equality` meets its contract. Assumes nothing.
-use native.Mathlib.Omega.{arith}
+use Rattle.model.specs.Kit.{arith, needs}
 use Rattle.model.specs.Lists.{at}
-use Rattle.filter.proofs.Steps.{keep-next, keep-obeyed, keep-split}
-use borrow.Author.Needs.{needs}
-use Rattle.filter.proofs.entry.equality.Statement.{statement}
+use Rattle.filter.proofs.{Steps.keep-next, Steps.keep-obeyed, Steps.keep-split, entry.equality.Statement.statement}
 use Rattle.filter.proofs.entry.equality.Tie as tie
-
-mul-without : tie.Need-mul-without
-mul-without c = search needs
-
-element-copy-out-without : tie.Need-element-copy-out-without
-element-copy-out-without c = search needs
-
-without-requires : tie.Need-without-requires
-without-requires c κs = search needs
-
-is-empty-requires : tie.Need-is-empty-requires
-is-empty-requires c κs = search needs
 
 returns : tie.Need-returns
 unfolding at
@@ -45,10 +31,4 @@ pub equality-spec : {M : Type 1} → statement M
 equality-spec =
     tie.close
     (tie.spec
-    mul-without
-    element-copy-out-without
-    without-requires
-    is-empty-requires
-    returns
-    returns-2
-    returns-3)
+    (λ c. search needs) (λ c. search needs) (λ c κs. search needs) (λ c κs. search needs) returns returns-2 returns-3)

@@ -1,7 +1,6 @@
 -- `ValueSet::common` meets its contract. Assumes nothing.
-use borrow.Author.Needs.{needs}
-use Rattle.model.proofs.Masks.{common-op}
-use Rattle.model.proofs.ValueSet.common.Statement.{statement}
+use Rattle.model.specs.Kit.{needs}
+use Rattle.model.proofs.{Masks.common-op, ValueSet.common.Statement.statement}
 use Rattle.model.proofs.ValueSet.common.Tie as tie
 
 returns : tie.Need-returns

@@ -1,11 +1,7 @@
 -- `ValueSet::full` meets its contract. Assumes nothing.
-use borrow.Author.Needs.{needs}
-use Rattle.model.proofs.Masks.{full-op, full-all, shl-pos}
-use Rattle.model.proofs.ValueSet.full.Statement.{statement}
+use Rattle.model.specs.Kit.{needs}
+use Rattle.model.proofs.{Masks.full-op, Masks.full-all, Masks.shl-pos, ValueSet.full.Statement.statement}
 use Rattle.model.proofs.ValueSet.full.Tie as tie
-
-shl-t4 : tie.Need-shl-t4
-shl-t4 c = search needs
 
 sub-t5 : tie.Need-sub-t5
 sub-t5 c = shl-pos _ (search needs)
@@ -17,4 +13,4 @@ returns-2 : tie.Need-returns-2
 returns-2 c = full-all _ (search needs)
 
 pub full-spec : {M : Type 1} → statement M
-full-spec = tie.close (tie.spec shl-t4 sub-t5 returns returns-2)
+full-spec = tie.close (tie.spec (λ c. search needs) sub-t5 returns returns-2)

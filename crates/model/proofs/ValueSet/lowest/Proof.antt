@@ -1,6 +1,5 @@
 -- `ValueSet::lowest` meets its contract. Assumes nothing.
-use Rattle.model.proofs.Masks.{lowest-op}
-use Rattle.model.proofs.ValueSet.lowest.Statement.{statement}
+use Rattle.model.proofs.{Masks.lowest-op, ValueSet.lowest.Statement.statement}
 use Rattle.model.proofs.ValueSet.lowest.Tie as tie
 
 returns : tie.Need-returns

@@ -1,7 +1,6 @@
 -- `ValueSet::union` meets its contract. Assumes nothing.
-use borrow.Author.Needs.{needs}
-use Rattle.model.proofs.Masks.{union-op}
-use Rattle.model.proofs.ValueSet.union.Statement.{statement}
+use Rattle.model.specs.Kit.{needs}
+use Rattle.model.proofs.{Masks.union-op, ValueSet.union.Statement.statement}
 use Rattle.model.proofs.ValueSet.union.Tie as tie
 
 returns : tie.Need-returns

@@ -1,12 +1,7 @@
 -- `is_alike`: after i turns the first i bytes are the same. Assumes nothing.
-use mathlib.Core.Path.{_≡_, sym, _∙_}
-use Prim.Native.Nat.{ℕ, _+_, _-_, _*_, _≤_, _<_}
-use native.Mathlib.Omega.{arith}
-use borrow.Author.Count.{below-more}
-use borrow.Author.Needs.{needs}
+use Rattle.model.specs.Kit.{_≡_, sym, _∙_, ℕ, _+_, _-_, _*_, _≤_, _<_, arith, below-more, needs}
 use Rattle.model.specs.Lists.{at}
-use Rattle.run_join.proofs.Questions.{alike-yes, alike-no}
-use Rattle.run_join.proofs.heads.is_alike.Statement.{statement}
+use Rattle.run_join.proofs.{Questions.alike-yes, Questions.alike-no, heads.is_alike.Statement.statement}
 use Rattle.run_join.proofs.heads.is_alike.Tie as tie
 
 abbrev Inv-loop : tie.InvT-loop
@@ -72,19 +67,5 @@ pub is-alike-spec : {M : Type 1} → statement M
 is-alike-spec =
     tie.close
     (tie.spec
-    Inv-loop
-    μ-loop
-    loop-holds
-    mul-byte
-    add-byte
-    add-byte-2
-    shared-slice-read-byte
-    byte-requires
-    add-byte-3
-    shared-slice-read-byte-2
-    byte-requires-2
-    returns
-    add-i
-    loop-less
-    loop-again
-    returns-2)
+    Inv-loop μ-loop loop-holds mul-byte add-byte add-byte-2 shared-slice-read-byte byte-requires add-byte-3 shared-slice-read-byte-2 byte-requires-2 returns
+    add-i loop-less loop-again returns-2)

@@ -1,11 +1,7 @@
 -- `none_full`: after k turns none of the first k is. Assumes nothing.
-use Prim.Native.Nat.{ℕ, _-_, _≤_, _<_}
-use native.Mathlib.Omega.{arith}
-use borrow.Author.Count.{below-more}
-use borrow.Author.Needs.{needs}
+use Rattle.model.specs.Kit.{ℕ, _-_, _≤_, _<_, arith, below-more, needs}
 use Rattle.run_join.specs.Join.{kindAt}
-use Rattle.run_join.proofs.Questions.{few-kinds, full-kind}
-use Rattle.run_join.proofs.heads.none_full.Statement.{statement}
+use Rattle.run_join.proofs.{Questions.few-kinds, Questions.full-kind, heads.none_full.Statement.statement}
 use Rattle.run_join.proofs.heads.none_full.Tie as tie
 
 abbrev Inv-loop : tie.InvT-loop
@@ -49,13 +45,4 @@ pub none-full-spec : {M : Type 1} → statement M
 none-full-spec =
     tie.close
     (tie.spec
-    Inv-loop
-    μ-loop
-    loop-holds
-    mul-four-at
-    four-at-requires
-    returns
-    add-k
-    loop-less
-    loop-again
-    returns-2)
+    Inv-loop μ-loop loop-holds mul-four-at four-at-requires returns add-k loop-less loop-again returns-2)

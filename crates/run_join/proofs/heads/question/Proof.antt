@@ -1,10 +1,7 @@
 -- `question`: one question after the other. Assumes nothing.
-use mathlib.Core.Path.{refl, sym, _∙_}
-use borrow.Author.Needs.{needs}
-use borrow.Author.Tests.{not-true, not-false}
+use Rattle.model.specs.Kit.{refl, sym, _∙_, needs, not-true, not-false}
 use Rattle.run_join.specs.Join.{joinVerdict}
-use Rattle.run_join.proofs.Questions.{asked-no, asked-yes, whole-half, whole-many, whole-yes}
-use Rattle.run_join.proofs.heads.question.Statement.{statement}
+use Rattle.run_join.proofs.{Questions.asked-no, Questions.asked-yes, Questions.whole-half, Questions.whole-many, Questions.whole-yes, heads.question.Statement.statement}
 use Rattle.run_join.proofs.heads.question.Tie as tie
 
 returns : tie.Need-returns
@@ -15,18 +12,12 @@ returns-2 : tie.Need-returns-2
 unfolding joinVerdict
 returns-2 c = asked-no _ _ _ (whole-many _ (c .if2 .taken))
 
-all-shaped-requires : tie.Need-all-shaped-requires
-all-shaped-requires c κs = search needs
-
 returns-3 : tie.Need-returns-3
 unfolding joinVerdict
 returns-3 c =
     let f = c .before in
     let e = f .before in
     asked-yes _ _ _ _ (whole-yes _ (e .before .if1 .left) (e .if2 .left)) (asked-no _ _ _ (sym (f .all-shaped .ensures) ∙ not-true (f .all-shaped .result) (c .if3 .taken)))
-
-all-alike-requires : tie.Need-all-alike-requires
-all-alike-requires c κs = search needs
 
 returns-4 : tie.Need-returns-4
 unfolding joinVerdict
@@ -37,9 +28,6 @@ returns-4 c =
     asked-yes _ _ _ _ (whole-yes _ (e .before .if1 .left) (e .if2 .left)) (asked-yes _ _ _ _ (sym (f .all-shaped .ensures) ∙ not-false (f .all-shaped .result) (g .before .if3 .left))
     (asked-no _ _ _ (sym (g .all-alike .ensures) ∙ not-true (g .all-alike .result) (c .if4 .taken))))
 
-none-full-requires : tie.Need-none-full-requires
-none-full-requires c κs = search needs
-
 returns-5 : tie.Need-returns-5
 unfolding joinVerdict
 returns-5 c =
@@ -48,7 +36,8 @@ returns-5 c =
     let f = g .before .before in
     let e = f .before in
     asked-yes _ _ _ _ (whole-yes _ (e .before .if1 .left) (e .if2 .left)) (asked-yes _ _ _ _ (sym (f .all-shaped .ensures) ∙ not-false (f .all-shaped .result) (g .before .if3 .left))
-    (asked-yes _ _ _ _ (sym (g .all-alike .ensures) ∙ not-false (g .all-alike .result) (h .before .if4 .left)) (asked-no _ _ _ (sym (h .none-full .ensures) ∙ not-true (h .none-full .result) (c .if5 .taken)))))
+    (asked-yes _ _ _ _ (sym (g .all-alike .ensures) ∙ not-false (g .all-alike .result) (h .before .if4 .left))
+    (asked-no _ _ _ (sym (h .none-full .ensures) ∙ not-true (h .none-full .result) (c .if5 .taken)))))
 
 returns-6 : tie.Need-returns-6
 unfolding joinVerdict
@@ -58,18 +47,11 @@ returns-6 c =
     let f = g .before .before in
     let e = f .before in
     asked-yes _ _ _ _ (whole-yes _ (e .before .if1 .left) (e .if2 .left)) (asked-yes _ _ _ _ (sym (f .all-shaped .ensures) ∙ not-false (f .all-shaped .result) (g .before .if3 .left))
-    (asked-yes _ _ _ _ (sym (g .all-alike .ensures) ∙ not-false (g .all-alike .result) (h .before .if4 .left)) (asked-yes _ _ _ _ (sym (h .none-full .ensures) ∙ not-false (h .none-full .result) (c .if5 .left)) refl)))
+    (asked-yes _ _ _ _ (sym (g .all-alike .ensures) ∙ not-false (g .all-alike .result) (h .before .if4 .left))
+    (asked-yes _ _ _ _ (sym (h .none-full .ensures) ∙ not-false (h .none-full .result) (c .if5 .left)) refl)))
 
 pub question-spec : {M : Type 1} → statement M
 question-spec =
     tie.close
     (tie.spec
-    returns
-    returns-2
-    all-shaped-requires
-    returns-3
-    all-alike-requires
-    returns-4
-    none-full-requires
-    returns-5
-    returns-6)
+    returns returns-2 (λ c κs. search needs) returns-3 (λ c κs. search needs) returns-4 (λ c κs. search needs) returns-5 returns-6)

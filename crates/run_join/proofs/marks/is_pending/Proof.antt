@@ -1,17 +1,9 @@
 -- `is_pending`: two tests. Assumes nothing.
-use mathlib.Core.Path.{sym, ap, _∙_}
-use mathlib.Core.Bool.{Bool, not}
-use borrow.Author.Needs.{needs}
+use Rattle.model.specs.Kit.{sym, ap, _∙_, Bool, not, needs}
 use Rattle.model.specs.Lists.{both}
-use Rattle.run_join.specs.Inner.{marked}
+use Rattle.run_join.specs.inner.Inner.{marked}
 use Rattle.run_join.proofs.marks.is_pending.Statement.{statement}
 use Rattle.run_join.proofs.marks.is_pending.Tie as tie
-
-is-marked-requires : tie.Need-is-marked-requires
-is-marked-requires c κs = search needs
-
-is-marked-requires-2 : tie.Need-is-marked-requires-2
-is-marked-requires-2 c κs = search needs
 
 returns : tie.Need-returns
 returns c =
@@ -26,4 +18,7 @@ returns-2 c =
     sym (ap (λ (x : Bool). both x (not (marked (a .done .now) (a .k)))) (sym (f .is-marked .ensures) ∙ c .if1 .left))
 
 pub is-pending-spec : {M : Type 1} → statement M
-is-pending-spec = tie.close (tie.spec is-marked-requires is-marked-requires-2 returns returns-2)
+is-pending-spec =
+    tie.close
+    (tie.spec
+    (λ c κs. search needs) (λ c κs. search needs) returns returns-2)

@@ -1,12 +1,7 @@
 -- `mark_all`: after k turns the first k heads are marked. Assumes nothing.
-use mathlib.Core.Path.{_≡_}
-use mathlib.Core.Bool.{true}
-use Prim.Native.Nat.{ℕ, _-_, _≤_, _<_}
-use native.Mathlib.Omega.{arith}
-use Rattle.run_join.specs.Inner.{marked}
-use Rattle.run_join.proofs.Bits.{all-turn}
-use lib.ListN.{length}
-use Rattle.run_join.proofs.marks.mark_all.Statement.{statement}
+use Rattle.model.specs.Kit.{_≡_, true, ℕ, _-_, _≤_, _<_, arith, length}
+use Rattle.run_join.specs.inner.Inner.{marked}
+use Rattle.run_join.proofs.{Bits.all-turn, marks.mark_all.Statement.statement}
 use Rattle.run_join.proofs.marks.mark_all.Tie as tie
 
 abbrev Inv-loop : tie.InvT-loop
@@ -36,4 +31,5 @@ returns c = λ j h. c .before .loop .inv .2 j (omega arith)
 pub mark-all-spec : {M : Type 1} → statement M
 mark-all-spec =
     tie.close
-    (tie.spec Inv-loop μ-loop loop-holds mark-requires add-k loop-less loop-again returns)
+    (tie.spec
+    Inv-loop μ-loop loop-holds mark-requires add-k loop-less loop-again returns)

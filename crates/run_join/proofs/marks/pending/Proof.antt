@@ -1,13 +1,8 @@
 -- `pending`: those passed are not pending. Assumes nothing.
-use mathlib.Core.Path.{_≡_, sym, _∙_}
-use mathlib.Core.Bool.{false, not}
-use Prim.Native.Nat.{ℕ, _-_, _≤_, _<_}
-use native.Mathlib.Omega.{arith}
-use borrow.Author.Count.{below-more}
+use Rattle.model.specs.Kit.{_≡_, sym, _∙_, false, not, ℕ, _-_, _≤_, _<_, arith, below-more}
 use Rattle.model.specs.Lists.{both}
-use Rattle.run_join.specs.Inner.{marked}
-use Rattle.run_join.proofs.Bits.{pending-one, pending-none}
-use Rattle.run_join.proofs.marks.pending.Statement.{statement}
+use Rattle.run_join.specs.inner.Inner.{marked}
+use Rattle.run_join.proofs.{Bits.pending-one, Bits.pending-none, marks.pending.Statement.statement}
 use Rattle.run_join.proofs.marks.pending.Tie as tie
 
 abbrev Inv-loop : tie.InvT-loop
@@ -51,13 +46,4 @@ pub pending-spec : {M : Type 1} → statement M
 pending-spec =
     tie.close
     (tie.spec
-    Inv-loop
-    μ-loop
-    loop-holds
-    is-pending-requires
-    add-result
-    returns
-    add-k
-    loop-less
-    loop-again
-    returns-2)
+    Inv-loop μ-loop loop-holds is-pending-requires add-result returns add-k loop-less loop-again returns-2)

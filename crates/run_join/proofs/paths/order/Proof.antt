@@ -1,12 +1,7 @@
 -- `order`: after i turns the first i values are the same. Assumes nothing.
-use mathlib.Core.Path.{_≡_, sym, _∙_}
-use Prim.Native.Nat.{ℕ, _+_, _-_, _≤_, _<_}
-use native.Mathlib.Omega.{arith}
-use borrow.Author.Count.{below-more}
-use borrow.Author.Needs.{needs}
+use Rattle.model.specs.Kit.{_≡_, sym, _∙_, ℕ, _+_, _-_, _≤_, _<_, arith, below-more, needs}
 use Rattle.model.specs.Lists.{at}
-use Rattle.run_join.proofs.Orders.{order-diff, order-end}
-use Rattle.run_join.proofs.paths.order.Statement.{statement}
+use Rattle.run_join.proofs.{Orders.order-diff, Orders.order-end, paths.order.Statement.statement}
 use Rattle.run_join.proofs.paths.order.Tie as tie
 
 abbrev Inv-loop : tie.InvT-loop
@@ -54,7 +49,8 @@ returns c =
     let l = t .before in
     let s = l .before .before .before in
     let a = s .args in
-    order-diff (a .a .now) (a .b .now) (a .o) (a .p) (s .pre .0 .shaped) (s .pre .1 .shaped) (l .loop .i) (e .byte .result) (f .byte2 .result) (c .compared .result) (t .loop-test .taken) (l .loop .inv .1)
+    order-diff (a .a .now) (a .b .now) (a .o) (a .p) (s .pre .0 .shaped) (s .pre .1 .shaped) (l .loop .i) (e .byte .result) (f .byte2 .result) (c .compared .result) (t .loop-test .taken)
+    (l .loop .inv .1)
     (e .byte .ensures .0) (f .byte2 .ensures .0) (c .before .if1 .taken) (c .compared .ensures)
 
 add-i : tie.Need-add-i Inv-loop μ-loop
@@ -95,32 +91,14 @@ returns-2 c =
     let l = t .before in
     let s = l .before .before .before in
     let a = s .args in
-    order-end (a .a .now) (a .b .now) (a .o) (a .p) (s .pre .0 .shaped) (s .pre .1 .shaped) (l .loop .i) (e .byte3 .result) (f .byte4 .result) (c .compared2 .result) (t .loop-test .left) (l .loop .inv .1)
+    order-end (a .a .now) (a .b .now) (a .o) (a .p) (s .pre .0 .shaped) (s .pre .1 .shaped) (l .loop .i) (e .byte3 .result) (f .byte4 .result) (c .compared2 .result) (t .loop-test .left)
+    (l .loop .inv .1)
     (e .byte3 .ensures .0) (f .byte4 .ensures .0) (c .compared2 .ensures)
 
 pub order-spec : {M : Type 1} → statement M
 order-spec =
     tie.close
     (tie.spec
-    Inv-loop
-    μ-loop
-    loop-holds
-    add-byte
-    add-byte-2
-    shared-slice-read-byte
-    byte-requires
-    add-byte-3
-    add-byte-4
-    shared-slice-read-byte-2
-    byte-requires-2
-    compared-requires
-    returns
-    add-i
-    loop-less
-    loop-again
-    shared-slice-read-byte-3
-    byte-requires-3
-    shared-slice-read-byte-4
-    byte-requires-4
-    compared-requires-2
+    Inv-loop μ-loop loop-holds add-byte add-byte-2 shared-slice-read-byte byte-requires add-byte-3 add-byte-4 shared-slice-read-byte-2 byte-requires-2
+    compared-requires returns add-i loop-less loop-again shared-slice-read-byte-3 byte-requires-3 shared-slice-read-byte-4 byte-requires-4 compared-requires-2
     returns-2)

@@ -1,13 +1,7 @@
 -- `path_shaped`: from the length on, the values up to the i-th are zeros. Assumes nothing.
-use mathlib.Core.Path.{_≡_, sym}
-use Prim.Native.Nat.{ℕ, _+_, _-_, _≤_, _<_}
-use native.Mathlib.Omega.{arith}
-use borrow.Author.Count.{below-more}
-use borrow.Author.Needs.{needs}
-use lib.ListN.{length}
+use Rattle.model.specs.Kit.{_≡_, sym, ℕ, _+_, _-_, _≤_, _<_, arith, below-more, needs, length}
 use Rattle.model.specs.Lists.{at}
-use Rattle.run_join.proofs.Orders.{shaped-yes, shaped-long, shaped-behind}
-use Rattle.run_join.proofs.paths.path_shaped.Statement.{statement}
+use Rattle.run_join.proofs.{Orders.shaped-yes, Orders.shaped-long, Orders.shaped-behind, paths.path_shaped.Statement.statement}
 use Rattle.run_join.proofs.paths.path_shaped.Tie as tie
 
 abbrev Inv-loop : tie.InvT-loop
@@ -66,17 +60,5 @@ pub path-shaped-spec : {M : Type 1} → statement M
 path-shaped-spec =
     tie.close
     (tie.spec
-    Inv-loop
-    μ-loop
-    shared-slice-read-byte
-    byte-requires
-    returns
-    loop-holds
-    add-if2
-    add-if2-2
-    shared-slice-read-if2
-    returns-2
-    add-i
-    loop-less
-    loop-again
+    Inv-loop μ-loop shared-slice-read-byte byte-requires returns loop-holds add-if2 add-if2-2 shared-slice-read-if2 returns-2 add-i loop-less loop-again
     returns-3)

@@ -1,22 +1,11 @@
 -- `at_end`: where one stands at no head, it is not. Assumes nothing.
-use mathlib.Core.Path.{ap, _∙_}
-use Prim.Native.Nat.{ℕ, _-_}
-use native.Mathlib.Omega.{arith}
-use borrow.Author.Needs.{needs}
-use mathlib.Core.List.{List, [], _∷_}
+use Rattle.model.specs.Kit.{ap, _∙_, ℕ, _-_, arith, needs, List, [], _∷_}
 use Rattle.model.specs.Lists.{same}
-use Rattle.run_join.proofs.Turns.{reach-path, stand-none, stand-pred}
-use Rattle.run_join.proofs.steps.at_end.Statement.{statement}
+use Rattle.run_join.proofs.{Turns.reach-path, Turns.stand-none, Turns.stand-pred, steps.at_end.Statement.statement}
 use Rattle.run_join.proofs.steps.at_end.Tie as tie
 
 returns : tie.Need-returns
 returns c = stand-none (c .before .before .args .l .now) (c .before .before .args .stand) (c .if1 .taken)
-
-sub-reach-place : tie.Need-sub-reach-place
-sub-reach-place c = search needs
-
-reach-place-requires : tie.Need-reach-place-requires
-reach-place-requires c κs = search needs
 
 is-end-requires : tie.Need-is-end-requires
 is-end-requires c κs =
@@ -31,4 +20,6 @@ returns-2 c =
 
 pub at-end-spec : {M : Type 1} → statement M
 at-end-spec =
-    tie.close (tie.spec returns sub-reach-place reach-place-requires is-end-requires returns-2)
+    tie.close
+    (tie.spec
+    returns (λ c. search needs) (λ c κs. search needs) is-end-requires returns-2)

@@ -1,13 +1,9 @@
 -- `best_from`: after k turns it is that of the first k heads. Assumes nothing.
-use mathlib.Core.Path.{_≡_, ap, _∙_}
-use Prim.Native.Nat.{_-_, _≤_}
-use native.Mathlib.Omega.{arith}
-use Rattle.run_join.specs.Join.{pathAt, fromAt, reachAt, reachOr, bestOf}
-use Rattle.run_join.specs.Inner.{marked}
-use Rattle.run_join.proofs.Turns.{best-none, best-turn, chosen-few}
+use Rattle.model.specs.Kit.{_≡_, ap, _∙_, _-_, _≤_, arith}
+use Rattle.run_join.specs.{Join.pathAt, Join.fromAt, Join.reachAt, Join.reachOr, Join.bestOf, inner.Inner.marked}
+use Rattle.run_join.proofs.{Turns.best-none, Turns.best-turn, Turns.chosen-few, steps.best_from.Statement.statement}
 use Rattle.model.specs.Lists.{both, same}
 use Rattle.run_cut.specs.Parts.{after}
-use Rattle.run_join.proofs.steps.best_from.Statement.{statement}
 use Rattle.run_join.proofs.steps.best_from.Tie as tie
 
 abbrev Inv-loop : tie.InvT-loop
@@ -54,4 +50,5 @@ returns c =
 pub best-from-spec : {M : Type 1} → statement M
 best-from-spec =
     tie.close
-    (tie.spec Inv-loop μ-loop loop-holds better-requires add-k loop-less loop-again returns)
+    (tie.spec
+    Inv-loop μ-loop loop-holds better-requires add-k loop-less loop-again returns)

@@ -1,28 +1,16 @@
 -- `better`: three tests. Assumes nothing.
-use mathlib.Core.Path.{sym, _∙_}
-use borrow.Author.Needs.{needs}
-use borrow.Author.Tests.{not-true, not-false}
+use Rattle.model.specs.Kit.{sym, _∙_, needs, not-true, not-false}
 use Rattle.run_join.specs.Join.{pathAt, fromAt}
-use Rattle.run_join.proofs.Orders.{both-yes, both-none, both-no}
-use Rattle.run_join.proofs.Turns.{from-path, is-same, not-same, stays-first, stays-second, goes}
+use Rattle.run_join.proofs.{Turns.from-path, Turns.is-same, Turns.not-same, Turns.stays-first, Turns.stays-second, Turns.goes, steps.better.Statement.statement}
 use Rattle.model.specs.Lists.{same}
-use Rattle.run_join.proofs.steps.better.Statement.{statement}
+use Rattle.model.proofs.Lists.{both-no-l, both-no-r, both-yes}
 use Rattle.run_join.proofs.steps.better.Tie as tie
-
-is-marked-requires : tie.Need-is-marked-requires
-is-marked-requires c κs = search needs
 
 returns : tie.Need-returns
 returns c =
     let f = c .before in
     let a = f .before .before .before .args in
     stays-first _ _ (a .k) (a .best) (sym (f .is-marked .ensures) ∙ not-true (f .is-marked .result) (c .if1 .taken))
-
-mul-order : tie.Need-mul-order
-mul-order c = search needs
-
-add-order : tie.Need-add-order
-add-order c = search needs
 
 order-requires : tie.Need-order-requires
 order-requires c κs =
@@ -35,13 +23,7 @@ returns-2 c =
     let m = f .before .before in
     let a = m .before .before .before .args in
     stays-second _ _ (a .k) (a .best) (sym (m .is-marked .ensures) ∙ not-false (m .is-marked .result) (f .before .if1 .left))
-    (both-none _ _ (not-same (fromAt (a .l .now) (a .k)) (pathAt (a .here .now) (a .o)) (f .order .result) (f .order .ensures) (c .if2 .taken)))
-
-further-requires : tie.Need-further-requires
-further-requires c κs = search needs
-
-add-result : tie.Need-add-result
-add-result c = search needs
+    (both-no-l _ _ (not-same (fromAt (a .l .now) (a .k)) (pathAt (a .here .now) (a .o)) (f .order .result) (f .order .ensures) (c .if2 .taken)))
 
 returns-3 : tie.Need-returns-3
 returns-3 c =
@@ -59,19 +41,11 @@ returns-4 c =
     let m = f .before .before in
     let a = m .before .before .before .args in
     stays-second _ _ (a .k) (a .best) (sym (m .is-marked .ensures) ∙ not-false (m .is-marked .result) (f .before .if1 .left))
-    (both-no (same (fromAt (a .l .now) (a .k)) (pathAt (a .here .now) (a .o))) _ (sym (g .further .ensures) ∙ c .if3 .left))
+    (both-no-r (same (fromAt (a .l .now) (a .k)) (pathAt (a .here .now) (a .o))) _ (sym (g .further .ensures) ∙ c .if3 .left))
 
 pub better-spec : {M : Type 1} → statement M
 better-spec =
     tie.close
     (tie.spec
-    is-marked-requires
-    returns
-    mul-order
-    add-order
-    order-requires
-    returns-2
-    further-requires
-    add-result
-    returns-3
+    (λ c κs. search needs) returns (λ c. search needs) (λ c. search needs) order-requires returns-2 (λ c κs. search needs) (λ c. search needs) returns-3
     returns-4)

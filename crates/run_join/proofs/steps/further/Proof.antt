@@ -1,14 +1,8 @@
 -- `further`: compared with the best so far. Assumes nothing.
-use Prim.Native.Nat.{_-_}
-use native.Mathlib.Omega.{arith}
-use borrow.Author.Needs.{needs}
+use Rattle.model.specs.Kit.{_-_, arith, needs}
 use Rattle.run_join.specs.Join.{pathAt}
-use Rattle.run_join.proofs.Turns.{reach-path, further-first, further-next}
-use Rattle.run_join.proofs.steps.further.Statement.{statement}
+use Rattle.run_join.proofs.{Turns.reach-path, Turns.further-first, Turns.further-next, steps.further.Statement.statement}
 use Rattle.run_join.proofs.steps.further.Tie as tie
-
-reach-place-requires : tie.Need-reach-place-requires
-reach-place-requires c κs = search needs
 
 order-requires : tie.Need-order-requires
 order-requires c κs =
@@ -20,13 +14,8 @@ returns : tie.Need-returns
 returns c =
     let f = c .before .before in
     let s = f .before .before .before in
-    further-first (s .args .l .now) (pathAt (s .args .here .now) (s .args .o)) (s .args .best) (s .args .k) (f .reach-place .result) (c .order .result) (c .before .if1 .taken) (f .reach-place .ensures) (c .order .ensures)
-
-sub-reach-place : tie.Need-sub-reach-place
-sub-reach-place c = search needs
-
-reach-place-requires-2 : tie.Need-reach-place-requires-2
-reach-place-requires-2 c κs = search needs
+    further-first (s .args .l .now) (pathAt (s .args .here .now) (s .args .o)) (s .args .best) (s .args .k) (f .reach-place .result) (c .order .result) (c .before .if1 .taken)
+    (f .reach-place .ensures) (c .order .ensures)
 
 order-requires-2 : tie.Need-order-requires-2
 order-requires-2 c κs =
@@ -41,16 +30,11 @@ returns-2 c =
     let g = c .before in
     let f = g .before .before in
     let s = f .before .before .before in
-    further-next (s .args .l .now) (pathAt (s .args .here .now) (s .args .o)) (s .args .best) (s .args .k) (f .reach-place .result) (g .reach-place2 .result) (c .order2 .result) (g .before .if1 .left) (f .reach-place .ensures) (g .reach-place2 .ensures) (c .order2 .ensures)
+    further-next (s .args .l .now) (pathAt (s .args .here .now) (s .args .o)) (s .args .best) (s .args .k) (f .reach-place .result) (g .reach-place2 .result) (c .order2 .result)
+    (g .before .if1 .left) (f .reach-place .ensures) (g .reach-place2 .ensures) (c .order2 .ensures)
 
 pub further-spec : {M : Type 1} → statement M
 further-spec =
     tie.close
     (tie.spec
-    reach-place-requires
-    order-requires
-    returns
-    sub-reach-place
-    reach-place-requires-2
-    order-requires-2
-    returns-2)
+    (λ c κs. search needs) order-requires returns (λ c. search needs) (λ c κs. search needs) order-requires-2 returns-2)

@@ -1,19 +1,9 @@
 -- `nearer_one`: two tests. Assumes nothing.
-use mathlib.Core.Path.{sym, _∙_}
-use Prim.Native.Nat.{_-_}
-use native.Mathlib.Omega.{arith}
-use borrow.Author.Needs.{needs}
-use borrow.Author.Tests.{eq-eqb, ne-eqb}
+use Rattle.model.specs.Kit.{sym, _∙_, _-_, arith, needs, eq-eqb, ne-eqb}
 use Rattle.run_join.specs.Join.{pathAt, fromAt}
 use Rattle.run_join.proofs.Turns.{from-path, after-is, near-first, near-next, stays-first, stays-second, goes}
 use Rattle.run_join.proofs.steps.nearer_one.Statement.{statement}
 use Rattle.run_join.proofs.steps.nearer_one.Tie as tie
-
-mul-order : tie.Need-mul-order
-mul-order c = search needs
-
-add-order : tie.Need-add-order
-add-order c = search needs
 
 order-requires : tie.Need-order-requires
 order-requires c κs =
@@ -26,30 +16,12 @@ returns c =
     let a = f .before .before .before .args in
     stays-first _ _ (a .k) (a .near) (sym (after-is (pathAt (a .here .now) (a .o)) (fromAt (a .l .now) (a .k)) (f .order .result) (f .order .ensures)) ∙ ne-eqb (f .order .result) 1 (c .if1 .taken))
 
-add-result : tie.Need-add-result
-add-result c = search needs
-
 returns-2 : tie.Need-returns-2
 returns-2 c =
     let f = c .before .before in
     let a = f .before .before .before .args in
     goes _ _ (a .k) (a .near) (sym (after-is (pathAt (a .here .now) (a .o)) (fromAt (a .l .now) (a .k)) (f .order .result) (f .order .ensures)) ∙ eq-eqb (f .order .result) 1 (c .before .if1 .left))
     (near-first (a .l .now) (pathAt (a .here .now) (a .o)) (a .near) (a .k) (c .if2 .taken))
-
-mul-order-2 : tie.Need-mul-order-2
-mul-order-2 c = search needs
-
-add-order-2 : tie.Need-add-order-2
-add-order-2 c = search needs
-
-sub-order : tie.Need-sub-order
-sub-order c = search needs
-
-mul-order-3 : tie.Need-mul-order-3
-mul-order-3 c = search needs
-
-add-order-3 : tie.Need-add-order-3
-add-order-3 c = search needs
 
 order-requires-2 : tie.Need-order-requires-2
 order-requires-2 c κs =
@@ -58,15 +30,13 @@ order-requires-2 c κs =
       from-path (s .args .l .now) (s .args .n) (s .args .near - 1) (s .pre .heads) (omega (arith, s .pre .inside, s .pre .earlier)),
     )
 
-add-result-2 : tie.Need-add-result-2
-add-result-2 c = search needs
-
 returns-3 : tie.Need-returns-3
 returns-3 c =
     let g = c .before in
     let f = g .before .before .before in
     let a = f .before .before .before .args in
-    goes _ _ (a .k) (a .near) (sym (after-is (pathAt (a .here .now) (a .o)) (fromAt (a .l .now) (a .k)) (f .order .result) (f .order .ensures)) ∙ eq-eqb (f .order .result) 1 (g .before .before .if1 .left))
+    goes _ _ (a .k) (a .near) (sym (after-is (pathAt (a .here .now) (a .o)) (fromAt (a .l .now) (a .k)) (f .order .result) (f .order .ensures)) ∙ eq-eqb (f .order .result) 1
+    (g .before .before .if1 .left))
     (sym (near-next (a .l .now) (pathAt (a .here .now) (a .o)) (a .near) (a .k) (g .order2 .result) (g .before .if2 .left) (g .order2 .ensures)) ∙ eq-eqb (g .order2 .result) 1 (c .if3 .taken))
 
 returns-4 : tie.Need-returns-4
@@ -74,25 +44,13 @@ returns-4 c =
     let g = c .before in
     let f = g .before .before .before in
     let a = f .before .before .before .args in
-    stays-second _ _ (a .k) (a .near) (sym (after-is (pathAt (a .here .now) (a .o)) (fromAt (a .l .now) (a .k)) (f .order .result) (f .order .ensures)) ∙ eq-eqb (f .order .result) 1 (g .before .before .if1 .left))
+    stays-second _ _ (a .k) (a .near) (sym (after-is (pathAt (a .here .now) (a .o)) (fromAt (a .l .now) (a .k)) (f .order .result) (f .order .ensures)) ∙ eq-eqb (f .order .result) 1
+    (g .before .before .if1 .left))
     (sym (near-next (a .l .now) (pathAt (a .here .now) (a .o)) (a .near) (a .k) (g .order2 .result) (g .before .if2 .left) (g .order2 .ensures)) ∙ ne-eqb (g .order2 .result) 1 (c .if3 .left))
 
 pub nearer-one-spec : {M : Type 1} → statement M
 nearer-one-spec =
     tie.close
     (tie.spec
-    mul-order
-    add-order
-    order-requires
-    returns
-    add-result
-    returns-2
-    mul-order-2
-    add-order-2
-    sub-order
-    mul-order-3
-    add-order-3
-    order-requires-2
-    add-result-2
-    returns-3
-    returns-4)
+    (λ c. search needs) (λ c. search needs) order-requires returns (λ c. search needs) returns-2 (λ c. search needs) (λ c. search needs) (λ c. search needs)
+    (λ c. search needs) (λ c. search needs) order-requires-2 (λ c. search needs) returns-3 returns-4)

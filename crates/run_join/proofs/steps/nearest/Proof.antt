@@ -1,16 +1,8 @@
 -- `nearest`: from where one stands. Assumes nothing.
-use mathlib.Core.Path.{sym, ap, _∙_}
-use Prim.Native.Nat.{ℕ, _-_}
-use native.Mathlib.Omega.{arith}
-use borrow.Author.Needs.{needs}
-use mathlib.Core.List.{List}
+use Rattle.model.specs.Kit.{sym, ap, _∙_, ℕ, _-_, arith, needs, List}
 use Rattle.run_join.specs.Join.{standPath, nearestOf}
-use Rattle.run_join.proofs.Turns.{start-path, start-is, reach-path, stand-pred}
-use Rattle.run_join.proofs.steps.nearest.Statement.{statement}
+use Rattle.run_join.proofs.{Turns.start-path, Turns.start-is, Turns.reach-path, Turns.stand-pred, steps.nearest.Statement.statement}
 use Rattle.run_join.proofs.steps.nearest.Tie as tie
-
-slice-aggregate-nearest-from : tie.Need-slice-aggregate-nearest-from
-slice-aggregate-nearest-from c = search needs
 
 nearest-from-requires : tie.Need-nearest-from-requires
 nearest-from-requires c κs = (start-path, c .before .before .before .pre .0)
@@ -18,14 +10,10 @@ nearest-from-requires c κs = (start-path, c .before .before .before .pre .0)
 returns : tie.Need-returns
 returns c =
     let t = c .before .before in
-    let a = t .before .before .args in
-    (c .nearest-from .ensures .0 ∙ ap (λ (s : List ℕ). nearestOf (a .l .now) s (a .n)) start-is ∙ ap (λ (i : ℕ). nearestOf (a .l .now) (standPath (a .l .now) i) (a .n)) (sym (t .if1 .taken)), c .nearest-from .ensures .1)
-
-sub-reach-place : tie.Need-sub-reach-place
-sub-reach-place c = search needs
-
-reach-place-requires : tie.Need-reach-place-requires
-reach-place-requires c κs = search needs
+    let a = t .before .before .args in (
+      c .nearest-from .ensures .0 ∙ ap (λ (s : List ℕ). nearestOf (a .l .now) s (a .n)) start-is ∙ ap (λ (i : ℕ). nearestOf (a .l .now) (standPath (a .l .now) i) (a .n)) (sym (t .if1 .taken)),
+      c .nearest-from .ensures .1,
+    )
 
 nearest-from-requires-2 : tie.Need-nearest-from-requires-2
 nearest-from-requires-2 c κs =
@@ -35,17 +23,14 @@ nearest-from-requires-2 c κs =
 returns-2 : tie.Need-returns-2
 returns-2 c =
     let f = c .before in
-    let a = f .before .before .before .args in
-    (c .nearest-from2 .ensures .0 ∙ ap (λ (s : List ℕ). nearestOf (a .l .now) s (a .n)) (stand-pred (a .l .now) (a .stand) (f .reach-place .result) (f .before .if1 .left) (f .reach-place .ensures)), c .nearest-from2 .ensures .1)
+    let a = f .before .before .before .args in (
+      c .nearest-from2 .ensures .0 ∙ ap (λ (s : List ℕ). nearestOf (a .l .now) s (a .n)) (stand-pred (a .l .now) (a .stand) (f .reach-place .result) (f .before .if1 .left)
+          (f .reach-place .ensures)),
+      c .nearest-from2 .ensures .1,
+    )
 
 pub nearest-spec : {M : Type 1} → statement M
 nearest-spec =
     tie.close
     (tie.spec
-    slice-aggregate-nearest-from
-    nearest-from-requires
-    returns
-    sub-reach-place
-    reach-place-requires
-    nearest-from-requires-2
-    returns-2)
+    (λ c. search needs) nearest-from-requires returns (λ c. search needs) (λ c κs. search needs) nearest-from-requires-2 returns-2)

@@ -1,11 +1,8 @@
 -- `nearest_from`: after k turns it is that of the first k heads. Assumes nothing.
-use mathlib.Core.Path.{_≡_, ap, _∙_}
-use Prim.Native.Nat.{_-_, _≤_}
-use native.Mathlib.Omega.{arith}
+use Rattle.model.specs.Kit.{_≡_, ap, _∙_, _-_, _≤_, arith}
 use Rattle.run_cut.specs.Parts.{after}
 use Rattle.run_join.specs.Join.{pathAt, fromAt, nearer, nearestOf}
-use Rattle.run_join.proofs.Turns.{near-none, near-turn, chosen-few}
-use Rattle.run_join.proofs.steps.nearest_from.Statement.{statement}
+use Rattle.run_join.proofs.{Turns.near-none, Turns.near-turn, Turns.chosen-few, steps.nearest_from.Statement.statement}
 use Rattle.run_join.proofs.steps.nearest_from.Tie as tie
 
 abbrev Inv-loop : tie.InvT-loop
@@ -32,8 +29,13 @@ loop-less c = omega arith
 loop-again : tie.Need-loop-again Inv-loop μ-loop
 loop-again c =
     let l = c .before .before in
-    let a = l .before .before .before .args in
-    (omega arith, near-turn (a .l .now) (pathAt (a .here .now) (a .o)) (l .loop .k) (l .loop .near) (c .nearer-one .result) (l .loop .inv .1) (c .nearer-one .ensures), chosen-few (after (pathAt (a .here .now) (a .o)) (fromAt (a .l .now) (l .loop .k))) (nearer (a .l .now) (l .loop .near) (fromAt (a .l .now) (l .loop .k))) (l .loop .k) (l .loop .near) (c .nearer-one .result) (l .loop .inv .2) (c .nearer-one .ensures))
+    let a = l .before .before .before .args in (
+      omega arith,
+      near-turn (a .l .now) (pathAt (a .here .now) (a .o)) (l .loop .k) (l .loop .near) (c .nearer-one .result) (l .loop .inv .1) (c .nearer-one .ensures),
+      chosen-few
+          (after (pathAt (a .here .now) (a .o)) (fromAt (a .l .now) (l .loop .k))) (nearer (a .l .now) (l .loop .near) (fromAt (a .l .now) (l .loop .k))) (l .loop .k) (l .loop .near)
+          (c .nearer-one .result) (l .loop .inv .2) (c .nearer-one .ensures),
+    )
 
 returns : tie.Need-returns Inv-loop μ-loop
 returns c =
@@ -45,4 +47,5 @@ returns c =
 pub nearest-from-spec : {M : Type 1} → statement M
 nearest-from-spec =
     tie.close
-    (tie.spec Inv-loop μ-loop loop-holds nearer-one-requires add-k loop-less loop-again returns)
+    (tie.spec
+    Inv-loop μ-loop loop-holds nearer-one-requires add-k loop-less loop-again returns)

@@ -1,11 +1,7 @@
 -- `add_counts`: after i turns the first i counts are raised. Assumes nothing.
-use mathlib.Core.Path.{refl}
-use Prim.Native.Nat.{_-_, _≤_}
-use native.Mathlib.Omega.{arith}
-use borrow.Author.Needs.{needs}
+use Rattle.model.specs.Kit.{refl, _-_, _≤_, arith, needs}
 use Rattle.model.specs.Lists.{at}
-use Rattle.run_join.proofs.Sums.{Half, counts-turn}
-use Rattle.run_join.proofs.walks.add_counts.Statement.{statement}
+use Rattle.run_join.proofs.{Sums.Half, Sums.counts-turn, walks.add_counts.Statement.statement}
 use Rattle.run_join.proofs.walks.add_counts.Tie as tie
 
 abbrev Inv-loop : tie.InvT-loop
@@ -61,8 +57,11 @@ loop-again : tie.Need-loop-again Inv-loop μ-loop
 unfolding at
 loop-again c =
     let l = c .before .before in
-    let s = l .before .before in
-    (omega arith, counts-turn (s .args .counts) (s .args .l .now) (l .loop .sums) (s .args .k) (l .loop .i) _ (c .four-at .result) (c .before .loop-test .taken) (l .loop .inv .1) (c .four-at .ensures .0) (c .four-at .ensures .1) refl)
+    let s = l .before .before in (
+      omega arith,
+      counts-turn (s .args .counts) (s .args .l .now) (l .loop .sums) (s .args .k) (l .loop .i) _ (c .four-at .result) (c .before .loop-test .taken) (l .loop .inv .1)
+          (c .four-at .ensures .0) (c .four-at .ensures .1) refl,
+    )
 
 returns : tie.Need-returns Inv-loop μ-loop
 returns c =
@@ -73,20 +72,5 @@ pub add-counts-spec : {M : Type 1} → statement M
 add-counts-spec =
     tie.close
     (tie.spec
-    Inv-loop
-    μ-loop
-    loop-holds
-    mul-sums
-    array-read-sums
-    mul-four-at
-    add-four-at
-    mul-four-at-2
-    add-four-at-2
-    four-at-requires
-    add-sums
-    mul-sums-2
-    array-write-sums
-    add-i
-    loop-less
-    loop-again
-    returns)
+    Inv-loop μ-loop loop-holds mul-sums array-read-sums mul-four-at add-four-at mul-four-at-2 add-four-at-2 four-at-requires add-sums mul-sums-2
+    array-write-sums add-i loop-less loop-again returns)

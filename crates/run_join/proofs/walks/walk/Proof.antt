@@ -1,10 +1,6 @@
 -- `walk`: what is summed up and what is left are the whole. Assumes nothing.
-use mathlib.Core.Path.{sym, _∙_}
-use Prim.Native.Nat.{_-_, _≤_}
-use native.Mathlib.Omega.{arith}
-use borrow.Author.Needs.{needs}
-use Rattle.run_join.proofs.Sums.{Underway, underway, underway-turn, summed, taken-stop, none-left}
-use Rattle.run_join.proofs.walks.walk.Statement.{statement}
+use Rattle.model.specs.Kit.{sym, _∙_, _-_, _≤_, arith, needs}
+use Rattle.run_join.proofs.{Sums.Underway, Sums.underway, Sums.underway-turn, Sums.summed, Sums.taken-stop, Sums.none-left, walks.walk.Statement.statement}
 use Rattle.run_join.proofs.walks.walk.Tie as tie
 
 abbrev Inv-loop : tie.InvT-loop
@@ -25,7 +21,8 @@ returns c =
     let l = f .before .before in
     let s = l .before .before in
     let w = l .loop .w in
-    summed (s .args .l .now) (s .args .n) (l .loop .j) (w .stand) (w .plans) (w .nodes) (w .counts) (l .loop .inv .1) (s .pre .1) (taken-stop (s .args .l .now) (s .args .n - l .loop .j) (w .stand) (sym (f .step .ensures .0) ∙ c .if1 .taken))
+    summed (s .args .l .now) (s .args .n) (l .loop .j) (w .stand) (w .plans) (w .nodes) (w .counts) (l .loop .inv .1) (s .pre .1)
+    (taken-stop (s .args .l .now) (s .args .n - l .loop .j) (w .stand) (sym (f .step .ensures .0) ∙ c .if1 .taken))
 
 sub-with-head : tie.Need-sub-with-head Inv-loop μ-loop
 sub-with-head c = search needs
@@ -52,28 +49,22 @@ loop-again c =
     let l = f .before .before in
     let s = l .before .before in
     let w = l .loop .w in
-    let v = c .with-head .result in
-    (omega arith, underway-turn (s .args .l .now) (s .args .n) (l .loop .j) (w .stand) (w .plans) (w .nodes) (w .counts) (l .loop .inv .1) (f .step .result) (v .stand) (v .plans) (v .nodes) (v .counts) (f .before .loop-test .taken) (f .step .ensures .0) (c .before .if1 .left) (f .step .ensures .1) (c .with-head .ensures))
+    let v = c .with-head .result in (
+      omega arith,
+      underway-turn (s .args .l .now) (s .args .n) (l .loop .j) (w .stand) (w .plans) (w .nodes) (w .counts) (l .loop .inv .1) (f .step .result) (v .stand) (v .plans) (v .nodes)
+          (v .counts) (f .before .loop-test .taken) (f .step .ensures .0) (c .before .if1 .left) (f .step .ensures .1) (c .with-head .ensures),
+    )
 
 returns-2 : tie.Need-returns-2 Inv-loop μ-loop
 returns-2 c =
     let l = c .before in
     let s = l .before .before in
     let w = l .loop .w in
-    summed (s .args .l .now) (s .args .n) (l .loop .j) (w .stand) (w .plans) (w .nodes) (w .counts) (l .loop .inv .1) (s .pre .1) (none-left (s .args .l .now) (s .args .n) (l .loop .j) (w .stand) (c .loop-test .left))
+    summed (s .args .l .now) (s .args .n) (l .loop .j) (w .stand) (w .plans) (w .nodes) (w .counts) (l .loop .inv .1) (s .pre .1)
+    (none-left (s .args .l .now) (s .args .n) (l .loop .j) (w .stand) (c .loop-test .left))
 
 pub walk-spec : {M : Type 1} → statement M
 walk-spec =
     tie.close
     (tie.spec
-    Inv-loop
-    μ-loop
-    loop-holds
-    step-requires
-    returns
-    sub-with-head
-    with-head-requires
-    add-j
-    loop-less
-    loop-again
-    returns-2)
+    Inv-loop μ-loop loop-holds step-requires returns sub-with-head with-head-requires add-j loop-less loop-again returns-2)

@@ -1,15 +1,8 @@
 -- `any_first`: those passed are not. Assumes nothing.
-use mathlib.Core.Path.{_≡_, sym, _∙_}
-use mathlib.Core.Bool.{false}
-use Prim.Native.Nat.{ℕ, _-_, _≤_, _<_}
-use native.Mathlib.Omega.{arith}
-use borrow.Author.Count.{below-more}
-use mathlib.Core.List.{[]}
+use Rattle.model.specs.Kit.{_≡_, sym, _∙_, false, ℕ, _-_, _≤_, _<_, arith, below-more, []}
 use Rattle.model.specs.Lists.{both, same}
-use Rattle.run_join.specs.Join.{fromAt}
-use Rattle.run_join.specs.Inner.{marked}
-use Rattle.run_join.proofs.Leads.{first-one, first-none}
-use Rattle.run_join.proofs.ways.any_first.Statement.{statement}
+use Rattle.run_join.specs.{Join.fromAt, inner.Inner.marked}
+use Rattle.run_join.proofs.{Leads.first-one, Leads.first-none, ways.any_first.Statement.statement}
 use Rattle.run_join.proofs.ways.any_first.Tie as tie
 
 abbrev Inv-loop : tie.InvT-loop
@@ -50,12 +43,4 @@ pub any-first-spec : {M : Type 1} → statement M
 any-first-spec =
     tie.close
     (tie.spec
-    Inv-loop
-    μ-loop
-    loop-holds
-    is-first-requires
-    returns
-    add-k
-    loop-less
-    loop-again
-    returns-2)
+    Inv-loop μ-loop loop-holds is-first-requires returns add-k loop-less loop-again returns-2)

@@ -1,13 +1,9 @@
 -- `comes_to`: two tests. Assumes nothing.
-use borrow.Author.Needs.{needs}
+use Rattle.model.specs.Kit.{needs}
 use Rattle.run_join.specs.Join.{pathAt, fromAt}
-use Rattle.run_join.proofs.Turns.{from-path, reach-path, is-same, not-same, after-is}
-use Rattle.run_join.proofs.Leads.{comes-no, comes-yes}
+use Rattle.run_join.proofs.{Turns.from-path, Turns.reach-path, Turns.is-same, Turns.not-same, Turns.after-is, Leads.comes-no, Leads.comes-yes}
 use Rattle.run_join.proofs.ways.comes_to.Statement.{statement}
 use Rattle.run_join.proofs.ways.comes_to.Tie as tie
-
-reach-place-requires : tie.Need-reach-place-requires
-reach-place-requires c κs = search needs
 
 order-requires : tie.Need-order-requires
 order-requires c κs =
@@ -19,13 +15,8 @@ returns c =
     let f = c .before in
     let r = f .before in
     let a = r .before .before .before .args in
-    comes-no (a .l .now) (pathAt (a .here .now) (a .o)) (a .k) (r .reach-place .result) (r .reach-place .ensures) (not-same (pathAt (a .l .now) (r .reach-place .result)) (pathAt (a .here .now) (a .o)) (f .order .result) (f .order .ensures) (c .if1 .taken))
-
-mul-order : tie.Need-mul-order
-mul-order c = search needs
-
-add-order : tie.Need-add-order
-add-order c = search needs
+    comes-no (a .l .now) (pathAt (a .here .now) (a .o)) (a .k) (r .reach-place .result) (r .reach-place .ensures)
+    (not-same (pathAt (a .l .now) (r .reach-place .result)) (pathAt (a .here .now) (a .o)) (f .order .result) (f .order .ensures) (c .if1 .taken))
 
 order-requires-2 : tie.Need-order-requires-2
 order-requires-2 c κs =
@@ -41,16 +32,12 @@ returns-2 c =
     let r = f .before in
     let a = r .before .before .before .args in
     let q = r .reach-place .result in
-    comes-yes (a .l .now) (pathAt (a .here .now) (a .o)) (a .k) q (r .reach-place .ensures) (is-same (pathAt (a .l .now) q) (pathAt (a .here .now) (a .o)) (f .order .result) (f .order .ensures) (c .before .if1 .left)) _ (after-is (fromAt (a .l .now) (a .k)) (pathAt (a .l .now) q) (c .order2 .result) (c .order2 .ensures))
+    comes-yes (a .l .now) (pathAt (a .here .now) (a .o)) (a .k) q (r .reach-place .ensures)
+    (is-same (pathAt (a .l .now) q) (pathAt (a .here .now) (a .o)) (f .order .result) (f .order .ensures) (c .before .if1 .left)) _
+    (after-is (fromAt (a .l .now) (a .k)) (pathAt (a .l .now) q) (c .order2 .result) (c .order2 .ensures))
 
 pub comes-to-spec : {M : Type 1} → statement M
 comes-to-spec =
     tie.close
     (tie.spec
-    reach-place-requires
-    order-requires
-    returns
-    mul-order
-    add-order
-    order-requires-2
-    returns-2)
+    (λ c κs. search needs) order-requires returns (λ c. search needs) (λ c. search needs) order-requires-2 returns-2)

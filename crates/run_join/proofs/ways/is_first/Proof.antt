@@ -1,29 +1,9 @@
 -- `is_first`: two tests. Assumes nothing.
-use mathlib.Core.Path.{sym, ap, _∙_}
-use mathlib.Core.Bool.{Bool}
-use borrow.Author.Needs.{needs}
-use mathlib.Core.List.{[]}
+use Rattle.model.specs.Kit.{sym, ap, _∙_, Bool, needs, []}
 use Rattle.model.specs.Lists.{at, both, same}
-use Rattle.run_join.specs.Join.{fromAt}
-use Rattle.run_join.specs.Inner.{marked}
-use Rattle.run_join.proofs.Leads.{first-is}
-use Rattle.run_join.proofs.ways.is_first.Statement.{statement}
+use Rattle.run_join.specs.{Join.fromAt, inner.Inner.marked}
+use Rattle.run_join.proofs.{Leads.first-is, ways.is_first.Statement.statement}
 use Rattle.run_join.proofs.ways.is_first.Tie as tie
-
-is-marked-requires : tie.Need-is-marked-requires
-is-marked-requires c κs = search needs
-
-mul-byte : tie.Need-mul-byte
-mul-byte c = search needs
-
-add-byte : tie.Need-add-byte
-add-byte c = search needs
-
-shared-slice-read-byte : tie.Need-shared-slice-read-byte
-shared-slice-read-byte c = search needs
-
-byte-requires : tie.Need-byte-requires
-byte-requires c κs = search needs
 
 returns : tie.Need-returns
 unfolding at
@@ -42,10 +22,4 @@ pub is-first-spec : {M : Type 1} → statement M
 is-first-spec =
     tie.close
     (tie.spec
-    is-marked-requires
-    mul-byte
-    add-byte
-    shared-slice-read-byte
-    byte-requires
-    returns
-    returns-2)
+    (λ c κs. search needs) (λ c. search needs) (λ c. search needs) (λ c. search needs) (λ c κs. search needs) returns returns-2)

@@ -1,13 +1,7 @@
 -- `mark_back`: after k turns it is done for the first k heads. Assumes nothing.
-use mathlib.Core.Path.{sym, _∙_, subst}
-use Prim.Native.Nat.{_+_, _-_, _≤_}
-use native.Mathlib.Omega.{arith}
+use Rattle.model.specs.Kit.{sym, _∙_, subst, _+_, _-_, _≤_, arith, ⊎-elim}
 use Rattle.run_join.specs.Join.{pathAt}
-use Rattle.run_join.proofs.Leads.{Back, back-none}
-use Rattle.run_join.proofs.Leads.{back-all}
-use mathlib.Core.Logic.{⊎-elim}
-use Rattle.run_join.proofs.Leads.{back-yes, back-no}
-use Rattle.run_join.proofs.ways.mark_back.Statement.{statement}
+use Rattle.run_join.proofs.{Leads.Back, Leads.back-none, Leads.back-all, Leads.back-yes, Leads.back-no, ways.mark_back.Statement.statement}
 use Rattle.run_join.proofs.ways.mark_back.Tie as tie
 
 abbrev Inv-loop : tie.InvT-loop
@@ -39,8 +33,10 @@ loop-again c =
     let here = pathAt (a .here .now) (a .o) in (
       omega arith,
       ⊎-elim
-          (λ w. subst (Back here (a .l .now) (l .loop .k + 1) (a .marks .now)) (sym (w .3)) (back-yes here (a .l .now) (l .loop .k) (a .marks .now) (l .loop .marks) (l .loop .inv .1) _ (sym (f .comes-to .ensures) ∙ w .0 .taken) (w .2 .ensures)))
-          (λ w. subst (Back here (a .l .now) (l .loop .k + 1) (a .marks .now)) (sym (w .1)) (back-no here (a .l .now) (l .loop .k) (a .marks .now) (l .loop .marks) (l .loop .inv .1) (sym (f .comes-to .ensures) ∙ w .0 .left)))
+          (λ w. subst (Back here (a .l .now) (l .loop .k + 1) (a .marks .now)) (sym (w .3))
+          (back-yes here (a .l .now) (l .loop .k) (a .marks .now) (l .loop .marks) (l .loop .inv .1) _ (sym (f .comes-to .ensures) ∙ w .0 .taken) (w .2 .ensures)))
+          (λ w. subst (Back here (a .l .now) (l .loop .k + 1) (a .marks .now)) (sym (w .1))
+          (back-no here (a .l .now) (l .loop .k) (a .marks .now) (l .loop .marks) (l .loop .inv .1) (sym (f .comes-to .ensures) ∙ w .0 .left)))
           (c .if1 .came),
     )
 
@@ -51,12 +47,4 @@ pub mark-back-spec : {M : Type 1} → statement M
 mark-back-spec =
     tie.close
     (tie.spec
-    Inv-loop
-    μ-loop
-    loop-holds
-    comes-to-requires
-    mark-requires
-    add-k
-    loop-less
-    loop-again
-    returns)
+    Inv-loop μ-loop loop-holds comes-to-requires mark-requires add-k loop-less loop-again returns)

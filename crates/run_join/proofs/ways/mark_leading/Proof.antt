@@ -1,13 +1,8 @@
 -- `mark_leading`: what is marked leads, and what is done is done. Assumes nothing.
-use Prim.Native.Nat.{_-_}
-use native.Mathlib.Omega.{arith}
-use borrow.Author.Needs.{needs}
-use Rattle.run_join.specs.Inner.{Pending}
-use Rattle.run_join.proofs.Leads.{Marking, left}
-use Rattle.run_join.proofs.Turns.{from-path, end-path, end-is}
-use Rattle.run_join.proofs.Bits.{marked-none}
-use Rattle.run_join.proofs.Leads.{marking-begin, marking-inside, marking-turn, marking-end, fewer-left}
-use Rattle.run_join.proofs.ways.mark_leading.Statement.{statement}
+use Rattle.model.specs.Kit.{_-_, arith, needs}
+use Rattle.run_join.specs.inner.Inner.{Pending}
+use Rattle.run_join.proofs.{Leads.Marking, Leads.left, Leads.marking-begin, Leads.marking-inside, Leads.marking-turn, Leads.marking-end, Leads.fewer-left, Turns.from-path}
+use Rattle.run_join.proofs.{Turns.end-path, Turns.end-is, Bits.marked-none, ways.mark_leading.Statement.statement}
 use Rattle.run_join.proofs.ways.mark_leading.Tie as tie
 
 abbrev Inv-loop : tie.InvT-loop
@@ -53,7 +48,8 @@ mark-back-requires-2 : tie.Need-mark-back-requires-2 Inv-loop μ-loop
 mark-back-requires-2 c κs =
     let l = c .before .before .before .before in
     let s = l .before .before .before .before .before .before .before .before in
-    let i = marking-inside (s .args .l .now) (s .args .n) (s .pre .1) (l .loop .marks) (l .loop .done) (l .loop .inv .0) (l .loop .next) (l .loop .inv .1) (c .before .before .before .loop-test .taken) in
+    let i = marking-inside (s .args .l .now) (s .args .n) (s .pre .1) (l .loop .marks) (l .loop .done) (l .loop .inv .0) (l .loop .next) (l .loop .inv .1)
+    (c .before .before .before .loop-test .taken) in
     (from-path (s .args .l .now) (s .args .n) (l .loop .next - 1) (s .pre .0) i, s .pre .0, l .loop .inv .0 .long)
 
 pending-requires-2 : tie.Need-pending-requires-2 Inv-loop μ-loop
@@ -63,13 +59,18 @@ loop-less : tie.Need-loop-less Inv-loop μ-loop
 loop-less c =
     let l = c .before .before .before .before .before .before .before .before in
     let s = l .before .before .before .before .before .before .before .before in
-    fewer-left (s .args .l .now) (s .args .n) (s .pre .1) (l .loop .marks) (l .loop .done) (l .loop .inv .0) (l .loop .next) (l .loop .inv .1) (c .before .before .before .before .before .before .before .loop-test .taken) _ (c .before .before .before .before .before .mark .ensures)
+    fewer-left (s .args .l .now) (s .args .n) (s .pre .1) (l .loop .marks) (l .loop .done) (l .loop .inv .0) (l .loop .next) (l .loop .inv .1)
+    (c .before .before .before .before .before .before .before .loop-test .taken) _ (c .before .before .before .before .before .mark .ensures)
 
 loop-again : tie.Need-loop-again Inv-loop μ-loop
 loop-again c =
     let l = c .before .before .before .before .before .before .before .before in
-    let s = l .before .before .before .before .before .before .before .before in
-    (marking-turn (s .args .l .now) (s .args .n) (s .pre .1) (l .loop .marks) (l .loop .done) (l .loop .inv .0) (l .loop .next) (l .loop .inv .1) (c .before .before .before .before .before .before .before .loop-test .taken) _ _ (c .before .before .before .before .before .mark .ensures) (c .before .before .before .mark-back2 .ensures), c .pending2 .ensures)
+    let s = l .before .before .before .before .before .before .before .before in (
+      marking-turn (s .args .l .now) (s .args .n) (s .pre .1) (l .loop .marks) (l .loop .done) (l .loop .inv .0) (l .loop .next) (l .loop .inv .1)
+          (c .before .before .before .before .before .before .before .loop-test .taken) _ _ (c .before .before .before .before .before .mark .ensures)
+          (c .before .before .before .mark-back2 .ensures),
+      c .pending2 .ensures,
+    )
 
 returns : tie.Need-returns Inv-loop μ-loop
 returns c =
@@ -81,19 +82,5 @@ pub mark-leading-spec : {M : Type 1} → statement M
 mark-leading-spec =
     tie.close
     (tie.spec
-    Inv-loop
-    μ-loop
-    slice-aggregate-mark-back
-    mark-back-requires
-    pending-requires
-    loop-holds
-    sub-mark
-    mark-requires
-    sub-mark-back
-    mul-mark-back
-    add-mark-back
-    mark-back-requires-2
-    pending-requires-2
-    loop-less
-    loop-again
-    returns)
+    Inv-loop μ-loop slice-aggregate-mark-back mark-back-requires pending-requires loop-holds sub-mark mark-requires sub-mark-back mul-mark-back add-mark-back
+    mark-back-requires-2 pending-requires-2 loop-less loop-again returns)

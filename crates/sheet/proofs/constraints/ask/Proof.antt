@@ -1,13 +1,8 @@
-use Prim.Native.Nat.{_-_, _≤_}
-use mathlib.Core.Path.{ap}
-use native.Mathlib.Omega.{arith}
+use Rattle.model.specs.Kit.{_-_, _≤_, ap, arith}
 use Rattle.model.specs.Sheet.{Header as Numbers}
 use Rattle.sheet.proofs.ConstraintsTurn.{ConstraintsTo, constraints-none, constraints-more, constraints-no, constraints-short, constraints-end}
 use Rattle.sheet.proofs.constraints.ask.Statement.{statement}
 use Rattle.sheet.proofs.constraints.ask.Tie as tie
-use Rattle.sheet.proofs.constraints.ask.Reads as reads
-use Rattle.sheet.proofs.constraints.ask.Lts as lts
-use Rattle.sheet.proofs.constraints.constraint.Reads as constraint-reads
 
 abbrev Inv-loop : tie.InvT-loop
 Inv-loop sheet h numbers₀ supports₀ c o₀ k₀ numbers supports o k = (k ≤ c) × ConstraintsTo sheet c numbers₀ supports₀ k o numbers supports
@@ -15,62 +10,65 @@ Inv-loop sheet h numbers₀ supports₀ c o₀ k₀ numbers supports o k = (k �
 abbrev μ-loop : tie.MeasureT-loop
 μ-loop sheet h numbers₀ supports₀ c o₀ k₀ numbers supports o k = c - k
 
--- src/constraints.rt:117:5
 loop-holds : tie.Need-loop-holds Inv-loop μ-loop
 loop-holds c = (omega arith, constraints-none _ _ _ _ _ (ap (λ (x : Numbers). x .second) (c .before .pre .1)) (c .before .pre .0 .ordered))
 
--- src/constraints.rt:118:13
 constraint-requires : tie.Need-constraint-requires Inv-loop μ-loop
 constraint-requires c κs =
     let e = ap (λ (x : Numbers). x .constraints) (c .before .before .before .before .before .pre .1) in
-    let t = ap (λ (x : Numbers). x .third) (c .before .before .before .before .before .pre .1) in
-    (c .before .before .before .before .before .pre .0, ap (λ (x : Numbers). x .variables) (c .before .before .before .before .before .pre .1), ap (λ (x : Numbers). x .values) (c .before .before .before .before .before .pre .1), t, omega (arith, c .before .before .before .loop .inv .1 .inside), omega (arith, e, c .before .before .before .before .before .pre .0 .constraints, c .before .before .loop-test .taken))
+    let t = ap (λ (x : Numbers). x .third) (c .before .before .before .before .before .pre .1) in (
+      c .before .before .before .before .before .pre .0,
+      ap (λ (x : Numbers). x .variables) (c .before .before .before .before .before .pre .1),
+      ap (λ (x : Numbers). x .values)
+          (c .before .before .before .before .before .pre .1),
+      t,
+      omega (arith, c .before .before .before .loop .inv .1 .inside),
+      omega
+          (arith, e, c .before .before .before .before .before .pre .0 .constraints, c .before .before .loop-test .taken),
+    )
 
--- src/constraints.rt:129:27
 enum-known-step : tie.Need-enum-known-step Inv-loop μ-loop
 enum-known-step c = c .match .keys1
 
--- src/constraints.rt:130:17
 returns : tie.Need-returns Inv-loop μ-loop
-returns c = constraints-no _ _ _ _ _ _ _ _ (c .before .before .before .before .before .before .before .loop .inv .1) (c .before .before .before .before .before .before .loop-test .taken) _ _ _ _ (ap (λ (x : Numbers). x .constraints) (c .before .before .before .before .before .before .before .before .before .pre .1)) (c .before .step .given .1) (c .before .before .before .constraint .ensures)
+returns c = constraints-no _ _ _ _ _ _ _ _ (c .before .before .before .before .before .before .before .loop .inv .1) (c .before .before .before .before .before .before .loop-test .taken) _ _ _ _
+    (ap (λ (x : Numbers). x .constraints) (c .before .before .before .before .before .before .before .before .before .pre .1)) (c .before .step .given .1)
+    (c .before .before .before .constraint .ensures)
 
--- src/constraints.rt:132:24
 enum-known-step-2 : tie.Need-enum-known-step-2 Inv-loop μ-loop
 enum-known-step-2 c = c .match .keys2
 
--- src/constraints.rt:134:17
 add-k : tie.Need-add-k Inv-loop μ-loop
-add-k c = omega (arith, c .before .before .before .before .before .before .loop-test .taken, ap (λ (x : Numbers). x .constraints) (c .before .before .before .before .before .before .before .before .before .pre .1), c .before .before .before .before .before .before .before .before .before .pre .0 .constraints)
+add-k c = omega (
+  arith,
+  c .before .before .before .before .before .before .loop-test .taken,
+  ap (λ (x : Numbers). x .constraints)
+      (c .before .before .before .before .before .before .before .before .before .pre .1),
+  c .before .before .before .before .before .before .before .before .before .pre .0 .constraints,
+)
 
--- src/constraints.rt:117:5
 loop-less : tie.Need-loop-less Inv-loop μ-loop
 loop-less c = omega (arith, c .before .before .before .before .before .before .loop-test .taken)
 
--- src/constraints.rt:117:5
 loop-again : tie.Need-loop-again Inv-loop μ-loop
-loop-again c = (omega (arith, c .before .before .before .before .before .before .loop-test .taken), constraints-more _ _ _ _ _ _ _ _ (c .before .before .before .before .before .before .before .loop .inv .1) (c .before .before .before .before .before .before .loop-test .taken) _ _ _ _ (c .before .step2 .given .1) (c .before .before .before .constraint .ensures))
+loop-again c = (
+  omega (arith, c .before .before .before .before .before .before .loop-test .taken),
+  constraints-more _ _ _ _ _ _ _ _
+      (c .before .before .before .before .before .before .before .loop .inv .1) (c .before .before .before .before .before .before .loop-test .taken) _ _ _ _ (c .before .step2 .given .1)
+      (c .before .before .before .constraint .ensures),
+)
 
--- src/constraints.rt:139:9
 returns-2 : tie.Need-returns-2 Inv-loop μ-loop
-returns-2 c = constraints-short _ _ _ _ _ _ _ _ (c .before .before .before .loop .inv .1) (c .before .before .loop-test .left) (c .before .before .before .loop .inv .0) (ap (λ (x : Numbers). x .constraints) (c .before .before .before .before .before .pre .1)) _ (ap (λ (x : Numbers). x .third) (c .before .before .before .before .before .pre .1)) (c .if1 .taken)
+returns-2 c = constraints-short _ _ _ _ _ _ _ _ (c .before .before .before .loop .inv .1) (c .before .before .loop-test .left) (c .before .before .before .loop .inv .0)
+    (ap (λ (x : Numbers). x .constraints) (c .before .before .before .before .before .pre .1)) _ (ap (λ (x : Numbers). x .third) (c .before .before .before .before .before .pre .1))
+    (c .if1 .taken)
 
--- src/constraints.rt:110:1
 returns-3 : tie.Need-returns-3 Inv-loop μ-loop
-returns-3 c = constraints-end _ _ _ _ _ _ _ _ (c .before .before .before .loop .inv .1) (c .before .before .loop-test .left) (c .before .before .before .loop .inv .0) (ap (λ (x : Numbers). x .constraints) (c .before .before .before .before .before .pre .1)) _ (ap (λ (x : Numbers). x .third) (c .before .before .before .before .before .pre .1)) (c .if1 .left)
+returns-3 c = constraints-end _ _ _ _ _ _ _ _ (c .before .before .before .loop .inv .1) (c .before .before .loop-test .left) (c .before .before .before .loop .inv .0)
+    (ap (λ (x : Numbers). x .constraints) (c .before .before .before .before .before .pre .1)) _ (ap (λ (x : Numbers). x .third) (c .before .before .before .before .before .pre .1)) (c .if1 .left)
 
 pub ask-spec : {M : Type 1} → statement M
 ask-spec =
     tie.close
     (tie.spec
-    Inv-loop
-    μ-loop
-    loop-holds
-    constraint-requires
-    enum-known-step
-    returns
-    enum-known-step-2
-    add-k
-    loop-less
-    loop-again
-    returns-2
-    returns-3)
+    Inv-loop μ-loop loop-holds constraint-requires enum-known-step returns enum-known-step-2 add-k loop-less loop-again returns-2 returns-3)

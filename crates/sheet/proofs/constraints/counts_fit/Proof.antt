@@ -1,18 +1,13 @@
-use borrow.Author.Tests.{le-leb, lt-leb}
+use Rattle.model.specs.Kit.{le-leb, lt-leb}
 use Rattle.sheet.proofs.constraints.counts_fit.Statement.{statement}
 use Rattle.sheet.proofs.constraints.counts_fit.Tie as tie
-use Rattle.sheet.proofs.constraints.counts_fit.Reads as reads
-use Rattle.sheet.proofs.constraints.counts_fit.Lts as lts
 
--- src/constraints.rt:29:9
 returns : tie.Need-returns
 returns c = simp (lt-leb _ _ (c .if1 .taken))
 
--- src/constraints.rt:32:9
 returns-2 : tie.Need-returns-2
 returns-2 c = simp (le-leb _ _ (c .before .if1 .left), lt-leb _ _ (c .if2 .taken))
 
--- src/constraints.rt:25:1
 returns-3 : tie.Need-returns-3
 returns-3 c = simp (le-leb _ _ (c .before .if1 .left), le-leb _ _ (c .if2 .left))
 

@@ -1,11 +1,7 @@
-use Prim.Native.Nat.{_-_, _≤_}
-use native.Mathlib.Omega.{arith}
+use Rattle.model.specs.Kit.{_-_, _≤_, arith}
 use Rattle.sheet.proofs.ScopeTurn.{ScopeTo, scope-none, scope-more, scope-low, scope-high, scope-end, part, unit-small}
 use Rattle.sheet.proofs.constraints.scope.Statement.{statement}
 use Rattle.sheet.proofs.constraints.scope.Tie as tie
-use Rattle.sheet.proofs.constraints.scope.Reads as reads
-use Rattle.sheet.proofs.constraints.scope.Lts as lts
-use Rattle.sheet.proofs.constraints.touch.Reads as touch-reads
 
 abbrev Inv-loop : tie.InvT-loop
 Inv-loop sheet from a n k numbers₀ packed₀ unit₀ least₀ i₀ numbers packed unit least i = (i ≤ a) × ScopeTo sheet from a n k numbers₀ i numbers packed unit least
@@ -13,75 +9,83 @@ Inv-loop sheet from a n k numbers₀ packed₀ unit₀ least₀ i₀ numbers pac
 abbrev μ-loop : tie.MeasureT-loop
 μ-loop sheet from a n k numbers₀ packed₀ unit₀ least₀ i₀ numbers packed unit least i = a - i
 
--- src/constraints.rt:54:5
 loop-holds : tie.Need-loop-holds Inv-loop μ-loop
 loop-holds c = (omega arith, scope-none _ _ _ _ _ _ (c .before .pre .1))
 
--- src/constraints.rt:55:39
 mul-read-word : tie.Need-mul-read-word Inv-loop μ-loop
 mul-read-word c = omega (arith, c .loop-test .taken, c .before .before .before .pre .1)
 
--- src/constraints.rt:55:32
 add-read-word : tie.Need-add-read-word Inv-loop μ-loop
 add-read-word c = omega (arith, c .loop-test .taken, c .before .before .before .pre .4, c .before .before .before .good)
 
--- src/constraints.rt:55:13
 read-word-requires : tie.Need-read-word-requires Inv-loop μ-loop
 read-word-requires c κs = omega (arith, c .loop-test .taken, c .before .before .before .pre .4)
 
--- src/constraints.rt:57:13
 returns : tie.Need-returns Inv-loop μ-loop
 returns c = scope-low _ _ _ _ _ _ _ _ _ _ _ (c .before .before .before .loop .inv .1) _ (c .before .read-word .ensures) (c .before .before .loop-test .taken) (c .if1 .taken)
 
--- src/constraints.rt:60:13
 returns-2 : tie.Need-returns-2 Inv-loop μ-loop
 returns-2 c = scope-high _ _ _ _ _ _ _ _ _ _ _ (c .before .before .before .before .loop .inv .1) _ (c .before .before .read-word .ensures) (c .before .before .before .loop-test .taken) (c .if2 .taken)
 
--- src/constraints.rt:62:9
 touch-requires : tie.Need-touch-requires Inv-loop μ-loop
 touch-requires c κs = (c .before .before .before .before .before .before .before .pre .3, omega (arith, c .before .if2 .left, c .before .before .before .before .before .before .before .pre .2))
 
--- src/constraints.rt:63:27
 mul-packed : tie.Need-mul-packed Inv-loop μ-loop
-mul-packed c = omega (arith, part (c .before .before .before .before .read-word .result) (c .before .before .before .before .before .before .loop .unit) (omega (arith, c .before .before .if2 .left, c .before .before .before .before .before .before .before .before .pre .2)), unit-small (c .before .before .before .before .before .before .loop .i) (c .before .before .before .before .before .before .loop .unit) (omega (arith, c .before .before .before .before .before .loop-test .taken, c .before .before .before .before .before .before .before .before .pre .1)) (c .before .before .before .before .before .before .loop .inv .1 .power))
+mul-packed c = omega (
+  arith,
+  part (c .before .before .before .before .read-word .result) (c .before .before .before .before .before .before .loop .unit)
+      (omega (arith, c .before .before .if2 .left, c .before .before .before .before .before .before .before .before .pre .2)),
+  unit-small
+      (c .before .before .before .before .before .before .loop .i) (c .before .before .before .before .before .before .loop .unit)
+      (omega (arith, c .before .before .before .before .before .loop-test .taken, c .before .before .before .before .before .before .before .before .pre .1))
+      (c .before .before .before .before .before .before .loop .inv .1 .power),
+)
 
--- src/constraints.rt:63:18
 add-packed : tie.Need-add-packed Inv-loop μ-loop
-add-packed c = omega (arith, c .before .before .before .before .before .before .loop .inv .1 .small, part (c .before .before .before .before .read-word .result) (c .before .before .before .before .before .before .loop .unit) (omega (arith, c .before .before .if2 .left, c .before .before .before .before .before .before .before .before .pre .2)), unit-small (c .before .before .before .before .before .before .loop .i) (c .before .before .before .before .before .before .loop .unit) (omega (arith, c .before .before .before .before .before .loop-test .taken, c .before .before .before .before .before .before .before .before .pre .1)) (c .before .before .before .before .before .before .loop .inv .1 .power))
+add-packed c = omega (
+  arith,
+  c .before .before .before .before .before .before .loop .inv .1 .small,
+  part (c .before .before .before .before .read-word .result)
+      (c .before .before .before .before .before .before .loop .unit) (omega (arith, c .before .before .if2 .left, c .before .before .before .before .before .before .before .before .pre .2)),
+  unit-small (c .before .before .before .before .before .before .loop .i) (c .before .before .before .before .before .before .loop .unit)
+      (omega (arith, c .before .before .before .before .before .loop-test .taken, c .before .before .before .before .before .before .before .before .pre .1))
+      (c .before .before .before .before .before .before .loop .inv .1 .power),
+)
 
--- src/constraints.rt:64:16
 mul-unit : tie.Need-mul-unit Inv-loop μ-loop
-mul-unit c = omega (arith, unit-small (c .before .before .before .before .before .before .loop .i) (c .before .before .before .before .before .before .loop .unit) (omega (arith, c .before .before .before .before .before .loop-test .taken, c .before .before .before .before .before .before .before .before .pre .1)) (c .before .before .before .before .before .before .loop .inv .1 .power))
+mul-unit c = omega (
+  arith,
+  unit-small (c .before .before .before .before .before .before .loop .i) (c .before .before .before .before .before .before .loop .unit)
+      (omega (arith, c .before .before .before .before .before .loop-test .taken, c .before .before .before .before .before .before .before .before .pre .1))
+      (c .before .before .before .before .before .before .loop .inv .1 .power),
+)
 
--- src/constraints.rt:65:17
 add-least : tie.Need-add-least Inv-loop μ-loop
 add-least c = omega (arith, c .before .before .if2 .left, c .before .before .before .before .before .before .before .before .pre .2)
 
--- src/constraints.rt:66:9
 add-i : tie.Need-add-i Inv-loop μ-loop
 add-i c = omega (arith, c .before .before .before .before .before .loop-test .taken, c .before .before .before .before .before .before .before .before .pre .1)
 
--- src/constraints.rt:54:5
 loop-less : tie.Need-loop-less Inv-loop μ-loop
 loop-less c = omega (arith, c .before .before .before .before .before .loop-test .taken)
 
--- src/constraints.rt:54:5
 loop-again : tie.Need-loop-again Inv-loop μ-loop
-loop-again c = (omega (arith, c .before .before .before .before .before .loop-test .taken), scope-more _ _ _ _ _ _ _ _ _ _ _ (c .before .before .before .before .before .before .loop .inv .1) _ (c .before .before .before .before .read-word .ensures) _ (c .touch .ensures) (c .before .before .before .if1 .left) (c .before .before .if2 .left) (c .before .before .before .before .before .before .before .before .pre .2))
+loop-again c = (
+  omega (arith, c .before .before .before .before .before .loop-test .taken),
+  scope-more _ _ _ _ _ _ _ _ _ _ _ (c .before .before .before .before .before .before .loop .inv .1) _
+      (c .before .before .before .before .read-word .ensures) _ (c .touch .ensures) (c .before .before .before .if1 .left) (c .before .before .if2 .left)
+      (c .before .before .before .before .before .before .before .before .pre .2),
+)
 
--- src/constraints.rt:68:13
 add-numbers : tie.Need-add-numbers Inv-loop μ-loop
 add-numbers c = omega (arith, c .before .before .before .pre .3)
 
--- src/constraints.rt:68:5
 mul-numbers : tie.Need-mul-numbers Inv-loop μ-loop
 mul-numbers c = omega (arith, c .before .before .before .pre .3)
 
--- src/constraints.rt:68:5
 element-write-numbers : tie.Need-element-write-numbers Inv-loop μ-loop
 element-write-numbers c = omega (arith, c .before .before .before .pre .3)
 
--- src/constraints.rt:46:1
 returns-3 : tie.Need-returns-3 Inv-loop μ-loop
 returns-3 c = scope-end _ _ _ _ _ _ _ _ _ _ _ (c .before .loop .inv .1) (c .loop-test .left) (c .before .loop .inv .0)
 
@@ -89,23 +93,5 @@ pub scope-spec : {M : Type 1} → statement M
 scope-spec =
     tie.close
     (tie.spec
-    Inv-loop
-    μ-loop
-    loop-holds
-    mul-read-word
-    add-read-word
-    read-word-requires
-    returns
-    returns-2
-    touch-requires
-    mul-packed
-    add-packed
-    mul-unit
-    add-least
-    add-i
-    loop-less
-    loop-again
-    add-numbers
-    mul-numbers
-    element-write-numbers
-    returns-3)
+    Inv-loop μ-loop loop-holds mul-read-word add-read-word read-word-requires returns returns-2 touch-requires mul-packed add-packed mul-unit add-least add-i
+    loop-less loop-again add-numbers mul-numbers element-write-numbers returns-3)

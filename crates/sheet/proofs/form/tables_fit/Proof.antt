@@ -1,28 +1,32 @@
-use native.Mathlib.Omega.{arith}
-use Rattle.sheet.proofs.FormTurn.{tables-room, pair-room}
-use borrow.Author.Needs.{needs}
-use Rattle.sheet.proofs.form.tables_fit.Statement.{statement}
+use Rattle.model.specs.Kit.{arith, needs}
+use Rattle.sheet.proofs.{FormTurn.tables-room, FormTurn.pair-room, form.tables_fit.Statement.statement}
 use Rattle.sheet.proofs.form.tables_fit.Tie as tie
-use Rattle.sheet.proofs.form.tables_fit.Reads as reads
-use Rattle.sheet.proofs.form.tables_fit.Lts as lts
 
--- src/form.rt:19:46
 mul-result : tie.Need-mul-result
 mul-result c = omega (arith, pair-room (c .before .args .h .variables) (c .before .args .h .values) (c .before .pre .0) (c .before .pre .1))
 
--- src/form.rt:19:30
 mul-result-2 : tie.Need-mul-result-2
-mul-result-2 c = omega (arith, tables-room (c .before .before .args .h .symmetries) (c .before .before .args .h .variables) (c .before .before .args .h .values) (c .before .before .pre .2) (c .before .before .pre .0) (c .before .before .pre .1))
+mul-result-2 c = omega (
+  arith,
+  tables-room (c .before .before .args .h .symmetries) (c .before .before .args .h .variables) (c .before .before .args .h .values) (c .before .before .pre .2)
+      (c .before .before .pre .0) (c .before .before .pre .1),
+)
 
--- src/form.rt:19:25
 mul-result-3 : tie.Need-mul-result-3
-mul-result-3 c = omega (arith, tables-room (c .before .before .args .h .symmetries) (c .before .before .args .h .variables) (c .before .before .args .h .values) (c .before .before .pre .2) (c .before .before .pre .0) (c .before .before .pre .1))
+mul-result-3 c = omega (
+  arith,
+  tables-room (c .before .before .args .h .symmetries) (c .before .before .args .h .variables) (c .before .before .args .h .values) (c .before .before .pre .2)
+      (c .before .before .pre .0) (c .before .before .pre .1),
+)
 
--- src/form.rt:19:15
 add-result : tie.Need-add-result
-add-result c = omega (arith, tables-room (c .before .before .before .args .h .symmetries) (c .before .before .before .args .h .variables) (c .before .before .before .args .h .values) (c .before .before .before .pre .2) (c .before .before .before .pre .0) (c .before .before .before .pre .1), c .before .before .before .pre .3)
+add-result c = omega (
+  arith,
+  tables-room (c .before .before .before .args .h .symmetries) (c .before .before .before .args .h .variables) (c .before .before .before .args .h .values)
+      (c .before .before .before .pre .2) (c .before .before .before .pre .0) (c .before .before .before .pre .1),
+  c .before .before .before .pre .3,
+)
 
--- src/form.rt:15:1
 returns : tie.Need-returns
 returns c = search needs
 

@@ -1,14 +1,10 @@
-use borrow.Author.Tests.{le-leb, lt-leb}
+use Rattle.model.specs.Kit.{le-leb, lt-leb}
 use Rattle.sheet.proofs.heading.within.Statement.{statement}
 use Rattle.sheet.proofs.heading.within.Tie as tie
-use Rattle.sheet.proofs.heading.within.Reads as reads
-use Rattle.sheet.proofs.heading.within.Lts as lts
 
--- src/heading.rt:12:1
 returns : tie.Need-returns
 returns c = simp (le-leb _ _ (c .if1 .taken))
 
--- src/heading.rt:12:1
 returns-2 : tie.Need-returns-2
 returns-2 c = simp (lt-leb _ _ (c .if1 .left))
 

@@ -1,14 +1,10 @@
-use borrow.Author.Tests.{lt-ltb, le-ltb}
+use Rattle.model.specs.Kit.{lt-ltb, le-ltb}
 use Rattle.sheet.proofs.rows.ordered.Statement.{statement}
 use Rattle.sheet.proofs.rows.ordered.Tie as tie
-use Rattle.sheet.proofs.rows.ordered.Reads as reads
-use Rattle.sheet.proofs.rows.ordered.Lts as lts
 
--- src/rows.rt:29:1
 returns : tie.Need-returns
 returns c = simp (lt-ltb _ _ (c .if1 .taken))
 
--- src/rows.rt:29:1
 returns-2 : tie.Need-returns-2
 returns-2 c = simp (le-ltb _ _ (c .if1 .left))
 

@@ -1,21 +1,10 @@
-use mathlib.Core.Path.{_≡_, _∙_}
-use Prim.Native.Nat.{_-_, _≤_}
-use native.Mathlib.Omega.{arith}
-use lib.ListN.{length}
-use borrow.Author.Tests.{not-true, not-false}
-use Rattle.model.specs.ValueSets.{fullMask}
-use Rattle.model.specs.Sheet.{headerOf}
+use Rattle.model.specs.Kit.{_≡_, _∙_, _-_, _≤_, arith, length, not-true, not-false}
+use Rattle.model.specs.{ValueSets.fullMask, Sheet.headerOf}
 use Rattle.model.proofs.Filling.{filled-begin}
 use Rattle.sheet.proofs.SetsTurn.{PassedTo, InitialTo, passed-none, passed-more, passed-not, passed-all, set-test, set-stored, sets-refused, sets-accepted, sets-whole}
 use Rattle.sheet.proofs.sets.ask.Statement.{statement}
+use Rattle.arrays.specs.inner.Places.{NUMBERS}
 use Rattle.sheet.proofs.sets.ask.Tie as tie
-use Rattle.sheet.proofs.sets.ask.Reads as reads
-use Rattle.sheet.proofs.sets.ask.Lts as lts
-use Rattle.model.proofs.ValueSet.full.Reads as full-reads
-use Rattle.arrays.specs.Places.{NUMBERS}
-use Rattle.reader.proofs.read_word.Reads as read-word-reads
-use Rattle.sheet.proofs.sets.fill.Reads as fill-reads
-use Rattle.sheet.proofs.sets.is_set.Reads as is-set-reads
 
 abbrev Inv-loop : tie.InvT-loop
 Inv-loop sheet n d numbers₀ full x₀ numbers x = (x ≤ n) × (full .bits ≡ fullMask d) × (length numbers₀ ≡ NUMBERS) × PassedTo sheet (headerOf sheet) n x × InitialTo sheet x numbers₀ numbers
@@ -23,96 +12,116 @@ Inv-loop sheet n d numbers₀ full x₀ numbers x = (x ≤ n) × (full .bits ≡
 abbrev μ-loop : tie.MeasureT-loop
 μ-loop sheet n d numbers₀ full x₀ numbers x = n - x
 
--- src/sets.rt:45:5
 fill-requires : tie.Need-fill-requires Inv-loop μ-loop
 fill-requires c κs = c .before .before .pre .3
 
--- src/sets.rt:46:31
 cast-full : tie.Need-cast-full Inv-loop μ-loop
 cast-full c = omega (arith, c .before .before .before .pre .0 .sixteen, c .before .before .before .pre .2)
 
--- src/sets.rt:46:9
 full-requires : tie.Need-full-requires Inv-loop μ-loop
 full-requires c κs = tt
 
--- src/sets.rt:48:5
 loop-holds : tie.Need-loop-holds Inv-loop μ-loop
 loop-holds c = (omega arith, c .full .ensures, c .before .fill .ensures .sized ∙ c .before .before .before .before .pre .3, passed-none _ _ _, filled-begin _ _ _)
 
--- src/sets.rt:49:39
 mul-read-word : tie.Need-mul-read-word Inv-loop μ-loop
 mul-read-word c = omega (arith, c .loop-test .taken, c .before .before .before .before .before .before .pre .0 .few, c .before .before .before .before .before .before .pre .1)
 
--- src/sets.rt:49:34
 add-read-word : tie.Need-add-read-word Inv-loop μ-loop
 add-read-word c = omega (arith, c .loop-test .taken, c .before .before .before .before .before .before .pre .0 .few, c .before .before .before .before .before .before .pre .1)
 
--- src/sets.rt:49:13
 read-word-requires : tie.Need-read-word-requires Inv-loop μ-loop
-read-word-requires c κs = omega (arith, c .before .before .before .before .before .before .pre, c .before .before .before .before .before .before .pre .0 .second, c .before .before .before .before .before .before .pre .0 .ordered, c .before .before .before .before .before .before .pre .0 .third)
+read-word-requires c κs = omega (
+  arith,
+  c .before .before .before .before .before .before .pre,
+  c .before .before .before .before .before .before .pre .0 .second,
+  c .before .before .before .before .before .before .pre .0 .ordered,
+  c .before .before .before .before .before .before .pre .0 .third,
+)
 
--- src/sets.rt:50:13
 is-set-requires : tie.Need-is-set-requires Inv-loop μ-loop
 is-set-requires c κs = tt
 
--- src/sets.rt:51:13
 returns : tie.Need-returns Inv-loop μ-loop
 returns c =
     sets-refused _ _ _ _ _ (c .before .before .before .before .before .before .before .before .before .pre .1)
-    (passed-not _ _ _ _ (c .before .before .before .loop-test .taken) (c .before .before .before .before .loop .inv .3) (set-test _ _ _ _ _ _ _ _ (c .before .is-set .ensures) (c .before .before .read-word .ensures) (c .before .before .before .before .loop .inv .1) (c .before .before .before .before .before .before .before .before .before .pre .2) (omega (arith, c .before .before .before .before .before .before .before .before .before .pre .0 .sixteen, c .before .before .before .before .before .before .before .before .before .pre .2)) (not-true _ (c .if1 .taken))))
+    (passed-not _ _ _ _ (c .before .before .before .loop-test .taken) (c .before .before .before .before .loop .inv .3)
+    (set-test _ _ _ _ _ _ _ _ (c .before .is-set .ensures) (c .before .before .read-word .ensures) (c .before .before .before .before .loop .inv .1)
+    (c .before .before .before .before .before .before .before .before .before .pre .2)
+    (omega (
+      arith,
+      c .before .before .before .before .before .before .before .before .before .pre .0 .sixteen,
+      c .before .before .before .before .before .before .before .before .before .pre .2,
+    )) (not-true _ (c .if1 .taken))))
 
--- src/sets.rt:53:17
 add-numbers : tie.Need-add-numbers Inv-loop μ-loop
-add-numbers c = omega (arith, c .before .before .before .loop-test .taken, c .before .before .before .before .before .before .before .before .before .pre .0 .few, c .before .before .before .before .before .before .before .before .before .pre .1)
+add-numbers c = omega (
+  arith,
+  c .before .before .before .loop-test .taken,
+  c .before .before .before .before .before .before .before .before .before .pre .0 .few,
+  c .before .before .before .before .before .before .before .before .before .pre .1,
+)
 
--- src/sets.rt:53:9
 mul-numbers : tie.Need-mul-numbers Inv-loop μ-loop
-mul-numbers c = omega (arith, c .before .before .before .loop-test .taken, c .before .before .before .before .before .before .before .before .before .pre .0 .few, c .before .before .before .before .before .before .before .before .before .pre .1)
+mul-numbers c = omega (
+  arith,
+  c .before .before .before .loop-test .taken,
+  c .before .before .before .before .before .before .before .before .before .pre .0 .few,
+  c .before .before .before .before .before .before .before .before .before .pre .1,
+)
 
--- src/sets.rt:53:9
 element-write-numbers : tie.Need-element-write-numbers Inv-loop μ-loop
-element-write-numbers c = omega (arith, c .before .before .before .loop-test .taken, c .before .before .before .before .before .before .before .before .before .pre .0 .few, c .before .before .before .before .before .before .before .before .before .pre .1)
+element-write-numbers c = omega (
+  arith,
+  c .before .before .before .loop-test .taken,
+  c .before .before .before .before .before .before .before .before .before .pre .0 .few,
+  c .before .before .before .before .before .before .before .before .before .pre .1,
+)
 
--- src/sets.rt:54:9
 add-x : tie.Need-add-x Inv-loop μ-loop
-add-x c = omega (arith, c .before .before .before .loop-test .taken, c .before .before .before .before .before .before .before .before .before .pre .0 .few, c .before .before .before .before .before .before .before .before .before .pre .1)
+add-x c = omega (
+  arith,
+  c .before .before .before .loop-test .taken,
+  c .before .before .before .before .before .before .before .before .before .pre .0 .few,
+  c .before .before .before .before .before .before .before .before .before .pre .1,
+)
 
--- src/sets.rt:48:5
 loop-less : tie.Need-loop-less Inv-loop μ-loop
 loop-less c = omega (arith, c .before .before .before .loop-test .taken)
 
--- src/sets.rt:48:5
 loop-again : tie.Need-loop-again Inv-loop μ-loop
 loop-again c =
-    let i = c .before .before .before .before .loop .inv in
-    (omega (arith, c .before .before .before .loop-test .taken), i .1, i .2, passed-more _ _ _ _ (c .before .before .before .loop-test .taken) (i .3) (set-test _ _ _ _ _ _ _ _ (c .before .is-set .ensures) (c .before .before .read-word .ensures) (c .before .before .before .before .loop .inv .1) (c .before .before .before .before .before .before .before .before .before .pre .2) (omega (arith, c .before .before .before .before .before .before .before .before .before .pre .0 .sixteen, c .before .before .before .before .before .before .before .before .before .pre .2)) (not-false _ (c .if1 .left))), set-stored _ _ _ _ _ (omega (arith, c .before .before .before .loop-test .taken, c .before .before .before .before .before .before .before .before .before .pre .0 .few, c .before .before .before .before .before .before .before .before .before .pre .1)) (i .2) (c .before .before .read-word .ensures) (i .4))
+    let i = c .before .before .before .before .loop .inv in (
+      omega (arith, c .before .before .before .loop-test .taken),
+      i .1,
+      i .2,
+      passed-more _ _ _ _ (c .before .before .before .loop-test .taken) (i .3)
+          (set-test _ _ _ _ _ _ _ _ (c .before .is-set .ensures) (c .before .before .read-word .ensures) (c .before .before .before .before .loop .inv .1)
+          (c .before .before .before .before .before .before .before .before .before .pre .2)
+          (omega (
+            arith,
+            c .before .before .before .before .before .before .before .before .before .pre .0 .sixteen,
+            c .before .before .before .before .before .before .before .before .before .pre .2,
+          )) (not-false _ (c .if1 .left))),
+      set-stored _ _ _ _ _
+          (omega (
+            arith,
+            c .before .before .before .loop-test .taken,
+            c .before .before .before .before .before .before .before .before .before .pre .0 .few,
+            c .before .before .before .before .before .before .before .before .before .pre .1,
+          )) (i .2) (c .before .before .read-word .ensures) (i .4),
+    )
 
--- src/sets.rt:41:1
 returns-2 : tie.Need-returns-2 Inv-loop μ-loop
 returns-2 c =
     let i = c .before .loop .inv in
     sets-accepted _ _ _ _ (c .before .before .before .before .before .before .pre .1) (passed-all _ _ _ _ (c .loop-test .left) (i .3))
-    (sets-whole _ _ _ _ _ _ (omega (arith, c .before .before .before .before .before .before .pre .0 .few, c .before .before .before .before .before .before .pre .1)) (c .loop-test .left) (i .0) (c .before .before .before .fill .ensures) (i .4))
+    (sets-whole _ _ _ _ _ _ (omega (arith, c .before .before .before .before .before .before .pre .0 .few, c .before .before .before .before .before .before .pre .1)) (c .loop-test .left) (i .0)
+    (c .before .before .before .fill .ensures) (i .4))
 
 pub ask-spec : {M : Type 1} → statement M
 ask-spec =
     tie.close
     (tie.spec
-    Inv-loop
-    μ-loop
-    fill-requires
-    cast-full
-    full-requires
-    loop-holds
-    mul-read-word
-    add-read-word
-    read-word-requires
-    is-set-requires
-    returns
-    add-numbers
-    mul-numbers
-    element-write-numbers
-    add-x
-    loop-less
-    loop-again
-    returns-2)
+    Inv-loop μ-loop fill-requires cast-full full-requires loop-holds mul-read-word add-read-word read-word-requires is-set-requires returns add-numbers
+    mul-numbers element-write-numbers add-x loop-less loop-again returns-2)

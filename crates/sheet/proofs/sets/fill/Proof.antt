@@ -1,16 +1,9 @@
-use mathlib.Core.Path.{_≡_}
-use Prim.Native.Nat.{_-_, _≤_}
-use native.Mathlib.Omega.{arith}
-use lib.ListN.{length}
+use Rattle.model.specs.Kit.{_≡_, _-_, _≤_, arith, length}
 use Rattle.model.specs.ValueSets.{maskBelow}
 use Rattle.model.proofs.Filling.{filled-begin}
-use Rattle.sheet.proofs.SetsTurn.{ZeroTo, set-stored, zero-sets}
-use Rattle.sheet.proofs.sets.fill.Statement.{statement}
+use Rattle.sheet.proofs.{SetsTurn.ZeroTo, SetsTurn.set-stored, SetsTurn.zero-sets, sets.fill.Statement.statement}
+use Rattle.arrays.specs.inner.Places.{NUMBERS}
 use Rattle.sheet.proofs.sets.fill.Tie as tie
-use Rattle.sheet.proofs.sets.fill.Reads as reads
-use Rattle.sheet.proofs.sets.fill.Lts as lts
-use Rattle.model.proofs.ValueSet.full.Reads as full-reads
-use Rattle.arrays.specs.Places.{NUMBERS}
 
 abbrev Inv-loop : tie.InvT-loop
 Inv-loop numbers₀ first x₀ numbers x = (x ≤ 16) × (first .bits ≡ 1) × (length numbers₀ ≡ NUMBERS) × ZeroTo x numbers₀ numbers
@@ -18,44 +11,34 @@ Inv-loop numbers₀ first x₀ numbers x = (x ≤ 16) × (first .bits ≡ 1) × 
 abbrev μ-loop : tie.MeasureT-loop
 μ-loop numbers₀ first x₀ numbers x = 16 - x
 
--- src/sets.rt:33:9
 full-requires : tie.Need-full-requires Inv-loop μ-loop
 full-requires c κs = tt
 
--- src/sets.rt:35:5
 loop-holds : tie.Need-loop-holds Inv-loop μ-loop
 unfolding maskBelow
 loop-holds c = (omega arith, c .full .ensures, c .before .pre, filled-begin _ _ _)
 
--- src/sets.rt:36:32
 cast-numbers : tie.Need-cast-numbers Inv-loop μ-loop
 cast-numbers c = omega arith
 
--- src/sets.rt:36:17
 add-numbers : tie.Need-add-numbers Inv-loop μ-loop
 add-numbers c = omega arith
 
--- src/sets.rt:36:9
 mul-numbers : tie.Need-mul-numbers Inv-loop μ-loop
 mul-numbers c = omega arith
 
--- src/sets.rt:36:9
 element-write-numbers : tie.Need-element-write-numbers Inv-loop μ-loop
 element-write-numbers c = omega arith
 
--- src/sets.rt:37:9
 add-x : tie.Need-add-x Inv-loop μ-loop
 add-x c = omega arith
 
--- src/sets.rt:35:5
 loop-less : tie.Need-loop-less Inv-loop μ-loop
 loop-less c = omega arith
 
--- src/sets.rt:35:5
 loop-again : tie.Need-loop-again Inv-loop μ-loop
 loop-again c = let i = c .before .before .loop .inv in (omega arith, i .1, i .2, set-stored _ _ _ _ _ (c .before .loop-test .taken) (i .2) (i .1) (i .3))
 
--- src/sets.rt:29:1
 returns : tie.Need-returns Inv-loop μ-loop
 returns c = let i = c .before .loop .inv in zero-sets _ _ _ (c .loop-test .left) (i .0) (i .3)
 
@@ -63,15 +46,4 @@ pub fill-spec : {M : Type 1} → statement M
 fill-spec =
     tie.close
     (tie.spec
-    Inv-loop
-    μ-loop
-    full-requires
-    loop-holds
-    cast-numbers
-    add-numbers
-    mul-numbers
-    element-write-numbers
-    add-x
-    loop-less
-    loop-again
-    returns)
+    Inv-loop μ-loop full-requires loop-holds cast-numbers add-numbers mul-numbers element-write-numbers add-x loop-less loop-again returns)

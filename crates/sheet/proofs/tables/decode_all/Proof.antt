@@ -1,21 +1,10 @@
-use mathlib.Core.Path.{_≡_, sym, ap, _∙_, subst}
-use mathlib.Core.Bool.{true}
-use Prim.Native.Nat.{ℕ, _-_, _*_, _≤_, _<_}
-use native.Mathlib.Omega.{arith}
-use borrow.Author.Tests.{not-true, not-false}
-use denote.Ref.{now}
+use Rattle.model.specs.Kit.{_≡_, sym, ap, _∙_, subst, true, ℕ, _-_, _*_, _≤_, _<_, arith, not-true, not-false, now}
 use Rattle.model.specs.Sheet.{Header as Numbers, headerOf, problemOf, permutesPairs}
-use Rattle.sheet.specs.Decoding.{Decodable}
-use Rattle.sheet.proofs.Stating.{FormPassed, form-passed}
-use Rattle.sheet.proofs.FormTurn.{pair-room, same-size}
-use Rattle.sheet.proofs.TablesTurn.{table-framed, table-is}
+use Rattle.sheet.specs.inner.Decoding.{Decodable}
+use Rattle.sheet.proofs.{Stating.FormPassed, Stating.form-passed, FormTurn.pair-room, FormTurn.same-size, TablesTurn.table-framed, TablesTurn.table-is}
 use Rattle.sheet.proofs.DecodeTurn.{permutedAt, permuted-each, ImagesTo, images-none, images-more, decodable, tables-decoded, tables-not}
 use Rattle.sheet.proofs.tables.decode_all.Statement.{statement}
 use Rattle.sheet.proofs.tables.decode_all.Tie as tie
-use Rattle.sheet.proofs.tables.decode_all.Reads as reads
-use Rattle.sheet.proofs.tables.decode_all.Lts as lts
-use Rattle.sheet.proofs.tables.decode.Reads as decode-reads
-use Rattle.sheet.proofs.tables.permuted.Reads as permuted-reads
 
 abbrev Inv-loop : tie.InvT-loop
 Inv-loop sheet numbers asked images₀ g d count from₀ e₀ images from e = (e ≤ g) × ImagesTo sheet e from images
@@ -56,8 +45,11 @@ loop-holds c = (omega arith, images-none _ _ _ (ap (λ (x : Numbers). x .third) 
 permuted-requires : tie.Need-permuted-requires Inv-loop μ-loop
 permuted-requires c κs =
     let s = c .before .before .before .before in
-    let here = c .before .loop .inv .1 .here in
-    (table-framed _ _ _ _ (s .pre .0 .passed) (s .pre .0 .numbered) here (inside c), λ a. ap (permutesPairs (problemOf (now (s .args .sheet)))) (table-is _ _ _ here) ∙ permuted-each _ (s .pre .0 .known a) _ (inside c))
+    let here = c .before .loop .inv .1 .here in (
+      table-framed _ _ _ _ (s .pre .0 .passed) (s .pre .0 .numbered) here (inside c),
+      λ a. ap (permutesPairs (problemOf (now (s .args .sheet)))) (table-is _ _ _ here) ∙ permuted-each _
+          (s .pre .0 .known a) _ (inside c),
+    )
 
 returns : tie.Need-returns Inv-loop μ-loop
 returns c = tables-not _ _ _ _ (inside (c .before .before)) (c .before .before .before .loop .inv .1) (sym (answered (c .before)) ∙ not-true _ (c .if1 .taken))
@@ -102,17 +94,4 @@ pub decode-all-spec : {M : Type 1} → statement M
 decode-all-spec =
     tie.close
     (tie.spec
-    Inv-loop
-    μ-loop
-    mul-count
-    loop-holds
-    permuted-requires
-    returns
-    mul-decode
-    decode-requires
-    mul-from
-    add-from
-    add-e
-    loop-less
-    loop-again
-    returns-2)
+    Inv-loop μ-loop mul-count loop-holds permuted-requires returns mul-decode decode-requires mul-from add-from add-e loop-less loop-again returns-2)

@@ -1,4 +1,4 @@
-use mathlib.Core.Path.{sym}
+use Rattle.model.specs.Kit.{sym}
 use Rattle.model.specs.Sheet.{problemOf}
 use Rattle.sheet.proofs.tables.permuted.Statement.{statement}
 use Rattle.sheet.proofs.tables.permuted.Tie as tie

@@ -1,21 +1,11 @@
-use mathlib.Core.Path.{_≡_, sym, _∙_}
-use Prim.Native.Nat.{_^_, _<_}
-use native.Mathlib.Nat.{lt-of-le-of-lt}
-use native.Mathlib.Omega.{arith}
-use denote.Ref.{now}
-use lib.Dec.{lit<}
-use lib.ListN.{length}
-use lib.Count.{trailingZeros, trailing-le}
-use Rattle.model.specs.Problem.{Problem}
-use Rattle.arrays.specs.Layout.{constraintAt}
-use Rattle.sheet_symmetries.specs.Forbidden.{Triple, Pending, refusedBy}
+use Rattle.model.specs.Kit.{_≡_, sym, _∙_, _^_, _<_, lt-of-le-of-lt, arith, now, lit<, length, trailingZeros}
+use lib.Count.{trailing-le}
+use Rattle.model.specs.Problem.{Problem, constraintAt}
+use Rattle.sheet_symmetries.specs.inner.Forbidden.{Triple, Pending, refusedBy}
 use Rattle.model.proofs.Members.{rest-less}
 use Rattle.sheet_symmetries.proofs.Asking.{pending-start, pending-next, pending-stop, pending-rest, pending-none}
 use Rattle.sheet_symmetries.proofs.forbidden.any_refuses.Statement.{statement}
 use Rattle.sheet_symmetries.proofs.forbidden.any_refuses.Tie as tie
-use Rattle.sheet_symmetries.proofs.forbidden.any_refuses.Reads as reads
-use Rattle.sheet_symmetries.proofs.forbidden.any_refuses.Lts as lts
-use Rattle.sheet_symmetries.proofs.forbidden.refused.Reads as refused-reads
 
 abbrev Inv-loop : tie.InvT-loop
 Inv-loop numbers supports set a b e pending₀ pending = (p : Problem) → Triple p numbers supports a b e → set < 2 ^ length (p .constraints) → Pending p a b e set pending
@@ -32,7 +22,10 @@ cast-k c = record { fits = lt-of-le-of-lt (trailing-le 64 _) (lit< tt) }
 refused-requires : tie.Need-refused-requires Inv-loop μ-loop
 refused-requires c κs = let h = c .before .before .pre in (h .0, h .1 .ready, pending-next (h .0) _ _ _ _ _ (h .1) _ _ (c .before .loop .inv (h .0) (h .1) (h .2)) (c .loop-test .taken))
 
-asked : (c : tie.After-refused Inv-loop μ-loop) (p : Problem) (t : Triple p (now (c .before .before .before .args .numbers)) (now (c .before .before .before .args .supports)) (c .before .before .before .args .a) (c .before .before .before .args .b) (c .before .before .before .args .e)) → c .before .before .before .args .set < 2 ^ length (p .constraints) → c .refused .result ≡ refusedBy (constraintAt p (trailingZeros 64 (c .before .before .loop .pending))) (c .before .before .before .args .a) (c .before .before .before .args .b) (c .before .before .before .args .e)
+asked : (c : tie.After-refused Inv-loop μ-loop) (p : Problem) (t : Triple p (now (c .before .before .before .args .numbers)) (now (c .before .before .before .args .supports))
+    (c .before .before .before .args .a) (c .before .before .before .args .b) (c .before .before .before .args .e)) → c .before .before .before .args .set < 2 ^ length (p .constraints)
+    → c .refused .result ≡ refusedBy (constraintAt p (trailingZeros 64 (c .before .before .loop .pending))) (c .before .before .before .args .a) (c .before .before .before .args .b)
+    (c .before .before .before .args .e)
 asked c p t h = c .refused .ensures p (t .ready) (pending-next p _ _ _ _ _ t _ _ (c .before .before .loop .inv p t h) (c .before .loop-test .taken))
 
 returns : tie.Need-returns Inv-loop μ-loop
@@ -54,13 +47,4 @@ pub any-refuses-spec : {M : Type 1} → statement M
 any-refuses-spec =
     tie.close
     (tie.spec
-    Inv-loop
-    μ-loop
-    loop-holds
-    cast-k
-    refused-requires
-    returns
-    sub-pending
-    loop-less
-    loop-again
-    returns-2)
+    Inv-loop μ-loop loop-holds cast-k refused-requires returns sub-pending loop-less loop-again returns-2)

@@ -1,21 +1,9 @@
-use mathlib.Core.Path.{_≡_, sym, _∙_, subst}
-use Prim.Native.Nat.{ℕ, _/_, _^_, _<_}
-use native.Mathlib.Omega.{arith}
-use denote.Ref.{now}
-use lib.Bits.{bitAnd, bitOr}
-use lib.ListN.{length}
-use Rattle.model.specs.Lists.{at}
-use Rattle.model.specs.Problem.{Problem}
-use Rattle.sheet_symmetries.specs.Forbidden.{Triple}
-use Rattle.sheet_symmetries.proofs.Scopes.{all-few, two-few}
-use Rattle.sheet_symmetries.proofs.Asking.{first-clash, second-clash, third-clash, variables-small, asked-yes, asked-all}
-use Rattle.sheet_symmetries.proofs.forbidden.blocked.Statement.{statement}
+use Rattle.model.specs.Kit.{_≡_, sym, _∙_, subst, ℕ, _/_, _^_, _<_, arith, now, bitAnd, bitOr, length}
+use Rattle.model.specs.{Lists.at, Problem.Problem}
+use Rattle.sheet_symmetries.specs.inner.Forbidden.{Triple}
+use Rattle.sheet_symmetries.proofs.{Scopes.all-few, Scopes.two-few, Asking.first-clash, Asking.second-clash, Asking.third-clash, Asking.variables-small, Asking.asked-yes}
+use Rattle.sheet_symmetries.proofs.{Asking.asked-all, forbidden.blocked.Statement.statement}
 use Rattle.sheet_symmetries.proofs.forbidden.blocked.Tie as tie
-use Rattle.sheet_symmetries.proofs.forbidden.blocked.Reads as reads
-use Rattle.sheet_symmetries.proofs.forbidden.blocked.Lts as lts
-use Rattle.sheet_symmetries.proofs.forbidden.any_refuses.Reads as any-refuses-reads
-use Rattle.sheet_symmetries.proofs.forbidden.clash.Reads as clash-reads
-use Rattle.sheet_symmetries.proofs.table.number.Reads as number-reads
 
 clash-requires : tie.Need-clash-requires
 clash-requires c κs = tt
@@ -54,13 +42,18 @@ some s t u = bitOr (bitOr s t) u
 abbrev Given : tie.Start → Problem → Type 0
 Given c p = Triple p (now (c .args .numbers)) (now (c .args .supports)) (c .args .a) (c .args .b) (c .args .e)
 
-found : (c : tie.After-number3) (f : ℕ → ℕ → ℕ → ℕ) → f (c .before .before .number .result) (c .before .number2 .result) (c .number3 .result) ≡ f (at (now (c .before .before .before .before .before .before .before .before .before .args .numbers)) (c .before .before .before .before .before .before .before .before .before .args .a / 16)) (at (now (c .before .before .before .before .before .before .before .before .before .args .numbers)) (c .before .before .before .before .before .before .before .before .before .args .b / 16)) (at (now (c .before .before .before .before .before .before .before .before .before .args .numbers)) (c .before .before .before .before .before .before .before .before .before .args .e / 16))
+found : (c : tie.After-number3) (f : ℕ → ℕ → ℕ → ℕ) → f (c .before .before .number .result) (c .before .number2 .result) (c .number3 .result) ≡ f
+    (at (now (c .before .before .before .before .before .before .before .before .before .args .numbers)) (c .before .before .before .before .before .before .before .before .before .args .a / 16))
+    (at (now (c .before .before .before .before .before .before .before .before .before .args .numbers)) (c .before .before .before .before .before .before .before .before .before .args .b / 16))
+    (at (now (c .before .before .before .before .before .before .before .before .before .args .numbers)) (c .before .before .before .before .before .before .before .before .before .args .e / 16))
 found c f = let i = c .before .before .number .ensures in let j = c .before .number2 .ensures in let k = c .number3 .ensures in cc
 
-few-two : (c : tie.After-number3) (p : Problem) → Given (c .before .before .before .before .before .before .before .before .before) p → two (c .before .before .number .result) (c .before .number2 .result) (c .number3 .result) < 2 ^ length (p .constraints)
+few-two : (c : tie.After-number3) (p : Problem) → Given (c .before .before .before .before .before .before .before .before .before) p → two (c .before .before .number .result)
+    (c .before .number2 .result) (c .number3 .result) < 2 ^ length (p .constraints)
 few-two c p t = let v = variables-small p _ _ _ _ _ t in subst (λ (n : ℕ). n < 2 ^ length (p .constraints)) (sym (found c two)) (two-few p _ (t .ready .framed) _ _ _ (v .0) (v .1) (v .2))
 
-few-all : (c : tie.After-number3) (p : Problem) → Given (c .before .before .before .before .before .before .before .before .before) p → some (c .before .before .number .result) (c .before .number2 .result) (c .number3 .result) < 2 ^ length (p .constraints)
+few-all : (c : tie.After-number3) (p : Problem) → Given (c .before .before .before .before .before .before .before .before .before) p → some (c .before .before .number .result)
+    (c .before .number2 .result) (c .number3 .result) < 2 ^ length (p .constraints)
 few-all c p t = let v = variables-small p _ _ _ _ _ t in subst (λ (n : ℕ). n < 2 ^ length (p .constraints)) (sym (found c some)) (all-few p _ (t .ready .framed) _ _ _ (v .0) (v .1) (v .2))
 
 any-refuses-requires : tie.Need-any-refuses-requires
@@ -75,22 +68,14 @@ any-refuses-requires-2 c κs = let h = c .before .before .before .before .before
 returns-5 : tie.Need-returns-5
 returns-5 c = λ p t.
     asked-all p _ _ _ _ _ t _ _ (found (c .before .before .before) some) (c .any-refuses2 .ensures p t (few-all (c .before .before .before) p t))
-    (sym (c .before .before .before .before .before .before .before .before .before .before .before .clash .ensures) ∙ c .before .before .before .before .before .before .before .before .before .before .if1 .left) (sym (c .before .before .before .before .before .before .before .before .before .clash2 .ensures) ∙ c .before .before .before .before .before .before .before .before .if2 .left) (sym (c .before .before .before .before .before .before .before .clash3 .ensures) ∙ c .before .before .before .before .before .before .if3 .left)
+    (sym (c .before .before .before .before .before .before .before .before .before .before .before .clash .ensures)
+    ∙ c .before .before .before .before .before .before .before .before .before .before .if1 .left)
+    (sym (c .before .before .before .before .before .before .before .before .before .clash2 .ensures) ∙ c .before .before .before .before .before .before .before .before .if2 .left)
+    (sym (c .before .before .before .before .before .before .before .clash3 .ensures) ∙ c .before .before .before .before .before .before .if3 .left)
 
 pub blocked-spec : {M : Type 1} → statement M
 blocked-spec =
     tie.close
     (tie.spec
-    clash-requires
-    returns
-    clash-requires-2
-    returns-2
-    clash-requires-3
-    returns-3
-    number-requires
-    number-requires-2
-    number-requires-3
-    any-refuses-requires
-    returns-4
-    any-refuses-requires-2
-    returns-5)
+    clash-requires returns clash-requires-2 returns-2 clash-requires-3 returns-3 number-requires number-requires-2 number-requires-3 any-refuses-requires
+    returns-4 any-refuses-requires-2 returns-5)

@@ -1,14 +1,10 @@
-use borrow.Author.Tests.{eq-eqb, ne-eqb}
+use Rattle.model.specs.Kit.{eq-eqb, ne-eqb}
 use Rattle.sheet_symmetries.proofs.forbidden.clash.Statement.{statement}
 use Rattle.sheet_symmetries.proofs.forbidden.clash.Tie as tie
-use Rattle.sheet_symmetries.proofs.forbidden.clash.Reads as reads
-use Rattle.sheet_symmetries.proofs.forbidden.clash.Lts as lts
 
--- src/forbidden.rt:66:1
 returns : tie.Need-returns
 returns c = rw (eq-eqb _ _ (c .if1 .taken))
 
--- src/forbidden.rt:66:1
 returns-2 : tie.Need-returns-2
 returns-2 c = rw (ne-eqb _ _ (c .if1 .left))
 

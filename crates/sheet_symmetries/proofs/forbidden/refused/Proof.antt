@@ -1,24 +1,10 @@
-use mathlib.Core.Path.{_∙_, ap}
-use mathlib.Core.Bool.{not}
-use Prim.Native.Nat.{_+_, _-_, _*_, _/_, _≤_, _<_}
-use native.Mathlib.Omega.{arith}
-use denote.Ref.{now}
-use lib.ListN.{length}
-use Rattle.model.specs.Problem.{Problem}
-use Rattle.arrays.specs.Layout.{constraintAt}
-use Rattle.arrays.specs.Places.{SUPPORTS}
-use Rattle.sheet_symmetries.specs.Table.{Ready}
-use Rattle.sheet_symmetries.specs.Forbidden.{LookedUp}
-use Rattle.sheet_symmetries.proofs.Codes.{good}
-use Rattle.sheet_symmetries.proofs.Rows.{looked-none, looked-lt, looked-more, looked-stop, looked-place, looked-all}
+use Rattle.model.specs.Kit.{_∙_, ap, not, _+_, _-_, _*_, _/_, _≤_, _<_, arith, now, length}
+use Rattle.model.specs.Problem.{Problem, constraintAt}
+use Rattle.arrays.specs.inner.Places.{SUPPORTS}
+use Rattle.sheet_symmetries.specs.{inner.Table.Ready, inner.Forbidden.LookedUp}
+use Rattle.sheet_symmetries.proofs.{Codes.good, Rows.looked-none, Rows.looked-lt, Rows.looked-more, Rows.looked-stop, Rows.looked-place, Rows.looked-all}
 use Rattle.sheet_symmetries.proofs.forbidden.refused.Statement.{statement}
 use Rattle.sheet_symmetries.proofs.forbidden.refused.Tie as tie
-use Rattle.sheet_symmetries.proofs.forbidden.refused.Reads as reads
-use Rattle.sheet_symmetries.proofs.forbidden.refused.Lts as lts
-use Rattle.sheet_symmetries.proofs.forbidden.arity.Reads as arity-reads
-use Rattle.sheet_symmetries.proofs.forbidden.scope_at.Reads as scope-at-reads
-use Rattle.sheet_symmetries.proofs.forbidden.support.Reads as support-reads
-use Rattle.sheet_symmetries.proofs.forbidden.value_in.Reads as value-in-reads
 
 abbrev Inv-loop : tie.InvT-loop
 Inv-loop numbers supports k a b e count key₀ i₀ key i = (p : Problem) → Ready p numbers supports → k < length (p .constraints) → LookedUp (constraintAt p k) a b e i key
@@ -26,15 +12,14 @@ Inv-loop numbers supports k a b e count key₀ i₀ key i = (p : Problem) → Re
 abbrev μ-loop : tie.MeasureT-loop
 μ-loop numbers supports k a b e count key₀ i₀ key i = count - i
 
--- src/forbidden.rt:100:9
 arity-requires : tie.Need-arity-requires Inv-loop μ-loop
 arity-requires c κs = let h = c .pre in (h .0, h .1 .framed, h .2)
 
--- src/forbidden.rt:103:5
 loop-holds : tie.Need-loop-holds Inv-loop μ-loop
 loop-holds c = λ p r h. looked-none (constraintAt p _) _ _ _
 
-inside : (c : tie.In-loop Inv-loop μ-loop) (p : Problem) → Ready p (now (c .before .before .before .args .numbers)) (now (c .before .before .before .args .supports)) → c .before .before .before .args .k < length (p .constraints) → c .before .loop .i < length (constraintAt p (c .before .before .before .args .k) .scope)
+inside : (c : tie.In-loop Inv-loop μ-loop) (p : Problem) → Ready p (now (c .before .before .before .args .numbers)) (now (c .before .before .before .args .supports))
+    → c .before .before .before .args .k < length (p .constraints) → c .before .loop .i < length (constraintAt p (c .before .before .before .args .k) .scope)
 inside c p r h = omega (arith, c .before .before .arity .ensures p (r .framed) h, c .loop-test .taken)
 
 few : (c : tie.In-loop Inv-loop μ-loop) → c .before .loop .i < 3
@@ -43,53 +28,45 @@ few c = let h = c .before .before .before .pre in omega (arith, inside c (h .0) 
 small : (c : tie.In-loop Inv-loop μ-loop) → c .before .loop .key < 256
 small c = let h = c .before .before .before .pre in looked-lt _ _ _ _ _ _ (c .before .loop .inv (h .0) (h .1) (h .2)) (inside c (h .0) (h .1) (h .2)) (good (h .0) (h .1 .framed .stated) _ (h .2) .few)
 
-over : (c : tie.After-loop Inv-loop μ-loop) (p : Problem) → Ready p (now (c .before .before .before .args .numbers)) (now (c .before .before .before .args .supports)) → c .before .before .before .args .k < length (p .constraints) → length (constraintAt p (c .before .before .before .args .k) .scope) ≤ c .before .loop .i
+over : (c : tie.After-loop Inv-loop μ-loop) (p : Problem) → Ready p (now (c .before .before .before .args .numbers)) (now (c .before .before .before .args .supports))
+    → c .before .before .before .args .k < length (p .constraints) → length (constraintAt p (c .before .before .before .args .k) .scope) ≤ c .before .loop .i
 over c p r h = omega (arith, c .before .before .arity .ensures p (r .framed) h, c .loop-test .left)
 
 place : (c : tie.After-loop Inv-loop μ-loop) → 256 * c .before .before .before .args .k + c .before .loop .key / 16 < SUPPORTS
 place c = let h = c .before .before .before .pre in looked-place (h .0) _ _ (h .1) _ (h .2) _ _ _ _ _ (c .before .loop .inv (h .0) (h .1) (h .2)) (over c (h .0) (h .1) (h .2))
 
--- src/forbidden.rt:104:35
 scope-at-requires : tie.Need-scope-at-requires Inv-loop μ-loop
 scope-at-requires c κs = let h = c .before .before .before .pre in (h .0, h .1 .framed, h .2, inside c (h .0) (h .1) (h .2))
 
--- src/forbidden.rt:104:13
 value-in-requires : tie.Need-value-in-requires Inv-loop μ-loop
 value-in-requires c κs = tt
 
--- src/forbidden.rt:106:13
 returns : tie.Need-returns Inv-loop μ-loop
-returns c = λ p r h. looked-stop _ _ _ _ _ _ (c .before .before .before .before .loop .inv p r h) _ _ (inside (c .before .before .before) p r h) (c .before .before .scope-at .ensures p (r .framed) h (inside (c .before .before .before) p r h)) (c .before .value-in .ensures) (c .if1 .taken)
+returns c = λ p r h. looked-stop _ _ _ _ _ _ (c .before .before .before .before .loop .inv p r h) _ _ (inside (c .before .before .before) p r h)
+    (c .before .before .scope-at .ensures p (r .framed) h (inside (c .before .before .before) p r h)) (c .before .value-in .ensures) (c .if1 .taken)
 
--- src/forbidden.rt:108:15
 mul-key : tie.Need-mul-key Inv-loop μ-loop
 mul-key c = omega (arith, small (c .before .before .before))
 
--- src/forbidden.rt:108:15
 add-key : tie.Need-add-key Inv-loop μ-loop
 add-key c = omega (arith, small (c .before .before .before), c .if1 .left)
 
--- src/forbidden.rt:109:9
 add-i : tie.Need-add-i Inv-loop μ-loop
 add-i c = omega (arith, few (c .before .before .before))
 
--- src/forbidden.rt:103:5
 loop-less : tie.Need-loop-less Inv-loop μ-loop
 loop-less c = omega arith
 
--- src/forbidden.rt:103:5
 loop-again : tie.Need-loop-again Inv-loop μ-loop
-loop-again c = λ p r h. looked-more _ _ _ _ _ _ (c .before .before .before .before .loop .inv p r h) _ _ (inside (c .before .before .before) p r h) (c .before .before .scope-at .ensures p (r .framed) h (inside (c .before .before .before) p r h)) (c .before .value-in .ensures) (c .if1 .left)
+loop-again c = λ p r h. looked-more _ _ _ _ _ _ (c .before .before .before .before .loop .inv p r h) _ _ (inside (c .before .before .before) p r h)
+    (c .before .before .scope-at .ensures p (r .framed) h (inside (c .before .before .before) p r h)) (c .before .value-in .ensures) (c .if1 .left)
 
--- src/forbidden.rt:111:24
 mul-support : tie.Need-mul-support Inv-loop μ-loop
 mul-support c = omega (arith, place c)
 
--- src/forbidden.rt:111:24
 add-support : tie.Need-add-support Inv-loop μ-loop
 add-support c = omega (arith, place c)
 
--- src/forbidden.rt:111:6
 support-requires : tie.Need-support-requires Inv-loop μ-loop
 support-requires c κs = place c
 
@@ -106,21 +83,5 @@ pub refused-spec : {M : Type 1} → statement M
 refused-spec =
     tie.close
     (tie.spec
-    Inv-loop
-    μ-loop
-    arity-requires
-    loop-holds
-    scope-at-requires
-    value-in-requires
-    returns
-    mul-key
-    add-key
-    add-i
-    loop-less
-    loop-again
-    mul-support
-    add-support
-    support-requires
-    cast-contains
-    contains-requires
-    returns-2)
+    Inv-loop μ-loop arity-requires loop-holds scope-at-requires value-in-requires returns mul-key add-key add-i loop-less loop-again mul-support add-support
+    support-requires cast-contains contains-requires returns-2)

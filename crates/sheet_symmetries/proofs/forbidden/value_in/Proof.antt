@@ -1,22 +1,16 @@
-use borrow.Author.Tests.{eq-eqb, ne-eqb}
+use Rattle.model.specs.Kit.{eq-eqb, ne-eqb}
 use Rattle.sheet_symmetries.proofs.forbidden.value_in.Statement.{statement}
 use Rattle.sheet_symmetries.proofs.forbidden.value_in.Tie as tie
-use Rattle.sheet_symmetries.proofs.forbidden.value_in.Reads as reads
-use Rattle.sheet_symmetries.proofs.forbidden.value_in.Lts as lts
 
--- src/forbidden.rt:77:9
 returns : tie.Need-returns
 returns c = rw (eq-eqb _ _ (c .if1 .taken))
 
--- src/forbidden.rt:80:9
 returns-2 : tie.Need-returns-2
 returns-2 c = rw (ne-eqb _ _ (c .before .if1 .left), eq-eqb _ _ (c .if2 .taken))
 
--- src/forbidden.rt:83:9
 returns-3 : tie.Need-returns-3
 returns-3 c = rw (ne-eqb _ _ (c .before .before .if1 .left), ne-eqb _ _ (c .before .if2 .left), eq-eqb _ _ (c .if3 .taken))
 
--- src/forbidden.rt:73:1
 returns-4 : tie.Need-returns-4
 returns-4 c = rw (ne-eqb _ _ (c .before .before .if1 .left), ne-eqb _ _ (c .before .if2 .left), ne-eqb _ _ (c .if3 .left))
 

@@ -1,17 +1,8 @@
-use Prim.Native.Nat.{_+_, _-_, _≤_, _<_}
-use native.Mathlib.Omega.{arith}
-use borrow.Author.Needs.{needs}
-use denote.Ref.{now}
+use Rattle.model.specs.Kit.{_+_, _-_, _≤_, _<_, arith, needs, now}
 use Rattle.model.specs.Problem.{Problem}
-use Rattle.sheet_symmetries.specs.Table.{Framed}
-use Rattle.sheet_symmetries.specs.Forbidden.{Coded, Back, Blank}
-use Rattle.sheet_symmetries.proofs.Targets.{Moving, blank-moves, moving-none, moving-more, moved-all}
-use Rattle.sheet_symmetries.proofs.moves.targets.Statement.{statement}
+use Rattle.sheet_symmetries.specs.{inner.Table.Framed, inner.Forbidden.Coded, inner.Forbidden.Back, inner.Forbidden.Blank}
+use Rattle.sheet_symmetries.proofs.{Targets.Moving, Targets.blank-moves, Targets.moving-none, Targets.moving-more, Targets.moved-all, moves.targets.Statement.statement}
 use Rattle.sheet_symmetries.proofs.moves.targets.Tie as tie
-use Rattle.sheet_symmetries.proofs.moves.targets.Reads as reads
-use Rattle.sheet_symmetries.proofs.moves.targets.Lts as lts
-use Rattle.sheet_symmetries.proofs.moves.goes_to.Reads as goes-to-reads
-use Rattle.sheet_symmetries.proofs.table.number.Reads as number-reads
 
 abbrev Inv-loop : tie.InvT-loop
 Inv-loop numbers codes moves₀ n x₀ moves x =
@@ -20,11 +11,9 @@ Inv-loop numbers codes moves₀ n x₀ moves x =
 abbrev μ-loop : tie.MeasureT-loop
 μ-loop numbers codes moves₀ n x₀ moves x = n - x
 
--- src/moves.rt:47:9
 number-requires : tie.Need-number-requires Inv-loop μ-loop
 number-requires c κs = search needs
 
--- src/moves.rt:49:5
 loop-holds : tie.Need-loop-holds Inv-loop μ-loop
 loop-holds c = (c .before .pre .1, λ p f d b. (omega arith, moving-none p (f .stated) _ _ b))
 
@@ -34,31 +23,24 @@ inside c p f = omega (arith, c .before .before .number .ensures, f .numbered .va
 small : (c : tie.In-loop Inv-loop μ-loop) → 192 + c .before .loop .x < 256
 small c = let h = c .before .before .before .pre .0 in omega (arith, inside c (h .0) (h .1), h .1 .stated .few)
 
--- src/moves.rt:50:25
 goes-to-requires : tie.Need-goes-to-requires Inv-loop μ-loop
 goes-to-requires c κs = let h = c .before .before .before .pre .0 in (h .0, h .1, inside c (h .0) (h .1))
 
--- src/moves.rt:50:25
 cast-moves : tie.Need-cast-moves Inv-loop μ-loop
 cast-moves c = omega (arith, c .goes-to .ensures .0)
 
--- src/moves.rt:50:15
 add-moves : tie.Need-add-moves Inv-loop μ-loop
 add-moves c = omega (arith, small (c .before))
 
--- src/moves.rt:50:9
 element-write-moves : tie.Need-element-write-moves Inv-loop μ-loop
 element-write-moves c = omega (arith, small (c .before))
 
--- src/moves.rt:51:9
 add-x : tie.Need-add-x Inv-loop μ-loop
 add-x c = omega (arith, small (c .before))
 
--- src/moves.rt:49:5
 loop-less : tie.Need-loop-less Inv-loop μ-loop
 loop-less c = omega arith
 
--- src/moves.rt:49:5
 loop-again : tie.Need-loop-again Inv-loop μ-loop
 loop-again c =
     let b = c .before in
@@ -70,7 +52,6 @@ loop-again c =
       ),
     )
 
--- src/moves.rt:43:1
 returns : tie.Need-returns Inv-loop μ-loop
 returns c =
     let i = c .before .loop .inv in
@@ -80,15 +61,4 @@ pub targets-spec : {M : Type 1} → statement M
 targets-spec =
     tie.close
     (tie.spec
-    Inv-loop
-    μ-loop
-    number-requires
-    loop-holds
-    goes-to-requires
-    cast-moves
-    add-moves
-    element-write-moves
-    add-x
-    loop-less
-    loop-again
-    returns)
+    Inv-loop μ-loop number-requires loop-holds goes-to-requires cast-moves add-moves element-write-moves add-x loop-less loop-again returns)

@@ -1,24 +1,11 @@
-use mathlib.Core.Path.{sym, ap, _∙_, subst}
-use mathlib.Core.Logic.{⊎-elim}
-use Prim.Native.Nat.{ℕ, _+_, _-_, _*_, _^_, _≤_, _<_}
-use native.Mathlib.Omega.{arith}
-use denote.Ref.{now}
-use borrow.Author.Tests.{not-true, not-false}
-use Rattle.model.specs.declared.ValueSet.{ValueSet}
-use Rattle.model.specs.ValueSets.{onlyMask, unionMask}
+use Rattle.model.specs.Kit.{sym, ap, _∙_, subst, ⊎-elim, ℕ, _+_, _-_, _*_, _^_, _≤_, _<_, arith, now, not-true, not-false}
+use Rattle.model.specs.{declared.ValueSet.ValueSet, ValueSets.onlyMask, ValueSets.unionMask}
 use Rattle.model.proofs.Sets.{mask-lt}
-use Rattle.sheet_symmetries.specs.Forbidden.{Lacking}
+use Rattle.sheet_symmetries.specs.inner.Forbidden.{Lacking}
 use Rattle.sheet_symmetries.proofs.Surely.{lacking-place, lacking-none, lacking-same, lacking-more, lacking-all}
 use Rattle.sheet_symmetries.proofs.sure.lacking.Statement.{statement}
+use Rattle.arrays.specs.inner.Places.{SUPPORTS}
 use Rattle.sheet_symmetries.proofs.sure.lacking.Tie as tie
-use Rattle.sheet_symmetries.proofs.sure.lacking.Reads as reads
-use Rattle.sheet_symmetries.proofs.sure.lacking.Lts as lts
-use Rattle.model.proofs.ValueSet.contains.Reads as contains-reads
-use Rattle.model.proofs.ValueSet.full.Reads as full-reads
-use Rattle.model.proofs.ValueSet.only.Reads as only-reads
-use Rattle.model.proofs.ValueSet.union.Reads as union-reads
-use Rattle.arrays.specs.Places.{SUPPORTS}
-use Rattle.sheet_symmetries.proofs.forbidden.support.Reads as support-reads
 
 abbrev Inv-loop : tie.InvT-loop
 Inv-loop supports base step w set₀ v₀ set v = (v ≤ 16) × (set .bits < 2 ^ 16) × Lacking supports base step w v (set .bits)
@@ -26,68 +13,58 @@ Inv-loop supports base step w set₀ v₀ set v = (v ≤ 16) × (set .bits < 2 ^
 abbrev μ-loop : tie.MeasureT-loop
 μ-loop supports base step w set₀ v₀ set v = 16 - v
 
--- src/sure.rt:22:5
 loop-holds : tie.Need-loop-holds Inv-loop μ-loop
 loop-holds c = (omega arith, omega arith, lacking-none _ _ _ _)
 
 place : (c : tie.In-loop Inv-loop μ-loop) → c .before .before .args .base + c .before .before .args .step * c .before .loop .v < SUPPORTS
 place c = lacking-place _ _ _ (c .before .before .pre .0) (c .loop-test .taken)
 
--- src/sure.rt:23:38
 mul-support : tie.Need-mul-support Inv-loop μ-loop
 mul-support c = omega (arith, place c)
 
--- src/sure.rt:23:31
 add-support : tie.Need-add-support Inv-loop μ-loop
 add-support c = omega (arith, place c)
 
--- src/sure.rt:23:13
 support-requires : tie.Need-support-requires Inv-loop μ-loop
 support-requires c κs = place c
 
--- src/sure.rt:23:13
 contains-requires : tie.Need-contains-requires Inv-loop μ-loop
 contains-requires c κs = tt
 
--- src/sure.rt:24:29
 full-requires : tie.Need-full-requires Inv-loop μ-loop
 full-requires c κs = tt
 
--- src/sure.rt:24:53
 cast-only : tie.Need-cast-only Inv-loop μ-loop
 cast-only c = omega arith
 
--- src/sure.rt:24:29
 only-requires : tie.Need-only-requires Inv-loop μ-loop
 only-requires c κs = tt
 
--- src/sure.rt:24:13
 union-requires : tie.Need-union-requires Inv-loop μ-loop
 union-requires c κs = tt
 
--- src/sure.rt:26:9
 add-v : tie.Need-add-v Inv-loop μ-loop
 add-v c = omega arith
 
--- src/sure.rt:22:5
 loop-less : tie.Need-loop-less Inv-loop μ-loop
 loop-less c = omega arith
 
--- src/sure.rt:22:5
 loop-again : tie.Need-loop-again Inv-loop μ-loop
 loop-again c =
     let i = c .before .before .before .before .loop .inv in
     let l = c .before .before .before .loop-test .taken in
     let h = c .before .contains .ensures in
-    let r = ⊎-elim {C = (c .if1 .set .bits < 2 ^ 16) × Lacking (now (c .before .before .before .before .before .args .supports)) (c .before .before .before .before .before .args .base) (c .before .before .before .before .before .args .step) (c .before .before .before .before .before .args .w) (c .before .before .before .before .loop .v + 1) (c .if1 .set .bits)}
-    (λ u. let q = ap (λ (s : ValueSet). s .bits) (u .4) ∙ u .3 .ensures ∙ ap (unionMask (c .before .before .before .before .loop .set .bits)) (u .2 .ensures ∙ ap (λ (f : ℕ). onlyMask f (c .before .before .before .before .loop .v)) (u .1 .ensures)) in
+    let r = ⊎-elim {C = (c .if1 .set .bits < 2 ^ 16) × Lacking (now (c .before .before .before .before .before .args .supports)) (c .before .before .before .before .before .args .base)
+    (c .before .before .before .before .before .args .step) (c .before .before .before .before .before .args .w) (c .before .before .before .before .loop .v + 1) (c .if1 .set .bits)}
+    (λ u. let q = ap (λ (s : ValueSet). s .bits) (u .4) ∙ u .3 .ensures ∙ ap (unionMask (c .before .before .before .before .loop .set .bits))
+    (u .2 .ensures ∙ ap (λ (f : ℕ). onlyMask f (c .before .before .before .before .loop .v)) (u .1 .ensures)) in
     (subst (λ (s : ℕ). s < 2 ^ 16) (sym q) (mask-lt 16 _), lacking-more _ _ _ _ _ _ _ (i .2) (c .before .before .support .ensures) _ (i .1) l q (sym h ∙ not-true _ (u .0 .taken))))
-    (λ u. subst (λ (s : ValueSet). (s .bits < 2 ^ 16) × Lacking (now (c .before .before .before .before .before .args .supports)) (c .before .before .before .before .before .args .base) (c .before .before .before .before .before .args .step) (c .before .before .before .before .before .args .w) (c .before .before .before .before .loop .v + 1) (s .bits)) (sym (u .1))
+    (λ u. subst (λ (s : ValueSet). (s .bits < 2 ^ 16) × Lacking (now (c .before .before .before .before .before .args .supports)) (c .before .before .before .before .before .args .base)
+    (c .before .before .before .before .before .args .step) (c .before .before .before .before .before .args .w) (c .before .before .before .before .loop .v + 1) (s .bits)) (sym (u .1))
     (i .1, lacking-same _ _ _ _ _ _ _ (i .2) (c .before .before .support .ensures) (sym h ∙ not-false _ (u .0 .left))))
     (c .if1 .came) in
     (omega arith, r .0, r .1)
 
--- src/sure.rt:16:1
 returns : tie.Need-returns Inv-loop μ-loop
 returns c = lacking-all _ _ _ _ _ _ (c .loop-test .left) (c .before .loop .inv .0) (c .before .loop .inv .2)
 
@@ -95,18 +72,5 @@ pub lacking-spec : {M : Type 1} → statement M
 lacking-spec =
     tie.close
     (tie.spec
-    Inv-loop
-    μ-loop
-    loop-holds
-    mul-support
-    add-support
-    support-requires
-    contains-requires
-    full-requires
-    cast-only
-    only-requires
-    union-requires
-    add-v
-    loop-less
-    loop-again
-    returns)
+    Inv-loop μ-loop loop-holds mul-support add-support support-requires contains-requires full-requires cast-only only-requires union-requires add-v loop-less
+    loop-again returns)

@@ -1,31 +1,12 @@
-use mathlib.Core.Logic.{⊎-elim}
-use mathlib.Core.Path.{_≡_, refl, sym, ap, _∙_, subst}
-use Prim.Native.Nat.{ℕ, _+_, _-_, _*_, _%_, _≤_, _<_}
+use Rattle.model.specs.Kit.{⊎-elim, _≡_, refl, sym, ap, _∙_, subst, ℕ, _+_, _-_, _*_, _%_, _≤_, _<_, arith, needs, not-true, not-false, now, length, length-set}
 use native.Mathlib.Nat.{mod-lt}
-use native.Mathlib.Omega.{arith}
-use borrow.Author.Needs.{needs}
-use borrow.Author.Tests.{not-true, not-false}
-use denote.Ref.{now}
-use lib.ListN.{length, length-set}
-use Rattle.model.specs.Lists.{at}
-use Rattle.model.specs.Problem.{Problem}
+use Rattle.model.specs.{Lists.at, Problem.Problem}
 use Rattle.model.proofs.Lists.{T-of, at-replicate}
-use Rattle.sheet_symmetries.specs.Table.{TableAt, tableOf}
-use Rattle.sheet_symmetries.specs.Forbidden.{Blank}
-use Rattle.sheet_symmetries.specs.Scan.{Seen, DrawnTo}
-use Rattle.sheet_symmetries.proofs.Codes.{isPair-lt}
-use Rattle.sheet_symmetries.proofs.Frames.{size-lt, size-is}
-use Rattle.sheet_symmetries.proofs.Scans.{seen-none, seen-all, read-out, read-twice, read-moved, read-same, read-more, number-lt, table-length, table-small}
-use Rattle.sheet_symmetries.proofs.Scans.{drawn-none, drawn-same, read-drawn, drawn-no, drawn-yes}
-use Rattle.sheet_symmetries.proofs.Targets.{blank-same, blank-moves, blank-codes}
-use Rattle.sheet_symmetries.proofs.table.decode.Statement.{statement}
+use Rattle.sheet_symmetries.specs.{inner.Table.TableAt, inner.Table.tableOf, inner.Forbidden.Blank, inner.Scan.Seen, inner.Scan.DrawnTo}
+use Rattle.sheet_symmetries.proofs.{Codes.isPair-lt, Frames.size-lt, Frames.size-is, Scans.seen-none, Scans.seen-all, Scans.read-out, Scans.read-twice, Scans.read-moved}
+use Rattle.sheet_symmetries.proofs.Scans.{read-same, read-more, number-lt, table-length, table-small, drawn-none, drawn-same, read-drawn, drawn-no, drawn-yes}
+use Rattle.sheet_symmetries.proofs.{Targets.blank-same, Targets.blank-moves, Targets.blank-codes, table.decode.Statement.statement}
 use Rattle.sheet_symmetries.proofs.table.decode.Tie as tie
-use Rattle.sheet_symmetries.proofs.table.decode.Reads as reads
-use Rattle.sheet_symmetries.proofs.table.decode.Lts as lts
-use Rattle.reader.proofs.read_word.Reads as read-word-reads
-use Rattle.sheet_symmetries.proofs.pair_code.Reads as pair-code-reads
-use Rattle.sheet_symmetries.proofs.table.is_pair.Reads as is-pair-reads
-use Rattle.sheet_symmetries.proofs.table.number.Reads as number-reads
 
 abbrev Inv-loop : tie.InvT-loop
 Inv-loop sheet offset numbers codes₀ moves₀ d count seen₀ q₀ codes moves seen q =
@@ -35,19 +16,15 @@ Inv-loop sheet offset numbers codes₀ moves₀ d count seen₀ q₀ codes moves
 abbrev μ-loop : tie.MeasureT-loop
 μ-loop sheet offset numbers codes₀ moves₀ d count seen₀ q₀ codes moves seen q = count - q
 
--- src/table.rt:67:9
 number-requires : tie.Need-number-requires Inv-loop μ-loop
 number-requires c κs = search needs
 
--- src/table.rt:68:17
 number-requires-2 : tie.Need-number-requires-2 Inv-loop μ-loop
 number-requires-2 c κs = search needs
 
--- src/table.rt:68:17
 mul-count : tie.Need-mul-count Inv-loop μ-loop
 mul-count c = let l = c .before .before .before .pre .0 in omega (arith, size-lt (l .0) _ (l .1 .framed) _ _ (c .number2 .ensures) (c .before .number .ensures))
 
--- src/table.rt:71:5
 loop-holds : tie.Need-loop-holds Inv-loop μ-loop
 loop-holds c = (c .before .before .before .pre .1, refl, λ p l. (omega arith, seen-none p _ _ (at-replicate 192), drawn-none p _ _ _))
 
@@ -89,27 +66,21 @@ image-in c p l = isPair-lt p (l .framed .stated) _ (T-of _ (sym (c .before .is-p
 image-small : (c : tie.Else2 Inv-loop μ-loop) → c .before .before .before .before .read-word .result < 192
 image-small c = let l = c .before .before .before .before .before .before .before .before .before .before .pre .0 in omega (arith, image-in c (l .0) (l .1), table-small (l .0) (l .1 .framed .stated))
 
--- src/table.rt:72:43
 mul-read-word : tie.Need-mul-read-word Inv-loop μ-loop
 mul-read-word c = omega (arith, small c)
 
--- src/table.rt:72:34
 add-read-word : tie.Need-add-read-word Inv-loop μ-loop
 add-read-word c = omega (arith, room c)
 
--- src/table.rt:72:13
 read-word-requires : tie.Need-read-word-requires Inv-loop μ-loop
 read-word-requires c κs = omega (arith, room c)
 
--- src/table.rt:73:12
 is-pair-requires : tie.Need-is-pair-requires Inv-loop μ-loop
 is-pair-requires c κs = let l = c .before .before .before .before .before .before .pre .0 in (l .0, l .1 .framed)
 
--- src/table.rt:74:17
 is-pair-requires-2 : tie.Need-is-pair-requires-2 Inv-loop μ-loop
 is-pair-requires-2 c κs = let l = c .before .before .before .before .before .before .before .before .pre .0 in (l .0, l .1 .framed)
 
--- src/table.rt:75:17
 returns : tie.Need-returns Inv-loop μ-loop
 returns c =
     let b = c .before .before .before .before .before in
@@ -120,11 +91,9 @@ returns c =
           (sym (c .before .before .before .is-pair .ensures p (l .framed)) ∙ c .before .before .if1 .taken) (sym (c .before .is-pair2 .ensures p (l .framed)) ∙ not-true _ (c .if2 .taken)));
     }
 
--- src/table.rt:77:16
 array-read-if3 : tie.Need-array-read-if3 Inv-loop μ-loop
 array-read-if3 c = image-small c
 
--- src/table.rt:78:17
 returns-2 : tie.Need-returns-2 Inv-loop μ-loop
 unfolding at
 returns-2 c =
@@ -132,39 +101,30 @@ returns-2 c =
     let b = r .before in
     record { room = b .before .loop .inv .0; drawn = λ p l. drawn-no p _ _ _ (read-twice p _ _ _ _ _ (b .before .loop .inv .2 p l .1) (inside b p l) (r .read-word .ensures) (c .if3 .taken)) }
 
--- src/table.rt:80:13
 array-write-seen : tie.Need-array-write-seen Inv-loop μ-loop
 array-write-seen c = image-small (c .before)
 
--- src/table.rt:81:17
 pair-code-requires : tie.Need-pair-code-requires Inv-loop μ-loop
 pair-code-requires c κs = coded (c .before .before .before .before .before .before) _ (image-in (c .before))
 
--- src/table.rt:82:38
 cast-codes : tie.Need-cast-codes Inv-loop μ-loop
 cast-codes c = omega (arith, c .pair-code .ensures .1)
 
--- src/table.rt:82:19
 pair-code-requires-2 : tie.Need-pair-code-requires-2 Inv-loop μ-loop
 pair-code-requires-2 c κs = coded (c .before .before .before .before .before .before .before) _ (inside (c .before .before .before .before .before .before .before))
 
--- src/table.rt:82:13
 element-write-codes : tie.Need-element-write-codes Inv-loop μ-loop
 element-write-codes c = omega (arith, c .pair-code2 .ensures .1)
 
--- src/table.rt:83:25
 rem-moves : tie.Need-rem-moves Inv-loop μ-loop
 rem-moves c = omega (arith, value (c .before .before .before .before .before .before .before .before) .0)
 
--- src/table.rt:83:24
 cast-moves : tie.Need-cast-moves Inv-loop μ-loop
 cast-moves c = omega (arith, value (c .before .before .before .before .before .before .before .before) .1)
 
--- src/table.rt:83:13
 element-write-moves : tie.Need-element-write-moves Inv-loop μ-loop
 element-write-moves c = omega (arith, c .before .pair-code .ensures .1)
 
--- src/table.rt:86:17
 returns-3 : tie.Need-returns-3 Inv-loop μ-loop
 returns-3 c =
     let b = c .before .before .before .before in
@@ -175,15 +135,12 @@ returns-3 c =
           (sym (c .before .before .is-pair .ensures p (l .framed)) ∙ c .before .if1 .left) (c .if4 .taken));
     }
 
--- src/table.rt:89:9
 add-q : tie.Need-add-q Inv-loop μ-loop
 add-q c = omega (arith, small (c .before .before .before))
 
--- src/table.rt:71:5
 loop-less : tie.Need-loop-less Inv-loop μ-loop
 loop-less c = omega arith
 
--- src/table.rt:71:5
 loop-again : tie.Need-loop-again Inv-loop μ-loop
 unfolding at
 loop-again c =
@@ -217,7 +174,6 @@ loop-again c =
 over : (c : tie.After-loop Inv-loop μ-loop) (p : Problem) → At (c .before .before .before .before .before) p → c .before .loop .q ≡ p .variables * p .values
 over c p l = omega (arith, size-is p _ (l .framed) _ _ (c .before .before .number2 .ensures) (c .before .before .before .number .ensures), c .loop-test .left, c .before .loop .inv .2 p l .0)
 
--- src/table.rt:57:1
 returns-4 : tie.Need-returns-4 Inv-loop μ-loop
 returns-4 c =
     let i = c .before .loop .inv in
@@ -231,30 +187,6 @@ pub decode-spec : {M : Type 1} → statement M
 decode-spec =
     tie.close
     (tie.spec
-    Inv-loop
-    μ-loop
-    number-requires
-    number-requires-2
-    mul-count
-    loop-holds
-    mul-read-word
-    add-read-word
-    read-word-requires
-    is-pair-requires
-    is-pair-requires-2
-    returns
-    array-read-if3
-    returns-2
-    array-write-seen
-    pair-code-requires
-    cast-codes
-    pair-code-requires-2
-    element-write-codes
-    rem-moves
-    cast-moves
-    element-write-moves
-    returns-3
-    add-q
-    loop-less
-    loop-again
-    returns-4)
+    Inv-loop μ-loop number-requires number-requires-2 mul-count loop-holds mul-read-word add-read-word read-word-requires is-pair-requires is-pair-requires-2
+    returns array-read-if3 returns-2 array-write-seen pair-code-requires cast-codes pair-code-requires-2 element-write-codes rem-moves cast-moves
+    element-write-moves returns-3 add-q loop-less loop-again returns-4)

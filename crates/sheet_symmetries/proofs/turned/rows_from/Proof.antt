@@ -1,17 +1,8 @@
-use mathlib.Core.Path.{sym, subst}
-use Prim.Native.Nat.{_<_}
-use native.Mathlib.Omega.{arith}
-use lib.Dec.{T}
-use denote.Ref.{now}
+use Rattle.model.specs.Kit.{sym, subst, _<_, arith, T, now, needs}
 use Rattle.model.specs.Problem.{Problem}
-use Rattle.sheet_symmetries.specs.Forbidden.{Three, Two}
-use Rattle.sheet_symmetries.proofs.Wholes.{three-in, whole-up, whole-down}
-use borrow.Author.Needs.{needs}
-use Rattle.sheet_symmetries.proofs.turned.rows_from.Statement.{statement}
+use Rattle.sheet_symmetries.specs.inner.Forbidden.{Three, Two}
+use Rattle.sheet_symmetries.proofs.{Wholes.three-in, Wholes.whole-up, Wholes.whole-down, turned.rows_from.Statement.statement}
 use Rattle.sheet_symmetries.proofs.turned.rows_from.Tie as tie
-use Rattle.sheet_symmetries.proofs.turned.rows_from.Reads as reads
-use Rattle.sheet_symmetries.proofs.turned.rows_from.Lts as lts
-use Rattle.sheet_symmetries.proofs.turned.seconds_from.Reads as seconds-from-reads
 
 ready : (s : tie.Start) (p : Problem) → Three p (now (s .args .numbers)) (now (s .args .supports)) (s .args .m) (s .args .x) (s .args .y) (s .args .z) →
     Two p (now (s .args .numbers)) (s .args .x) (s .args .z) × (s .args .y < p .variables)
@@ -20,35 +11,22 @@ ready s p h = let i = three-in p _ _ (now (s .args .moves)) _ (s .args .k) _ _ _
 room : (s : tie.Start) → s .args .m < 32
 room s = let h = s .pre .0 in omega (arith, h .1 .inside, h .1 .ready .framed .stated .most)
 
--- src/turned.rt:120:58
-mul-seconds-from : tie.Need-mul-seconds-from
-mul-seconds-from c = search needs
-
--- src/turned.rt:120:9
 seconds-from-requires : tie.Need-seconds-from-requires
 seconds-from-requires c κs = let s = c .before in let r = ready s (s .pre .0 .0) (s .pre .0 .1) in ((s .pre .0 .0, r .0, r .1), s .pre .1, omega (arith, room s), s .pre .4)
 
--- src/turned.rt:120:9
 returns : tie.Need-returns
 returns c =
     let s = c .before .before in
     λ q p h. let r = ready s p h in whole-up p _ _ _ _ _ _ _ _ h (s .pre .2) (s .pre .3) (c .before .if1 .taken) (c .seconds-from .ensures q p (r .0) (r .1))
 
--- src/turned.rt:123:58
-mul-seconds-from-2 : tie.Need-mul-seconds-from-2
-mul-seconds-from-2 c = search needs
-
--- src/turned.rt:123:9
 seconds-from-requires-2 : tie.Need-seconds-from-requires-2
 seconds-from-requires-2 c κs = let s = c .before .before in let r = ready s (s .pre .0 .0) (s .pre .0 .1) in ((s .pre .0 .0, r .0, r .1), s .pre .1, omega (arith, room s), s .pre .4)
 
--- src/turned.rt:123:9
 returns-2 : tie.Need-returns-2
 returns-2 c =
     let s = c .before .before .before in
     λ q p h. let r = ready s p h in whole-down p _ _ _ _ _ _ _ _ h (s .pre .2) (s .pre .3) (c .before .if2 .taken) (c .seconds-from2 .ensures q p (r .0) (r .1))
 
--- src/turned.rt:106:1
 returns-3 : tie.Need-returns-3
 returns-3 c = λ q. absurd (subst T (sym q) tt)
 
@@ -56,10 +34,4 @@ pub rows-from-spec : {M : Type 1} → statement M
 rows-from-spec =
     tie.close
     (tie.spec
-    mul-seconds-from
-    seconds-from-requires
-    returns
-    mul-seconds-from-2
-    seconds-from-requires-2
-    returns-2
-    returns-3)
+    (λ c. search needs) seconds-from-requires returns (λ c. search needs) seconds-from-requires-2 returns-2 returns-3)

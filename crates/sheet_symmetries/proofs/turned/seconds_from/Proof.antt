@@ -1,27 +1,11 @@
-use mathlib.Core.Path.{_≡_, sym, subst}
-use Prim.Native.Nat.{ℕ, _+_, _*_, _<_}
-use native.Mathlib.Omega.{arith}
-use lib.Dec.{T}
-use borrow.Author.Tests.{not-false}
-use denote.Ref.{now}
-use Rattle.model.specs.Lists.{at}
-use Rattle.model.specs.Problem.{Problem}
+use Rattle.model.specs.Kit.{_≡_, sym, subst, ℕ, _+_, _*_, _<_, arith, T, not-false, now}
+use Rattle.model.specs.{Lists.at, Problem.Problem}
 use Rattle.model.proofs.Lowest.{some-left, none-left}
-use Rattle.arrays.specs.Places.{SUPPORTS}
-use Rattle.sheet_symmetries.specs.Forbidden.{ThirdsFrom, Two}
-use Rattle.sheet_symmetries.proofs.Codes.{init-small}
-use Rattle.sheet_symmetries.proofs.Surely.{lacking-place}
-use Rattle.sheet_symmetries.proofs.Laws.{Swept, swept-none, swept-over, swept-small, swept-less, swept-rest}
+use Rattle.arrays.specs.inner.Places.{SUPPORTS}
+use Rattle.sheet_symmetries.specs.inner.Forbidden.{ThirdsFrom, Two}
+use Rattle.sheet_symmetries.proofs.{Codes.init-small, Surely.lacking-place, Laws.Swept, Laws.swept-none, Laws.swept-over, Laws.swept-small, Laws.swept-less, Laws.swept-rest}
 use Rattle.sheet_symmetries.proofs.turned.seconds_from.Statement.{statement}
 use Rattle.sheet_symmetries.proofs.turned.seconds_from.Tie as tie
-use Rattle.sheet_symmetries.proofs.turned.seconds_from.Reads as reads
-use Rattle.sheet_symmetries.proofs.turned.seconds_from.Lts as lts
-use Rattle.model.proofs.ValueSet.is_empty.Reads as is-empty-reads
-use Rattle.model.proofs.ValueSet.lowest.Reads as lowest-reads
-use Rattle.model.proofs.ValueSet.without_lowest.Reads as without-lowest-reads
-use Rattle.sheet_symmetries.proofs.moves.place.Reads as place-reads
-use Rattle.sheet_symmetries.proofs.table.initial.Reads as initial-reads
-use Rattle.sheet_symmetries.proofs.turned.thirds_from.Reads as thirds-from-reads
 
 abbrev Inv-loop : tie.InvT-loop
 Inv-loop numbers supports moves k base step third x y z rest₀ rest =
@@ -31,11 +15,9 @@ Inv-loop numbers supports moves k base step third x y z rest₀ rest =
 abbrev μ-loop : tie.MeasureT-loop
 μ-loop numbers supports moves k base step third x y z rest₀ rest = rest .bits
 
--- src/turned.rt:93:9
 initial-requires : tie.Need-initial-requires Inv-loop μ-loop
 initial-requires c κs = let h = c .pre .0 in (h .0, h .1 .0, h .2)
 
--- src/turned.rt:94:5
 loop-holds : tie.Need-loop-holds Inv-loop μ-loop
 loop-holds c = λ p h l. swept-none _ _ _ (c .initial .ensures p (h .0) l) (init-small p (h .0 .stated) _ l)
 
@@ -59,66 +41,51 @@ set-spot c =
     let s = c .before .before .before .before .before .before .before in
     omega (arith, lacking-place (s .args .base + 15 * s .args .third) (s .args .step) (c .before .before .lowest .result) (omega (arith, s .pre .2)) (low (c .before .before)))
 
--- src/turned.rt:94:12
 is-empty-requires : tie.Need-is-empty-requires Inv-loop μ-loop
 is-empty-requires c κs = tt
 
--- src/turned.rt:95:17
 lowest-requires : tie.Need-lowest-requires Inv-loop μ-loop
 lowest-requires c κs = tt
 
--- src/turned.rt:95:17
 cast-v : tie.Need-cast-v Inv-loop μ-loop
 cast-v c = omega (arith, low c)
 
--- src/turned.rt:96:9
 without-lowest-requires : tie.Need-without-lowest-requires Inv-loop μ-loop
 without-lowest-requires c κs = tt
 
--- src/turned.rt:97:20
 mul-from : tie.Need-mul-from Inv-loop μ-loop
 mul-from c = omega (arith, c .before .before .before .before .before .before .pre .1)
 
--- src/turned.rt:97:43
 mul-place : tie.Need-mul-place Inv-loop μ-loop
 mul-place c = omega (arith, spot c)
 
--- src/turned.rt:97:43
 add-place : tie.Need-add-place Inv-loop μ-loop
 add-place c = omega (arith, spot c)
 
--- src/turned.rt:97:30
 place-requires : tie.Need-place-requires Inv-loop μ-loop
 place-requires c κs = spot c
 
--- src/turned.rt:97:20
 add-from : tie.Need-add-from Inv-loop μ-loop
 add-from c = omega (arith, row c, c .before .before .before .before .before .before .before .pre .1)
 
--- src/turned.rt:98:64
 mul-thirds-from : tie.Need-mul-thirds-from Inv-loop μ-loop
 mul-thirds-from c = omega (arith, set-spot c)
 
--- src/turned.rt:98:57
 add-thirds-from : tie.Need-add-thirds-from Inv-loop μ-loop
 add-thirds-from c = omega (arith, set-spot c)
 
--- src/turned.rt:98:13
 thirds-from-requires : tie.Need-thirds-from-requires Inv-loop μ-loop
 thirds-from-requires c κs = let h = c .before .before .before .before .before .before .before .pre in ((h .0 .0, h .0 .1), omega (arith, row c, h .1), set-spot c, h .3)
 
--- src/turned.rt:99:13
 returns : tie.Need-returns Inv-loop μ-loop
 returns c = λ q. absurd (subst T (sym q) tt)
 
--- src/turned.rt:94:5
 loop-less : tie.Need-loop-less Inv-loop μ-loop
 loop-less c =
     let d = c .before .before .before in
     let h = d .before .before .before .before .before .before .pre .0 in
     swept-less _ _ (d .before .before .before .before .loop .inv (h .0) (h .1) (h .2)) (some (d .before .before)) _ (d .before .lowest .ensures) _ (d .without-lowest .ensures)
 
--- src/turned.rt:94:5
 loop-again : tie.Need-loop-again Inv-loop μ-loop
 loop-again c =
     λ p h l.
@@ -129,7 +96,6 @@ loop-again c =
     (c .before .before .place .ensures .0)
     (c .before .thirds-from .ensures (not-false _ (c .if2 .left)) p h))
 
--- src/turned.rt:78:1
 returns-2 : tie.Need-returns-2 Inv-loop μ-loop
 returns-2 c = λ q p h l. swept-over _ _ (c .before .before .loop .inv p h l) (none-left _ _ (c .before .is-empty .ensures) (c .if1 .left))
 
@@ -137,23 +103,5 @@ pub seconds-from-spec : {M : Type 1} → statement M
 seconds-from-spec =
     tie.close
     (tie.spec
-    Inv-loop
-    μ-loop
-    initial-requires
-    loop-holds
-    is-empty-requires
-    lowest-requires
-    cast-v
-    without-lowest-requires
-    mul-from
-    mul-place
-    add-place
-    place-requires
-    add-from
-    mul-thirds-from
-    add-thirds-from
-    thirds-from-requires
-    returns
-    loop-less
-    loop-again
-    returns-2)
+    Inv-loop μ-loop initial-requires loop-holds is-empty-requires lowest-requires cast-v without-lowest-requires mul-from mul-place add-place place-requires
+    add-from mul-thirds-from add-thirds-from thirds-from-requires returns loop-less loop-again returns-2)

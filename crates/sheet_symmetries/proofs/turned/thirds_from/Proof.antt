@@ -1,30 +1,11 @@
-use mathlib.Core.Path.{_≡_, sym, subst}
-use Prim.Native.Nat.{ℕ, _+_, _*_, _^_, _<_}
-use native.Mathlib.Omega.{arith}
-use lib.Dec.{T}
-use borrow.Author.Tests.{not-false}
-use Rattle.model.specs.Lists.{at}
-use Rattle.model.specs.Problem.{Problem}
-use Rattle.model.proofs.Sets.{mask-lt}
-use Rattle.model.proofs.Lowest.{some-left, none-left}
-use Rattle.arrays.specs.Places.{SUPPORTS}
-use Rattle.sheet_symmetries.specs.Forbidden.{FirstsFrom, Two}
-use Rattle.sheet_symmetries.proofs.Codes.{init-small}
-use Rattle.sheet_symmetries.proofs.Surely.{lacking-place}
-use Rattle.sheet_symmetries.proofs.Wholes.{firsts-from}
-use Rattle.sheet_symmetries.proofs.Laws.{Swept, swept-none, swept-over, swept-small, swept-less, swept-rest}
-use Rattle.sheet_symmetries.proofs.turned.thirds_from.Statement.{statement}
+use Rattle.model.specs.Kit.{_≡_, sym, subst, ℕ, _+_, _*_, _^_, _<_, arith, T, not-false}
+use Rattle.model.specs.{Lists.at, Problem.Problem}
+use Rattle.model.proofs.{Sets.mask-lt, Lowest.some-left, Lowest.none-left}
+use Rattle.arrays.specs.inner.Places.{SUPPORTS}
+use Rattle.sheet_symmetries.specs.inner.Forbidden.{FirstsFrom, Two}
+use Rattle.sheet_symmetries.proofs.{Codes.init-small, Surely.lacking-place, Wholes.firsts-from, Laws.Swept, Laws.swept-none, Laws.swept-over, Laws.swept-small}
+use Rattle.sheet_symmetries.proofs.{Laws.swept-less, Laws.swept-rest, turned.thirds_from.Statement.statement}
 use Rattle.sheet_symmetries.proofs.turned.thirds_from.Tie as tie
-use Rattle.sheet_symmetries.proofs.turned.thirds_from.Reads as reads
-use Rattle.sheet_symmetries.proofs.turned.thirds_from.Lts as lts
-use Rattle.model.proofs.ValueSet.common.Reads as common-reads
-use Rattle.model.proofs.ValueSet.is_empty.Reads as is-empty-reads
-use Rattle.model.proofs.ValueSet.lowest.Reads as lowest-reads
-use Rattle.model.proofs.ValueSet.without_lowest.Reads as without-lowest-reads
-use Rattle.sheet_symmetries.proofs.forbidden.support.Reads as support-reads
-use Rattle.sheet_symmetries.proofs.moves.place.Reads as place-reads
-use Rattle.sheet_symmetries.proofs.table.initial.Reads as initial-reads
-use Rattle.sheet_symmetries.proofs.turned.firsts_from.Reads as firsts-from-reads
 
 abbrev Inv-loop : tie.InvT-loop
 Inv-loop numbers supports moves from base step x z first rest₀ rest =
@@ -33,15 +14,12 @@ Inv-loop numbers supports moves from base step x z first rest₀ rest =
 abbrev μ-loop : tie.MeasureT-loop
 μ-loop numbers supports moves from base step x z first rest₀ rest = rest .bits
 
--- src/turned.rt:64:9
 initial-requires : tie.Need-initial-requires Inv-loop μ-loop
 initial-requires c κs = let h = c .pre .0 in (h .0, h .1 .0, h .1 .1)
 
--- src/turned.rt:65:9
 initial-requires-2 : tie.Need-initial-requires-2 Inv-loop μ-loop
 initial-requires-2 c κs = let h = c .before .pre .0 in (h .0, h .1 .0, h .1 .2)
 
--- src/turned.rt:66:5
 loop-holds : tie.Need-loop-holds Inv-loop μ-loop
 loop-holds c = λ p h. swept-none _ _ _ (c .initial2 .ensures p (h .0) (h .2)) (init-small p (h .0 .stated) _ (h .2))
 
@@ -60,51 +38,39 @@ set-spot c = lacking-place _ _ _ (c .before .before .before .before .before .bef
 spot : (c : tie.After-common Inv-loop μ-loop) → 16 * c .before .before .before .before .before .before .before .before .before .args .z + c .before .before .before .lowest .result < 256
 spot c = let h = c .before .before .before .before .before .before .before .before .before .pre .0 in omega (arith, h .1 .2, h .1 .0 .stated .few, low (c .before .before .before))
 
--- src/turned.rt:66:12
 is-empty-requires : tie.Need-is-empty-requires Inv-loop μ-loop
 is-empty-requires c κs = tt
 
--- src/turned.rt:67:17
 lowest-requires : tie.Need-lowest-requires Inv-loop μ-loop
 lowest-requires c κs = tt
 
--- src/turned.rt:67:17
 cast-u : tie.Need-cast-u Inv-loop μ-loop
 cast-u c = omega (arith, low c)
 
--- src/turned.rt:68:9
 without-lowest-requires : tie.Need-without-lowest-requires Inv-loop μ-loop
 without-lowest-requires c κs = tt
 
--- src/turned.rt:69:57
 mul-support : tie.Need-mul-support Inv-loop μ-loop
 mul-support c = omega (arith, set-spot c)
 
--- src/turned.rt:69:50
 add-support : tie.Need-add-support Inv-loop μ-loop
 add-support c = omega (arith, set-spot c)
 
--- src/turned.rt:69:32
 support-requires : tie.Need-support-requires Inv-loop μ-loop
 support-requires c κs = set-spot c
 
--- src/turned.rt:69:13
 common-requires : tie.Need-common-requires Inv-loop μ-loop
 common-requires c κs = tt
 
--- src/turned.rt:70:69
 mul-place : tie.Need-mul-place Inv-loop μ-loop
 mul-place c = omega (arith, spot c)
 
--- src/turned.rt:70:69
 add-place : tie.Need-add-place Inv-loop μ-loop
 add-place c = omega (arith, spot c)
 
--- src/turned.rt:70:56
 place-requires : tie.Need-place-requires Inv-loop μ-loop
 place-requires c κs = spot c
 
--- src/turned.rt:70:13
 firsts-from-requires : tie.Need-firsts-from-requires Inv-loop μ-loop
 firsts-from-requires c κs =
     let s = c .before .before .before .before .before .before .before .before .before .before in
@@ -116,18 +82,15 @@ firsts-from-requires c κs =
       h .3,
     )
 
--- src/turned.rt:71:13
 returns : tie.Need-returns Inv-loop μ-loop
 returns c = λ q. absurd (subst T (sym q) tt)
 
--- src/turned.rt:66:5
 loop-less : tie.Need-loop-less Inv-loop μ-loop
 loop-less c =
     let d = c .before .before .before .before .before in
     let h = d .before .before .before .before .before .before .before .pre .0 in
     swept-less _ _ (d .before .before .before .before .loop .inv (h .0) (h .1)) (some (d .before .before)) _ (d .before .lowest .ensures) _ (d .without-lowest .ensures)
 
--- src/turned.rt:66:5
 loop-again : tie.Need-loop-again Inv-loop μ-loop
 loop-again c =
     λ p h.
@@ -138,7 +101,6 @@ loop-again c =
     (firsts-from p (h .0 .stated) _ _ _ _ _ _ (h .1) _ _ _ (d .before .before .before .before .before .before .initial .ensures p (h .0) (h .1)) (e .before .support .ensures) (e .common .ensures)
     (c .before .firsts-from .ensures (not-false _ (c .if2 .left)))))
 
--- src/turned.rt:51:1
 returns-2 : tie.Need-returns-2 Inv-loop μ-loop
 returns-2 c = λ q p h. swept-over _ _ (c .before .before .loop .inv p h) (none-left _ _ (c .before .is-empty .ensures) (c .if1 .left))
 
@@ -146,24 +108,5 @@ pub thirds-from-spec : {M : Type 1} → statement M
 thirds-from-spec =
     tie.close
     (tie.spec
-    Inv-loop
-    μ-loop
-    initial-requires
-    initial-requires-2
-    loop-holds
-    is-empty-requires
-    lowest-requires
-    cast-u
-    without-lowest-requires
-    mul-support
-    add-support
-    support-requires
-    common-requires
-    mul-place
-    add-place
-    place-requires
-    firsts-from-requires
-    returns
-    loop-less
-    loop-again
-    returns-2)
+    Inv-loop μ-loop initial-requires initial-requires-2 loop-holds is-empty-requires lowest-requires cast-u without-lowest-requires mul-support add-support
+    support-requires common-requires mul-place add-place place-requires firsts-from-requires returns loop-less loop-again returns-2)

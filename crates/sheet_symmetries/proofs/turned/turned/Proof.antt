@@ -1,25 +1,8 @@
-use mathlib.Core.Path.{_≡_, sym, ap, ap₂, _∙_, subst}
-use mathlib.Core.List.{List}
-use Prim.Native.Nat.{ℕ, _+_, _<_}
-use native.Mathlib.Omega.{arith}
-use denote.Ref.{now}
-use lib.Bits.{bitAnd}
-use lib.Dec.{T}
-use Rattle.model.specs.Lists.{at}
-use Rattle.model.specs.Problem.{Problem}
-use Rattle.arrays.specs.Layout.{constraintAt}
-use Rattle.sheet_symmetries.specs.Forbidden.{Three, Whole}
-use Rattle.sheet_symmetries.proofs.Wholes.{three-of, three-in, whole-in, whole-kept}
-use borrow.Author.Needs.{needs}
-use Rattle.sheet_symmetries.proofs.turned.turned.Statement.{statement}
+use Rattle.model.specs.Kit.{_≡_, sym, ap, ap₂, _∙_, subst, List, ℕ, _+_, _<_, arith, now, bitAnd, T, needs}
+use Rattle.model.specs.{Lists.at, Problem.Problem, Problem.constraintAt}
+use Rattle.sheet_symmetries.specs.inner.Forbidden.{Three, Whole}
+use Rattle.sheet_symmetries.proofs.{Wholes.three-of, Wholes.three-in, Wholes.whole-in, Wholes.whole-kept, turned.turned.Statement.statement}
 use Rattle.sheet_symmetries.proofs.turned.turned.Tie as tie
-use Rattle.sheet_symmetries.proofs.turned.turned.Reads as reads
-use Rattle.sheet_symmetries.proofs.turned.turned.Lts as lts
-use Rattle.sheet_symmetries.proofs.carried.pick.Reads as pick-reads
-use Rattle.sheet_symmetries.proofs.forbidden.scope_at.Reads as scope-at-reads
-use Rattle.sheet_symmetries.proofs.moves.place.Reads as place-reads
-use Rattle.sheet_symmetries.proofs.table.number.Reads as number-reads
-use Rattle.sheet_symmetries.proofs.turned.rows_from.Reads as rows-from-reads
 
 abbrev At : tie.Start → Problem → List ℕ → Type 0
 At s p codes = Whole p (now (s .args .numbers)) (now (s .args .supports)) codes (now (s .args .moves)) (s .args .k)
@@ -68,71 +51,33 @@ three c p codes s =
     (small b _ _ (d .place3 .ensures .0)) _ _
     (ap₂ bitAnd (ap₂ bitAnd (c .before .before .before .before .number .ensures) (c .before .before .before .number2 .ensures)) (c .before .before .number3 .ensures)) (c .pick .ensures)
 
--- src/turned.rt:133:31
-scope-at-requires : tie.Need-scope-at-requires
-scope-at-requires c κs = search needs
-
--- src/turned.rt:133:26
 add-place : tie.Need-add-place
 add-place c = omega (arith, few (c .before) 0 _ (omega arith) (is-0 c))
 
--- src/turned.rt:133:9
 place-requires : tie.Need-place-requires
 place-requires c κs = omega (arith, few (c .before) 0 _ (omega arith) (is-0 c))
 
--- src/turned.rt:134:31
-scope-at-requires-2 : tie.Need-scope-at-requires-2
-scope-at-requires-2 c κs = search needs
-
--- src/turned.rt:134:26
 add-place-2 : tie.Need-add-place-2
 add-place-2 c = omega (arith, few (c .before .before .before) 1 _ (omega arith) (is-1 c))
 
--- src/turned.rt:134:9
 place-requires-2 : tie.Need-place-requires-2
 place-requires-2 c κs = omega (arith, few (c .before .before .before) 1 _ (omega arith) (is-1 c))
 
--- src/turned.rt:135:31
-scope-at-requires-3 : tie.Need-scope-at-requires-3
-scope-at-requires-3 c κs = search needs
-
--- src/turned.rt:135:26
 add-place-3 : tie.Need-add-place-3
 add-place-3 c = omega (arith, few (c .before .before .before .before .before) 2 _ (omega arith) (is-2 c))
 
--- src/turned.rt:135:9
 place-requires-3 : tie.Need-place-requires-3
 place-requires-3 c κs = omega (arith, few (c .before .before .before .before .before) 2 _ (omega arith) (is-2 c))
 
--- src/turned.rt:137:9
 returns : tie.Need-returns
 returns c = λ q. absurd (subst T (sym q) tt)
 
--- src/turned.rt:140:9
 returns-2 : tie.Need-returns-2
 returns-2 c = λ q. absurd (subst T (sym q) tt)
 
--- src/turned.rt:142:15
-number-requires : tie.Need-number-requires
-number-requires c κs = search needs
-
--- src/turned.rt:142:36
-number-requires-2 : tie.Need-number-requires-2
-number-requires-2 c κs = search needs
-
--- src/turned.rt:142:57
-number-requires-3 : tie.Need-number-requires-3
-number-requires-3 c κs = search needs
-
--- src/turned.rt:144:9
 returns-3 : tie.Need-returns-3
 returns-3 c = λ q. absurd (subst T (sym q) tt)
 
--- src/turned.rt:146:44
-pick-requires : tie.Need-pick-requires
-pick-requires c κs = search needs
-
--- src/turned.rt:146:5
 rows-from-requires : tie.Need-rows-from-requires
 rows-from-requires c κs =
     let h = c .before .before .before .before .before .before .before .before .before .before .before .before .before .pre in (
@@ -143,7 +88,6 @@ rows-from-requires c κs =
       h .2 .lent .moved .small,
     )
 
--- src/turned.rt:129:1
 returns-4 : tie.Need-returns-4
 returns-4 c =
     λ q p codes s.
@@ -162,21 +106,5 @@ pub turned-spec : {M : Type 1} → statement M
 turned-spec =
     tie.close
     (tie.spec
-    scope-at-requires
-    add-place
-    place-requires
-    scope-at-requires-2
-    add-place-2
-    place-requires-2
-    scope-at-requires-3
-    add-place-3
-    place-requires-3
-    returns
-    returns-2
-    number-requires
-    number-requires-2
-    number-requires-3
-    returns-3
-    pick-requires
-    rows-from-requires
-    returns-4)
+    (λ c κs. search needs) add-place place-requires (λ c κs. search needs) add-place-2 place-requires-2 (λ c κs. search needs) add-place-3 place-requires-3
+    returns returns-2 (λ c κs. search needs) (λ c κs. search needs) (λ c κs. search needs) returns-3 (λ c κs. search needs) rows-from-requires returns-4)

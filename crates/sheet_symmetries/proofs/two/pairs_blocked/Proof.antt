@@ -1,21 +1,10 @@
-use mathlib.Core.Path.{_≡_, refl, sym, ap, _∙_, subst}
-use Prim.Native.Nat.{ℕ, _+_, _*_, _<_}
-use native.Mathlib.Omega.{arith}
-use borrow.Author.Tests.{not-true, not-false}
-use Rattle.model.specs.ValueSets.{members, withoutMask}
-use Rattle.model.specs.Problem.{Problem}
+use Rattle.model.specs.Kit.{_≡_, refl, sym, ap, _∙_, subst, ℕ, _+_, _*_, _<_, arith, not-true, not-false}
+use Rattle.model.specs.{ValueSets.members, ValueSets.withoutMask, Problem.Problem}
 use Rattle.model.proofs.Lowest.{some-left, none-left}
-use Rattle.sheet_symmetries.specs.Forbidden.{Beside, allBlocked}
+use Rattle.sheet_symmetries.specs.inner.Forbidden.{Beside, allBlocked}
 use Rattle.sheet_symmetries.proofs.Beside.{beside-next, beside-less, beside-triple, beside-stop, beside-rest, beside-over}
 use Rattle.sheet_symmetries.proofs.two.pairs_blocked.Statement.{statement}
 use Rattle.sheet_symmetries.proofs.two.pairs_blocked.Tie as tie
-use Rattle.sheet_symmetries.proofs.two.pairs_blocked.Reads as reads
-use Rattle.sheet_symmetries.proofs.two.pairs_blocked.Lts as lts
-use Rattle.model.proofs.ValueSet.is_empty.Reads as is-empty-reads
-use Rattle.model.proofs.ValueSet.lowest.Reads as lowest-reads
-use Rattle.model.proofs.ValueSet.without_lowest.Reads as without-lowest-reads
-use Rattle.sheet_symmetries.proofs.moves.place.Reads as place-reads
-use Rattle.sheet_symmetries.proofs.two.pair_blocked.Reads as pair-blocked-reads
 
 abbrev Inv-loop : tie.InvT-loop
 Inv-loop numbers supports codes x b rest₀ rest =
@@ -25,7 +14,6 @@ Inv-loop numbers supports codes x b rest₀ rest =
 abbrev μ-loop : tie.MeasureT-loop
 μ-loop numbers supports codes x b rest₀ rest = rest .bits
 
--- src/two.rt:65:5
 loop-holds : tie.Need-loop-holds Inv-loop μ-loop
 loop-holds c = λ p s. (s, refl)
 
@@ -38,39 +26,34 @@ spot c =
     subst (λ (v : ℕ). 16 * c .before .before .before .before .before .args .x + v < 256) (sym (c .before .lowest .ensures))
     (beside-next (h .0) _ _ _ _ _ _ _ (c .before .before .before .before .loop .inv (h .0) (h .1) .0) (some (c .before .before)))
 
--- src/two.rt:65:12
 is-empty-requires : tie.Need-is-empty-requires Inv-loop μ-loop
 is-empty-requires c κs = tt
 
--- src/two.rt:66:13
 lowest-requires : tie.Need-lowest-requires Inv-loop μ-loop
 lowest-requires c κs = tt
 
--- src/two.rt:67:9
 without-lowest-requires : tie.Need-without-lowest-requires Inv-loop μ-loop
 without-lowest-requires c κs = tt
 
--- src/two.rt:68:61
 mul-place : tie.Need-mul-place Inv-loop μ-loop
 mul-place c = omega (arith, spot c)
 
--- src/two.rt:68:70
 cast-place : tie.Need-cast-place Inv-loop μ-loop
 cast-place c = omega (arith, spot c)
 
--- src/two.rt:68:61
 add-place : tie.Need-add-place Inv-loop μ-loop
 add-place c = omega (arith, spot c)
 
--- src/two.rt:68:48
 place-requires : tie.Need-place-requires Inv-loop μ-loop
 place-requires c κs = spot c
 
--- src/two.rt:68:13
 pair-blocked-requires : tie.Need-pair-blocked-requires Inv-loop μ-loop
-pair-blocked-requires c κs = let h = c .before .before .before .before .before .before .pre in (h .0, beside-triple (h .0) _ _ _ _ _ _ _ (c .before .before .before .before .before .loop .inv (h .0) (h .1) .0) _ _ (some (c .before .before .before)) (c .before .before .lowest .ensures) (c .place .ensures .0))
+pair-blocked-requires c κs = let h = c .before .before .before .before .before .before .pre in (
+  h .0,
+  beside-triple (h .0) _ _ _ _ _ _ _ (c .before .before .before .before .before .loop .inv (h .0) (h .1) .0) _ _ (some (c .before .before .before)) (c .before .before .lowest .ensures)
+      (c .place .ensures .0),
+)
 
--- src/two.rt:69:13
 returns : tie.Need-returns Inv-loop μ-loop
 returns c = λ p s.
     let d = c .before .before .before in
@@ -80,14 +63,13 @@ returns c = λ p s.
     let e = c .before .before .place .ensures .0 in
     beside-stop p _ _ _ _ _ _ _ (i .0) _ _ n l e _ _ (c .before .pair-blocked .ensures p (beside-triple p _ _ _ _ _ _ _ (i .0) _ _ n l e)) (not-true _ (c .if2 .taken)) (i .1)
 
--- src/two.rt:65:5
 loop-less : tie.Need-loop-less Inv-loop μ-loop
 loop-less c =
     let d = c .before .before .before in
     let h = d .before .before .before .before .before .pre in
-    subst (λ (m : ℕ). m < d .before .before .before .before .loop .rest .bits) (sym (d .without-lowest .ensures)) (beside-less (h .0) _ _ _ _ _ _ _ (d .before .before .before .before .loop .inv (h .0) (h .1) .0) (some (d .before .before)))
+    subst (λ (m : ℕ). m < d .before .before .before .before .loop .rest .bits) (sym (d .without-lowest .ensures))
+    (beside-less (h .0) _ _ _ _ _ _ _ (d .before .before .before .before .loop .inv (h .0) (h .1) .0) (some (d .before .before)))
 
--- src/two.rt:65:5
 loop-again : tie.Need-loop-again Inv-loop μ-loop
 loop-again c = λ p s.
     let d = c .before .before .before in
@@ -95,9 +77,9 @@ loop-again c = λ p s.
     let n = some (d .before .before) in
     let l = d .before .lowest .ensures in
     let e = c .before .before .place .ensures .0 in
-    beside-rest p _ _ _ _ _ _ _ (i .0) _ _ n l e _ _ _ (d .without-lowest .ensures ∙ ap (withoutMask (d .before .before .before .before .loop .rest .bits)) (sym l)) (c .before .pair-blocked .ensures p (beside-triple p _ _ _ _ _ _ _ (i .0) _ _ n l e)) (not-false _ (c .if2 .left)) (i .1)
+    beside-rest p _ _ _ _ _ _ _ (i .0) _ _ n l e _ _ _ (d .without-lowest .ensures ∙ ap (withoutMask (d .before .before .before .before .loop .rest .bits)) (sym l))
+    (c .before .pair-blocked .ensures p (beside-triple p _ _ _ _ _ _ _ (i .0) _ _ n l e)) (not-false _ (c .if2 .left)) (i .1)
 
--- src/two.rt:53:1
 returns-2 : tie.Need-returns-2 Inv-loop μ-loop
 returns-2 c = λ p s. let i = c .before .before .loop .inv p s in beside-over p _ _ _ _ _ _ _ (i .0) _ (none-left _ _ (c .before .is-empty .ensures) (c .if1 .left)) (i .1)
 
@@ -105,18 +87,5 @@ pub pairs-blocked-spec : {M : Type 1} → statement M
 pairs-blocked-spec =
     tie.close
     (tie.spec
-    Inv-loop
-    μ-loop
-    loop-holds
-    is-empty-requires
-    lowest-requires
-    without-lowest-requires
-    mul-place
-    cast-place
-    add-place
-    place-requires
-    pair-blocked-requires
-    returns
-    loop-less
-    loop-again
-    returns-2)
+    Inv-loop μ-loop loop-holds is-empty-requires lowest-requires without-lowest-requires mul-place cast-place add-place place-requires pair-blocked-requires
+    returns loop-less loop-again returns-2)

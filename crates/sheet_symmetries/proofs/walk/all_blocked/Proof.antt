@@ -1,25 +1,11 @@
-use mathlib.Core.Path.{_≡_, refl, sym, ap, _∙_, subst}
-use Prim.Native.Nat.{ℕ, _+_, _*_, _<_}
-use native.Mathlib.Omega.{arith}
-use borrow.Author.Tests.{not-true, not-false}
-use Rattle.model.specs.ValueSets.{members, withoutMask}
-use Rattle.model.specs.Problem.{Problem}
+use Rattle.model.specs.Kit.{_≡_, refl, sym, ap, _∙_, subst, ℕ, _+_, _*_, _<_, arith, not-true, not-false}
+use Rattle.model.specs.{ValueSets.members, ValueSets.withoutMask, Problem.Problem}
 use Rattle.model.proofs.Lowest.{lowest-le, some-left, none-left}
-use Rattle.sheet_symmetries.specs.Forbidden.{Sure, Beside, allBlocked}
-use Rattle.sheet_symmetries.proofs.Surely.{sure-none}
-use Rattle.sheet_symmetries.proofs.Beside.{beside-one, beside-one-is, beside-clash, beside-next, beside-less, beside-pair, beside-small, beside-triple, beside-stop, beside-rest, beside-over}
+use Rattle.sheet_symmetries.specs.inner.Forbidden.{Sure, Beside, allBlocked}
+use Rattle.sheet_symmetries.proofs.{Surely.sure-none, Beside.beside-one, Beside.beside-one-is, Beside.beside-clash, Beside.beside-next, Beside.beside-less}
+use Rattle.sheet_symmetries.proofs.Beside.{beside-pair, beside-small, beside-triple, beside-stop, beside-rest, beside-over}
 use Rattle.sheet_symmetries.proofs.walk.all_blocked.Statement.{statement}
 use Rattle.sheet_symmetries.proofs.walk.all_blocked.Tie as tie
-use Rattle.sheet_symmetries.proofs.walk.all_blocked.Reads as reads
-use Rattle.sheet_symmetries.proofs.walk.all_blocked.Lts as lts
-use Rattle.model.proofs.ValueSet.is_empty.Reads as is-empty-reads
-use Rattle.model.proofs.ValueSet.lowest.Reads as lowest-reads
-use Rattle.model.proofs.ValueSet.without.Reads as without-reads
-use Rattle.sheet_symmetries.proofs.forbidden.clash.Reads as clash-reads
-use Rattle.sheet_symmetries.proofs.sure.surely_after.Reads as surely-after-reads
-use Rattle.sheet_symmetries.proofs.sure.third_blocked.Reads as third-blocked-reads
-use Rattle.sheet_symmetries.proofs.two.pairs_blocked.Reads as pairs-blocked-reads
-use Rattle.sheet_symmetries.proofs.moves.place.Reads as place-reads
 
 abbrev Inv-loop : tie.InvT-loop
 Inv-loop numbers supports codes x a b rest₀ y₀ sure₀ rest y sure =
@@ -35,15 +21,12 @@ pairs-blocked-requires c κs = let h = c .before .pre in (h .0, beside-one (h .0
 returns : tie.Need-returns Inv-loop μ-loop
 returns c = λ p s. beside-one-is p _ _ _ _ _ _ (c .before .if1 .taken) (c .pairs-blocked .ensures p (beside-one p _ _ _ _ _ _ _ (c .before .if1 .taken) s))
 
--- src/walk.rt:69:8
 clash-requires : tie.Need-clash-requires Inv-loop μ-loop
 clash-requires c κs = tt
 
--- src/walk.rt:70:9
 returns-2 : tie.Need-returns-2 Inv-loop μ-loop
 returns-2 c = λ p s. beside-clash p _ _ _ _ _ _ _ s (sym (c .before .clash .ensures) ∙ c .if2 .taken)
 
--- src/walk.rt:75:5
 loop-holds : tie.Need-loop-holds Inv-loop μ-loop
 loop-holds c = λ p s. (s, refl, sure-none p _ _ _)
 
@@ -56,47 +39,47 @@ spot c =
     subst (λ (v : ℕ). 16 * c .before .before .before .before .before .before .before .before .args .x + v < 256) (sym (c .before .lowest .ensures))
     (beside-next (h .0) _ _ _ _ _ _ _ (c .before .before .before .before .loop .inv (h .0) (h .1) .0) (some (c .before .before)))
 
--- src/walk.rt:75:12
 is-empty-requires : tie.Need-is-empty-requires Inv-loop μ-loop
 is-empty-requires c κs = tt
 
--- src/walk.rt:76:13
 lowest-requires : tie.Need-lowest-requires Inv-loop μ-loop
 lowest-requires c κs = tt
 
--- src/walk.rt:77:29
 cast-without : tie.Need-cast-without Inv-loop μ-loop
 cast-without c = omega (arith, c .lowest .ensures, lowest-le (c .before .before .before .loop .rest .bits))
 
--- src/walk.rt:77:9
 without-requires : tie.Need-without-requires Inv-loop μ-loop
 without-requires c κs = tt
 
--- src/walk.rt:78:29
 mul-place : tie.Need-mul-place Inv-loop μ-loop
 mul-place c = omega (arith, spot c)
 
--- src/walk.rt:78:38
 cast-place : tie.Need-cast-place Inv-loop μ-loop
 cast-place c = omega (arith, spot c)
 
--- src/walk.rt:78:29
 add-place : tie.Need-add-place Inv-loop μ-loop
 add-place c = omega (arith, spot c)
 
--- src/walk.rt:78:13
 place-requires : tie.Need-place-requires Inv-loop μ-loop
 place-requires c κs = spot c
 
--- src/walk.rt:79:9
 surely-after-requires : tie.Need-surely-after-requires Inv-loop μ-loop
-surely-after-requires c κs = let h = c .before .before .before .before .before .before .before .before .before .pre in (h .0, h .1 .ready, h .1 .first, h .1 .second, beside-small (h .0) _ _ _ _ _ _ _ (c .before .before .before .before .before .loop .inv (h .0) (h .1) .0) _ _ (some (c .before .before .before)) (c .before .before .lowest .ensures) (c .place .ensures .0))
+surely-after-requires c κs = let h = c .before .before .before .before .before .before .before .before .before .pre in (
+  h .0,
+  h .1 .ready,
+  h .1 .first,
+  h .1 .second,
+  beside-small (h .0) _ _ _ _ _ _ _ (c .before .before .before .before .before .loop .inv (h .0) (h .1) .0) _ _ (some (c .before .before .before))
+      (c .before .before .lowest .ensures) (c .place .ensures .0),
+)
 
--- src/walk.rt:81:13
 third-blocked-requires : tie.Need-third-blocked-requires Inv-loop μ-loop
-third-blocked-requires c κs = let h = c .before .before .before .before .before .before .before .before .before .before .pre in (h .0, beside-triple (h .0) _ _ _ _ _ _ _ (c .before .before .before .before .before .before .loop .inv (h .0) (h .1) .0) _ _ (some (c .before .before .before .before)) (c .before .before .before .lowest .ensures) (c .before .place .ensures .0))
+third-blocked-requires c κs = let h = c .before .before .before .before .before .before .before .before .before .before .pre in (
+  h .0,
+  beside-triple (h .0) _ _ _ _ _ _ _ (c .before .before .before .before .before .before .loop .inv (h .0) (h .1) .0) _ _ (some (c .before .before .before .before))
+      (c .before .before .before .lowest .ensures) (c .before .place .ensures .0),
+)
 
--- src/walk.rt:82:13
 returns-3 : tie.Need-returns-3 Inv-loop μ-loop
 returns-3 c = λ p s.
     let d = c .before .before .before .before in
@@ -108,15 +91,14 @@ returns-3 c = λ p s.
     let r = c .before .third-blocked .ensures p (beside-triple p _ _ _ _ _ _ _ (i .0) _ _ n l e) (beside-pair p _ _ _ _ _ _ _ (i .0) _ _ n l e) k in
     beside-stop p _ _ _ _ _ _ _ (i .0) _ _ n l e _ _ r (not-true _ (c .if4 .taken)) (i .1)
 
--- src/walk.rt:75:5
 loop-less : tie.Need-loop-less Inv-loop μ-loop
 loop-less c =
     let d = c .before .before .before .before in
     let h = d .before .before .before .before .before .before .before .before .pre in
-    subst (λ (m : ℕ). m < d .before .before .before .before .loop .rest .bits) (sym (d .without .ensures ∙ ap (withoutMask (d .before .before .before .before .loop .rest .bits)) (d .before .lowest .ensures)))
+    subst (λ (m : ℕ). m < d .before .before .before .before .loop .rest .bits) (sym (d .without .ensures ∙ ap (withoutMask (d .before .before .before .before .loop .rest .bits))
+    (d .before .lowest .ensures)))
     (beside-less (h .0) _ _ _ _ _ _ _ (d .before .before .before .before .loop .inv (h .0) (h .1) .0) (some (d .before .before)))
 
--- src/walk.rt:75:5
 loop-again : tie.Need-loop-again Inv-loop μ-loop
 loop-again c = λ p s.
     let d = c .before .before .before .before in
@@ -129,7 +111,6 @@ loop-again c = λ p s.
     let t = beside-rest p _ _ _ _ _ _ _ (i .0) _ _ n l e _ _ _ (d .without .ensures) r (not-false _ (c .if4 .left)) (i .1) in
     (t .0, t .1, k)
 
--- src/walk.rt:56:1
 returns-4 : tie.Need-returns-4 Inv-loop μ-loop
 returns-4 c = λ p s. let i = c .before .before .loop .inv p s in beside-over p _ _ _ _ _ _ _ (i .0) _ (none-left _ _ (c .before .is-empty .ensures) (c .if3 .left)) (i .1)
 
@@ -137,24 +118,5 @@ pub all-blocked-spec : {M : Type 1} → statement M
 all-blocked-spec =
     tie.close
     (tie.spec
-    Inv-loop
-    μ-loop
-    pairs-blocked-requires
-    returns
-    clash-requires
-    returns-2
-    loop-holds
-    is-empty-requires
-    lowest-requires
-    cast-without
-    without-requires
-    mul-place
-    cast-place
-    add-place
-    place-requires
-    surely-after-requires
-    third-blocked-requires
-    returns-3
-    loop-less
-    loop-again
-    returns-4)
+    Inv-loop μ-loop pairs-blocked-requires returns clash-requires returns-2 loop-holds is-empty-requires lowest-requires cast-without without-requires mul-place
+    cast-place add-place place-requires surely-after-requires third-blocked-requires returns-3 loop-less loop-again returns-4)

@@ -1,21 +1,10 @@
-use mathlib.Core.Path.{_≡_, _∙_}
-use Prim.Native.Nat.{_+_, _*_, _<_}
-use native.Mathlib.Omega.{arith}
-use borrow.Author.Tests.{not-true, not-false}
+use Rattle.model.specs.Kit.{_≡_, _∙_, _+_, _*_, _<_, arith, not-true, not-false}
 use Rattle.model.specs.Problem.{Problem}
 use Rattle.model.proofs.Lowest.{lowest-le, some-left, none-left}
-use Rattle.sheet_symmetries.specs.Forbidden.{Lent, Doubling}
-use Rattle.sheet_symmetries.proofs.Doubles.{doubled-together, doubling-start, doubling-spot, doubling-less, doubling-beside, doubling-are, doubling-stop, doubling-rest, doubling-over}
-use Rattle.sheet_symmetries.proofs.walk.doubles.Statement.{statement}
+use Rattle.sheet_symmetries.specs.inner.Forbidden.{Lent, Doubling}
+use Rattle.sheet_symmetries.proofs.Doubles.{doubled-together, doubling-start, doubling-spot, doubling-less, doubling-beside, doubling-are, doubling-stop, doubling-rest}
+use Rattle.sheet_symmetries.proofs.{Doubles.doubling-over, walk.doubles.Statement.statement}
 use Rattle.sheet_symmetries.proofs.walk.doubles.Tie as tie
-use Rattle.sheet_symmetries.proofs.walk.doubles.Reads as reads
-use Rattle.sheet_symmetries.proofs.walk.doubles.Lts as lts
-use Rattle.model.proofs.ValueSet.is_empty.Reads as is-empty-reads
-use Rattle.model.proofs.ValueSet.lowest.Reads as lowest-reads
-use Rattle.model.proofs.ValueSet.without.Reads as without-reads
-use Rattle.sheet_symmetries.proofs.moves.place.Reads as place-reads
-use Rattle.sheet_symmetries.proofs.table.initial.Reads as initial-reads
-use Rattle.sheet_symmetries.proofs.two.pairs_blocked.Reads as pairs-blocked-reads
 
 abbrev Inv-loop : tie.InvT-loop
 Inv-loop numbers supports codes moves x rest₀ rest = (p : Problem) → Lent p numbers supports codes moves → x < p .variables → Doubling p codes x (rest .bits)
@@ -32,11 +21,9 @@ place-requires c κs = let h = c .pre in omega (arith, h .2, h .1 .ready .framed
 returns : tie.Need-returns Inv-loop μ-loop
 returns c = λ p l h. doubled-together p _ _ _ _ _ l h (λ q. c .if1 .taken (c .before .place .ensures .0 ∙ q))
 
--- src/walk.rt:172:9
 initial-requires : tie.Need-initial-requires Inv-loop μ-loop
 initial-requires c κs = let h = c .before .before .pre in (h .0, h .1 .ready .framed, h .2)
 
--- src/walk.rt:173:5
 loop-holds : tie.Need-loop-holds Inv-loop μ-loop
 loop-holds c = λ p l h. doubling-start p _ _ _ _ _ _ l h (c .initial .ensures p (l .ready .framed) h)
 
@@ -44,45 +31,40 @@ some : (c : tie.Then2 Inv-loop μ-loop) → c .before .before .loop .rest .bits 
 some c = some-left _ _ (c .before .is-empty .ensures) (c .if2 .taken)
 
 spot : (c : tie.After-without Inv-loop μ-loop) → 16 * c .before .before .before .before .before .before .before .before .args .x + c .before .lowest .result < 256
-spot c = let h = c .before .before .before .before .before .before .before .before .pre in doubling-spot (h .0) _ _ _ _ _ _ (h .1) (h .2) (c .before .before .before .before .loop .inv (h .0) (h .1) (h .2)) (some (c .before .before)) _ _ (c .before .lowest .ensures) (c .without .ensures)
+spot c = let h = c .before .before .before .before .before .before .before .before .pre in doubling-spot (h .0) _ _ _ _ _ _ (h .1) (h .2)
+    (c .before .before .before .before .loop .inv (h .0) (h .1) (h .2)) (some (c .before .before)) _ _ (c .before .lowest .ensures) (c .without .ensures)
 
--- src/walk.rt:173:12
 is-empty-requires : tie.Need-is-empty-requires Inv-loop μ-loop
 is-empty-requires c κs = tt
 
--- src/walk.rt:174:13
 lowest-requires : tie.Need-lowest-requires Inv-loop μ-loop
 lowest-requires c κs = tt
 
--- src/walk.rt:175:29
 cast-without : tie.Need-cast-without Inv-loop μ-loop
 cast-without c = omega (arith, c .lowest .ensures, lowest-le (c .before .before .before .loop .rest .bits))
 
--- src/walk.rt:175:9
 without-requires : tie.Need-without-requires Inv-loop μ-loop
 without-requires c κs = tt
 
--- src/walk.rt:184:25
 mul-place : tie.Need-mul-place Inv-loop μ-loop
 mul-place c = omega (arith, spot c)
 
--- src/walk.rt:184:34
 cast-place : tie.Need-cast-place Inv-loop μ-loop
 cast-place c = omega (arith, spot c)
 
--- src/walk.rt:184:25
 add-place-2 : tie.Need-add-place-2 Inv-loop μ-loop
 add-place-2 c = omega (arith, spot c)
 
--- src/walk.rt:184:13
 place-requires-2 : tie.Need-place-requires-2 Inv-loop μ-loop
 place-requires-2 c κs = spot c
 
--- src/walk.rt:176:13
 pairs-blocked-requires : tie.Need-pairs-blocked-requires Inv-loop μ-loop
-pairs-blocked-requires c κs = let h = c .before .before .before .before .before .before .before .before .before .pre in (h .0, doubling-beside (h .0) _ _ _ _ _ _ (h .1) (h .2) (c .before .before .before .before .before .loop .inv (h .0) (h .1) (h .2)) (some (c .before .before .before)) _ _ (c .before .before .lowest .ensures) (c .before .without .ensures) _ (c .place2 .ensures .0))
+pairs-blocked-requires c κs = let h = c .before .before .before .before .before .before .before .before .before .pre in (
+  h .0,
+  doubling-beside (h .0) _ _ _ _ _ _ (h .1) (h .2) (c .before .before .before .before .before .loop .inv (h .0) (h .1) (h .2)) (some (c .before .before .before)) _ _
+      (c .before .before .lowest .ensures) (c .before .without .ensures) _ (c .place2 .ensures .0),
+)
 
--- src/walk.rt:186:13
 returns-2 : tie.Need-returns-2 Inv-loop μ-loop
 returns-2 c = λ p l h.
     let s = c .before .before .before .before .before .before .before .loop .inv p l h in
@@ -93,11 +75,11 @@ returns-2 c = λ p l h.
     let q = doubling-are p _ _ _ _ _ _ l h s n _ _ v r _ e _ (c .before .pairs-blocked .ensures p (doubling-beside p _ _ _ _ _ _ l h s n _ _ v r _ e)) in
     doubling-stop p _ _ _ _ _ _ l h s n _ _ v r _ q (not-true _ (c .if3 .taken))
 
--- src/walk.rt:173:5
 loop-less : tie.Need-loop-less Inv-loop μ-loop
-loop-less c = let h = c .before .before .before .before .before .before .before .before .before .before .before .pre in doubling-less (h .0) _ _ _ _ _ _ (h .1) (h .2) (c .before .before .before .before .before .before .before .loop .inv (h .0) (h .1) (h .2)) (some (c .before .before .before .before .before)) _ _ (c .before .before .before .before .lowest .ensures) (c .before .before .before .without .ensures)
+loop-less c = let h = c .before .before .before .before .before .before .before .before .before .before .before .pre in doubling-less (h .0) _ _ _ _ _ _ (h .1) (h .2)
+    (c .before .before .before .before .before .before .before .loop .inv (h .0) (h .1) (h .2)) (some (c .before .before .before .before .before)) _ _
+    (c .before .before .before .before .lowest .ensures) (c .before .before .before .without .ensures)
 
--- src/walk.rt:173:5
 loop-again : tie.Need-loop-again Inv-loop μ-loop
 loop-again c = λ p l h.
     let s = c .before .before .before .before .before .before .before .loop .inv p l h in
@@ -108,7 +90,6 @@ loop-again c = λ p l h.
     let q = doubling-are p _ _ _ _ _ _ l h s n _ _ v r _ e _ (c .before .pairs-blocked .ensures p (doubling-beside p _ _ _ _ _ _ l h s n _ _ v r _ e)) in
     doubling-rest p _ _ _ _ _ _ l h s n _ _ v r _ q (not-false _ (c .if3 .left))
 
--- src/walk.rt:162:1
 returns-3 : tie.Need-returns-3 Inv-loop μ-loop
 returns-3 c = λ p l h. doubling-over p _ _ _ (c .before .before .loop .inv p l h) (none-left _ _ (c .before .is-empty .ensures) (c .if2 .left))
 
@@ -116,23 +97,5 @@ pub doubles-spec : {M : Type 1} → statement M
 doubles-spec =
     tie.close
     (tie.spec
-    Inv-loop
-    μ-loop
-    add-place
-    place-requires
-    returns
-    initial-requires
-    loop-holds
-    is-empty-requires
-    lowest-requires
-    cast-without
-    without-requires
-    mul-place
-    cast-place
-    add-place-2
-    place-requires-2
-    pairs-blocked-requires
-    returns-2
-    loop-less
-    loop-again
-    returns-3)
+    Inv-loop μ-loop add-place place-requires returns initial-requires loop-holds is-empty-requires lowest-requires cast-without without-requires mul-place
+    cast-place add-place-2 place-requires-2 pairs-blocked-requires returns-2 loop-less loop-again returns-3)

@@ -1,0 +1,47 @@
+-- Questions 15 and 16 for one table (paper 01): what is known of the problem before they are asked, and their answer.
+use Rattle.model.specs.Kit.{Bool, true, false, List, List·Memᴰ, ℕ, _+_, _*_, _^_, _≤_, _<_, length}
+use Rattle.model.specs.{Lists.at, Problem.Problem, Problem.Constraint, Problem.respects, Sheet.words, Sheet.permutesPairs, WellFormed.GoodConstraint}
+use Rattle.arrays.specs.inner.Layout.{Numbers, Supports}
+
+-- what questions 1 to 14 show of the problem
+pub record Stated (p : Problem) : Type 0 where
+  pub few : p .variables ≤ 12
+  pub one : 1 ≤ p .values
+  pub sixteen : p .values ≤ 16
+  pub narrow : (x : ℕ) → x < p .variables → at (p .initial) x < 2 ^ p .values
+  pub most : length (p .constraints) ≤ 32
+  pub constrained : (c : Constraint) → List·Memᴰ c (p .constraints) → GoodConstraint p c
+
+-- the numbers hold those of the problem
+pub record Framed (p : Problem) (numbers : List ℕ) : Type 0 where
+  pub stated : Stated p
+  pub numbered : Numbers p numbers
+
+-- both arrays hold the problem
+pub record Ready (p : Problem) (numbers supports : List ℕ) : Type 0 where
+  pub framed : Framed p numbers
+  pub supported : Supports p supports
+
+-- a table stands whole at an offset of the sheet
+abbrev pub Whole : Problem → List ℕ → ℕ → Type 0
+Whole p sheet offset = offset + 2 * (p .variables * p .values) ≤ length sheet
+
+pub record TableAt (p : Problem) (sheet : List ℕ) (offset : ℕ) (numbers : List ℕ) : Type 0 where
+  pub framed : Framed p numbers
+  pub whole : Whole p sheet offset
+
+pub record Asked (p : Problem) (sheet : List ℕ) (offset : ℕ) (numbers supports : List ℕ) : Type 0 where
+  pub ready : Ready p numbers supports
+  pub whole : Whole p sheet offset
+
+abbrev pub tableOf : Problem → List ℕ → ℕ → List ℕ
+tableOf p sheet offset = words sheet offset (p .variables * p .values)
+
+abbrev pub answerOf : Bool → Bool → ℕ
+answerOf false respectful = 15
+answerOf true false = 16
+answerOf true true = 0
+
+-- 0 where both answers are yes, else the number of the first that is no
+abbrev pub tableAnswer : Problem → List ℕ → ℕ → ℕ
+tableAnswer p sheet offset = answerOf (permutesPairs p (tableOf p sheet offset)) (respects p (tableOf p sheet offset))
