@@ -13,7 +13,7 @@ ghost use Rattle.export_report.specs.Report.{CallReport};
 pub extern "C" fn planner_version() -> u32
     ensures { λ r. ⌜ r ≡ 65536 ⌝ }
 {
-    65536
+    export_version::version()
 }
 
 // The filter for increasing nogoods (paper 02, #102).
