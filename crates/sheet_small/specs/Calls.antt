@@ -1,20 +1,6 @@
--- A call of `small_sheet`: the position, the room as it came, the answer, and the room at the end. It is the function's contract. And paper 02, #114, of
--- what a caller holds. proofs/Calls has the theorem.
-use Rattle.model.specs.Kit.{_≡_, List, ℕ, _≤_, _<_, length, take, drop}
-use Rattle.sheet_small.specs.{Answers.means, Answers.smallOutcome, Answers.smallRoom, Claims.IsSmall, declared.Answer.Answer, declared.Answer.the-variants.Written}
-use Rattle.sheet_small.specs.declared.Answer.the-variants.{Refused}
+-- A call of `small_sheet`: the position, the room as it came, the answer, and the room at the end. It is the function's contract.
+use Rattle.model.specs.Kit.{_≡_, List, ℕ}
+use Rattle.sheet_small.specs.{Answers.means, Answers.smallOutcome, Answers.smallRoom, declared.Answer.Answer}
 
 abbrev pub CallSmall : ℕ → List ℕ → Answer → List ℕ → Type 0
 CallSmall k room r after = (means r ≡ smallOutcome k room) × (after ≡ smallRoom k room)
-
-pub record SmallHeld : Type 0 where
-  -- 39 past the last of 544, then 40 where the room is under 52 bytes; every byte as it came
-  pub past : (k : ℕ) (room : List ℕ) (r : Answer) (after : List ℕ) → CallSmall k room r after → 544 ≤ k → (r ≡ Refused 39 0) × (after ≡ room)
-  pub short : (k : ℕ) (room : List ℕ) (r : Answer) (after : List ℕ) → CallSmall k room r after → k < 544 → length room < 52 → (r ≡ Refused 40 0) × (after ≡ room)
-  -- else the bytes written are such a sheet, those behind them as they came ..
-  pub writes : (k : ℕ) (room : List ℕ) (r : Answer) (after : List ℕ) → CallSmall k room r after → k < 544 → 52 ≤ length room →
-      (n : ℕ) × (r ≡ Written n) × IsSmall (take n after) × (drop n after ≡ drop n room)
-  -- .. and each such sheet is written at exactly one position
-  pub each : (b : List ℕ) → IsSmall b →
-      (k : ℕ) × (k < 544) × ((room : List ℕ) (n : ℕ) (after : List ℕ) → CallSmall k room (Written n) after → take n after ≡ b)
-      × ((j : ℕ) (room : List ℕ) (n : ℕ) (after : List ℕ) → CallSmall j room (Written n) after → take n after ≡ b → j ≡ k)

@@ -2,7 +2,7 @@
 use Rattle.model.specs.Kit.{refl, sym, ap, _∙_, arith, needs}
 use Rattle.model.specs.Room.{wrote, refusal}
 use Rattle.sheet_small.specs.Answers.{means}
-use Rattle.sheet_small.proofs.Bounds.{refusal-item, wrote-few}
+use Rattle.sheet_once.proofs.Bounds.{refusal-item, wrote-few}
 use Rattle.export_small.proofs.{SmallSheets.wrong-length, SmallSheets.answered, small_sheet.Statement.statement}
 use Rattle.export_small.proofs.small_sheet.Tie as tie
 

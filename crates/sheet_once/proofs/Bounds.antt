@@ -1,8 +1,8 @@
 -- What callers need of an outcome: a refusal's item is 0, and no more than 52 bytes are written. Assumes nothing.
 use Rattle.model.specs.Kit.{_≡_, refl, Bool, true, false, List, ℕ, _≤_, arith, ltb, leb, length, ltb-true}
 use Rattle.model.specs.{Verdict.accepted, Verdict.ask, Room.wrote, Room.refusal, Room.outcomeOf}
 use Rattle.sheet_small.specs.{Small.smallSheets, Answers.sheetAt, Answers.positionVerdict, Answers.smallOutcome}
-use Rattle.sheet_small.proofs.Claims.{room-enough}
+use Rattle.sheet_once.proofs.Claims.{room-enough}
 
 pub refusal-item : (k : ℕ) (room : List ℕ) (number item : ℕ) → refusal number item ≡ smallOutcome k room → item ≡ 0
 unfolding smallOutcome positionVerdict

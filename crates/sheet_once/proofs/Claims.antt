@@ -5,10 +5,12 @@ use mathlib.Core.List.{Memᴰ·append-right}
 use Rattle.model.specs.{Lists.all, Lists.keep, Lists.flat, Lists.upFrom, Lists.below, Lists.at, ValueSets.has, ValueSets.members, Sheet.word, Sheet.words, Sheet.headerOf}
 use Rattle.model.specs.Sheet.{scopeAt, constraintsFrom, problemOf, verdictOf}
 use Rattle.model.proofs.{Lists.Sorted, Lists.sorted-keep, Lists.upFrom-e, Lists.keep-i, Lists.keep-e, Lists.flat-i, Lists.mem-getD, Lists.place-of, Accepted.accepted-is}
-use Rattle.sheet_small.specs.{Claims.IsSmall, Claims.Each-once, Claims.Nothing-else, Claims.Room-enough, Small.Shape, Small.shapes, Small.tables, Small.rowsOf, Small.frontOf}
+use Rattle.sheet_small.specs.{Small.Shape, Small.shapes, Small.tables, Small.rowsOf, Small.frontOf}
 use Rattle.sheet_small.specs.{Small.sheetOf, Small.isSheet, Small.plainSheets, Small.symmetricSheets, Small.smallSheets, inner.Inner.shapeNo, inner.Inner.tableNo}
 use Rattle.sheet_small.specs.inner.Inner.{candidate}
-use Rattle.sheet_small.proofs.{Lists.tested, Order.order, Reading.accepts, Reading.shape, Reading.in-shapes, Reading.in-tables, Reading.is-sheet, Reading.short}
+use Rattle.sheet_once.specs.Claims.{IsSmall, Each-once, Nothing-else, Room-enough}
+use Rattle.sheet_small.proofs.{Lists.tested, Order.order}
+use Rattle.sheet_once.proofs.{Reading.accepts, Reading.shape, Reading.in-shapes, Reading.in-tables, Reading.is-sheet, Reading.short}
 
 -- ---- nothing else stands at a position
 plain-small : (s : Shape) → T (isSheet (sheetOf s [])) → IsSmall (sheetOf s [])

@@ -1,12 +1,12 @@
--- What a caller of `small_sheet` holds (specs/Calls). Assumes nothing.
+-- What a caller of `small_sheet` holds (specs/Held). Assumes nothing.
 use Rattle.model.specs.Kit.{_≡_, refl, sym, ap, ap₂, _∙_, subst, Bool, true, false, List, [], ℕ, _≤_, _<_, arith, ltb, leb, length, take, drop, getD, lt-ltb, le-ltb, le-leb}
 use Rattle.model.specs.Kit.{lt-leb, ltb-true}
 use lib.Seq.{take-append-seam, drop-append-seam}
 use Rattle.model.specs.{Verdict.Verdict, Verdict.accepted, Verdict.refused, Verdict.ask, Room.wrote, Room.refusal, Room.outcomeOf, Room.roomAfter}
-use Rattle.sheet_small.specs.{Small.smallSheets, Answers.means, Answers.sheetAt, Answers.positionVerdict, Answers.smallOutcome, Answers.smallRoom, Claims.IsSmall}
-use Rattle.sheet_small.specs.{Claims.Stands, declared.Answer.Answer, declared.Answer.the-variants.Written, declared.Answer.the-variants.Refused, Calls.CallSmall}
-use Rattle.sheet_small.specs.Calls.{SmallHeld}
-use Rattle.sheet_small.proofs.{Figures.figures, Claims.each-once, Claims.nothing-else}
+use Rattle.sheet_small.specs.{Small.smallSheets, Answers.means, Answers.sheetAt, Answers.positionVerdict, Answers.smallOutcome, Answers.smallRoom, Calls.CallSmall, declared.Answer.Answer}
+use Rattle.sheet_small.specs.declared.Answer.the-variants.{Written, Refused}
+use Rattle.sheet_once.specs.{Claims.IsSmall, Claims.Stands, Held.SmallHeld}
+use Rattle.sheet_once.proofs.{Figures.figures, Claims.each-once, Claims.nothing-else}
 
 is-written : (r : Answer) (k : ℕ) → means r ≡ wrote k → r ≡ Written k
 is-written (Written j) k e = cc

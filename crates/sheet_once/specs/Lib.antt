@@ -1,0 +1,3 @@
+-- What is claimed of the small sheets, and what a caller holds.
+pub mod Claims
+pub mod Held
