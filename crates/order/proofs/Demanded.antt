@@ -12,7 +12,7 @@ use Rattle.order.specs.{RunBy.leadersBy, RunBy.answerBy, RunBy.listBy, R
 use Rattle.order.specs.Demanded.{Demanded-sheet, Fewer-sheet, Sheet-run}
 use Rattle.order.proofs.{LeadersBy.ordering-below, LeadersBy.read-below, LeadersBy.reordered-below, SetsBy.largest-by, RunBy.sublist-map, RunBy.leadersBy-ascend}
 use Rattle.order.proofs.RunBy.{leadersBy-hold, chainsBy, rows-sized-by, rows-counted-by, finished-lists, first-lists, none-lists, counts-by, fewer-by, same-result}
-use Rattle.order.proofs.RunBy.{same-counts, places-total, places-none, places-twelve}
+use Rattle.order.proofs.RunBy.{same-leaders, same-counts, places-total, places-none, places-twelve}
 
 -- what is known where the questions are passed
 pub record Sound (i : Input) : Type 0 where
@@ -219,5 +219,6 @@ sheet-run b = record {
   list = λ limit out. same-run b limit out any-tally (verdictOf b) refl .1;
   tally = λ limit out tally. same-run b limit out tally (verdictOf b) refl .2;
   tree = λ v. reordered-below (problemOf b) (sound-sheet b v .well);
+  leading = λ v. let s = sound-sheet b v in same-leaders (problemOf b) (s .well) (s .respected);
   reads = λ s t n m. ap₂ earlier (read-below (problemOf b .variables) s n) (read-below (problemOf b .variables) t m);
 }

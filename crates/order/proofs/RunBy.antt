@@ -139,18 +139,24 @@ fewer-by p order gs w o h =
     (λ g m. let r = Memᴰ·of-map (symmetryIn order p) (p .symmetries) m in Memᴰ·cast (sym (r .2)) (Memᴰ·map (symmetryIn order (withSymmetries p gs)) (h (r .0) (r .1))))
 
 -- ---- the order 0, 1, .. changes nothing
+rows-same : (p : Problem) → WellFormed p → (rows : List (List ℕ)) → ((r : List ℕ) → List·Memᴰ r rows → length r ≡ p .variables) → map (write (below (p .variables))) rows ≡ rows
+rows-same p w [] h = refl
+rows-same p w (r ∷ rows) h = ap₂ (λ (x : List ℕ) (y : List (List ℕ)). x ∷ y) (L.write-below p w r (h r (List·Memᴰ·head refl))) (rows-same p w rows (λ s m. h s (List·Memᴰ·tail m)))
+
 pub same-result : (p : Problem) → WellFormed p → (limit room : ℕ) → (resultBy (below (p .variables)) p limit room .ending ≡ resultOf p limit room .ending) ×
     (resultBy (below (p .variables)) p limit room .rows ≡ resultOf p limit room .rows)
 unfolding resultBy
 same-result p w limit room =
     let e = L.reordered-below p w in (
       ap (λ (q : Problem). resultOf q limit room .ending) e,
-      ap (λ (q : Problem). map (write (below (p .variables))) (resultOf q limit room .rows)) e ∙ rows-same (resultOf p limit room .rows) (R.rows-sized p limit room),
+      ap (λ (q : Problem). map (write (below (p .variables))) (resultOf q limit room .rows)) e ∙ rows-same p w (resultOf p limit room .rows) (R.rows-sized p limit room),
     )
-  where
-    rows-same : (rows : List (List ℕ)) → ((r : List ℕ) → List·Memᴰ r rows → length r ≡ p .variables) → map (write (below (p .variables))) rows ≡ rows
-    rows-same [] h = refl
-    rows-same (r ∷ rows) h = ap₂ (λ (x : List ℕ) (y : List (List ℕ)). x ∷ y) (L.write-below p w r (h r (List·Memᴰ·head refl))) (rows-same rows (λ s m. h s (List·Memᴰ·tail m)))
+
+pub same-leaders : (p : Problem) → WellFormed p → Respected p → leadersBy (below (p .variables)) p ≡ leaders p
+same-leaders p w respected =
+    sym (leadersBy-is p w respected (below (p .variables)) (L.ordering-below (p .variables)))
+    ∙ ap (λ (q : Problem). map (write (below (p .variables))) (leaders q)) (L.reordered-below p w)
+    ∙ rows-same p w (leaders p) (λ r m. assign-e (p .initial) r (keep-e (isLeader earlier p) (assignments (p .initial)) r m .0) .0 ∙ w .sized)
 
 pub same-counts : (p : Problem) → WellFormed p → (k : ℕ) → placeCounts (below (p .variables)) p k ≡ countsBy settledBy (take k (nodes p))
 unfolding placeCounts

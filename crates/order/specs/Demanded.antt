@@ -6,7 +6,7 @@ use Rattle.model.specs.Kit.{_≡_, _↔_, List, map, List·Memᴰ, ℕ, _*_, _�
 use mathlib.Core.List.{Sublistᴰ}
 use Rattle.model.specs.{Lists.at, Lists.below, Lists.earlier, Lists.rowsAscend, Lists.total, Problem.isSolution, Verdict.accepted, Verdict.refused, Sheet.problemOf}
 use Rattle.model.specs.{Sheet.verdictOf, Search.nodes, Run.Ending, Run.finished, Run.plansIn, Run.nodesIn, Run.refusal, Run.ended, Run.answerOf, Run.listOf, Run.Tally, Run.tallyOf}
-use Rattle.model.specs.Claims.{Leader, Chain, CountsAt, Largest, OneMore}
+use Rattle.model.specs.Claims.{Leader, leaders, Chain, CountsAt, Largest, OneMore}
 use Rattle.order.specs.{Reordered.read, Reordered.earlierBy, Reordered.reordered, RunBy.Input, RunBy.sheetInput, RunBy.placeCounts, RunBy.leadersBy, RunBy.setsBy}
 use Rattle.order.specs.RunBy.{isLiveBy, answerBy, listBy, plansBy, talliedBy}
 
@@ -71,12 +71,14 @@ Demanded-sheet = (b : List ℕ) → Demanded (sheetInput b)
 abbrev pub Fewer-sheet : Type 0
 Fewer-sheet = (b c t : List ℕ) (k : ℕ) → OneMore b c k t → Fewer (sheetInput b) (sheetInput c)
 
--- what is defined of a sheet's run (model's specs/Run) is what is said here, and so is its tree; rows of n values read in the order 0, 1, .. n - 1 as they stand
+-- what is defined of a sheet's run (model's specs/Run) is what is said here, and so are its tree and paper 01's leaders (model's specs/Claims); rows of n values read in
+-- the order 0, 1, .. n - 1 as they stand
 pub record SheetRun (b : List ℕ) : Type 0 where
   pub answer : (limit : ℕ) (out : List ℕ) → answerBy (sheetInput b) limit out ≡ answerOf b limit out
   pub list : (limit : ℕ) (out : List ℕ) → listBy (sheetInput b) limit out ≡ listOf b limit out
   pub tally : (limit : ℕ) (out : List ℕ) (tally : Tally) → talliedBy (sheetInput b) limit out tally ≡ tallyOf b limit out tally
   pub tree : verdictOf b ≡ accepted → reordered (below (problemOf b .variables)) (problemOf b) ≡ problemOf b
+  pub leading : verdictOf b ≡ accepted → leadersBy (below (problemOf b .variables)) (problemOf b) ≡ leaders (problemOf b)
   pub reads : (s t : List ℕ) → length s ≡ problemOf b .variables → length t ≡ problemOf b .variables → earlierBy (below (problemOf b .variables)) s t ≡ earlier s t
 
 abbrev pub Sheet-run : Type 0
