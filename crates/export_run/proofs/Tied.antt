@@ -10,8 +10,8 @@ use contract.Monad.{Fun, fact}
 use denote.Triple.Entry.{Args, Res}
 use denote.Triple.Clauses.{AtExit}
 use Rattle.export_run.specs.Calls.{CallCode, CallExported}
-use Rattle.export_run.proofs.runs.question as question
-use Rattle.export_run.proofs.runs.run as run
+use Rattle.export_run.proofs.question as question
+use Rattle.export_run.proofs.run as run
 
 module _ {M : Type 1} (𝓤 : URA M) (H : Heap 𝓤) (A : Atoms 𝓤) (mem : Memory → SProp 𝓤) (of : Routine → Fun 𝓤) where
   pub question-tied : (κs : Lfts 1) (a : Args question.signature κs) (r : Res question.signature κs) (s : AtExit question.ended κs) →

@@ -17,7 +17,7 @@ pub extern "C" fn planner_run_part(
     ensures { λ r. ⌜ CallPartBytes (now (sheet .entry)) (now (pairs .entry)) (now (block .entry)) (now (from .entry)) (now (upto .entry)) limit
         (now (list .entry)) (now (answer .entry)) r (now (list .exit)) (now (answer .exit)) ⌝ }
 {
-    export_parts::parts::run_part(sheet, pairs, block, from, upto, limit, list, answer)
+    export_parts::run_part(sheet, pairs, block, from, upto, limit, list, answer)
 }
 
 // The heads of parts joined.

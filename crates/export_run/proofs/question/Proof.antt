@@ -5,8 +5,8 @@ use Rattle.sheet.specs.Meaning.{means}
 use Rattle.wire.specs.Wire.{codeOf}
 use Rattle.export_run.specs.Run.{questionCode}
 use Rattle.wire.proofs.Codes.{verdict-small, refused-small}
-use Rattle.export_run.proofs.runs.question.Statement.{statement}
-use Rattle.export_run.proofs.runs.question.Tie as tie
+use Rattle.export_run.proofs.question.Statement.{statement}
+use Rattle.export_run.proofs.question.Tie as tie
 
 code-requires : tie.Need-code-requires
 code-requires c κs =

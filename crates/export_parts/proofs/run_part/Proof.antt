@@ -7,8 +7,8 @@ use Rattle.run_state.specs.Meaning.{endingOf}
 use Rattle.wire.proofs.Codes.{refused-small}
 use Rattle.export_lent.proofs.Lent.{lent-small}
 use Rattle.export_parts.proofs.Answered.{refusal-of, counted, counts-fit, wrong-answer, right-answer, pieces}
-use Rattle.export_parts.proofs.parts.run_part.Statement.{statement}
-use Rattle.export_parts.proofs.parts.run_part.Tie as tie
+use Rattle.export_parts.proofs.run_part.Statement.{statement}
+use Rattle.export_parts.proofs.run_part.Tie as tie
 
 returns : tie.Need-returns
 returns c = let a = c .before .before .before .before .before .before .before .before .args in wrong-answer (a .sheet .now) (a .pairs .now) (a .block .now) (a .from .now) (a .upto .now) (a .limit)

@@ -2,8 +2,8 @@
 use Rattle.model.specs.Kit.{sym, ap, _∙_, subst, arith, needs}
 use Rattle.run_state.specs.{declared.Ending.Ending, Meaning.endingOf}
 use Rattle.export_run.specs.{Run.endingBytes, inner.Inner.Counted}
-use Rattle.export_run.proofs.runs.ending.Statement.{statement}
-use Rattle.export_run.proofs.runs.ending.Tie as tie
+use Rattle.export_run.proofs.ending.Statement.{statement}
+use Rattle.export_run.proofs.ending.Tie as tie
 
 three-requires : tie.Need-three-requires
 three-requires c κs =
