@@ -9,7 +9,7 @@ use Rattle.model.specs.{Nogood.filtered, Search.entriesAt, Search.nogoodsOf, Se
 use Rattle.model.specs.{Search.isLive, Search.nodesBelow, Search.nodes, Search.isPlan, Run.finished, Run.spent, Run.search, Run.resultOf, Run.written, Run.countsBy}
 use Rattle.model.specs.Examples.{sheetA}
 use Rattle.run_cut.specs.Parts.{after, nodesAfter, nodesBetween, nodesOf, lastOf, goOn, added}
-use Rattle.desk.specs.Queue.{over, jobTurned, firstOf, emptyQueue, Queue, submit, turn, release, denied, queued, idle, served, released, queueEnd, queueReplies, due}
+use Rattle.desk.specs.Queue.{over, jobTurned, firstOf, emptyQueue, Queue, submit, turn, release, refusal, answered, queued, idle, served, released, queueEnd, queueReplies, due}
 use Rattle.desk.specs.{Queue.behindLast, Queue.roundsQueue, Queue.turnsGiven, Queue.endedIn, Queue.goingOn, Queue.statusReply, inner.Examples.Stay}
 
 -- every definition that computes
@@ -23,8 +23,9 @@ opened = 0
 -- two jobs, the second with limit 2, a third that may make no node; idle, releasing with short room, releasing, releasing again
 pub queue-case : queueReplies emptyQueue (turn ∷ submit sheetA 1000000 ∷ submit sheetA 2 ∷ submit sheetA 0 ∷ submit [] 5 ∷ release 1 [] ∷ turn ∷ turn ∷ turn ∷ turn ∷ release 0
     (replicate 5 9) ∷ release 0 (replicate 8 9) ∷ release 0 [] ∷ release 8 [] ∷ submit sheetA 7 ∷ [])
-    ≡ idle ∷ queued 0 ∷ queued 1 ∷ queued 2 ∷ denied 1 0 ∷ released 0 [] ∷ served 0 (over (finished 3 6)) 3 6 ∷ served 2 (over (spent 0 0)) 0 0 ∷ idle ∷ idle
-    ∷ denied 22 0 ∷ released 6 (0 ∷ 1 ∷ 0 ∷ 2 ∷ 1 ∷ 2 ∷ 9 ∷ 9 ∷ []) ∷ denied 38 0 ∷ denied 38 0 ∷ queued 0 ∷ []
+    ≡ answered idle ∷ answered (queued 0) ∷ answered (queued 1) ∷ answered (queued 2) ∷ refusal 1 0 ∷ answered (released 0 [])
+    ∷ answered (served 0 (over (finished 3 6)) 3 6) ∷ answered (served 2 (over (spent 0 0)) 0 0) ∷ answered idle ∷ answered idle
+    ∷ refusal 22 0 ∷ answered (released 6 (0 ∷ 1 ∷ 0 ∷ 2 ∷ 1 ∷ 2 ∷ 9 ∷ 9 ∷ [])) ∷ refusal 38 0 ∷ refusal 38 0 ∷ answered (queued 0) ∷ []
 unfolding opened
 queue-case = refl
 
@@ -32,7 +33,7 @@ queue-case = refl
 abbrev two : Queue
 two = queueEnd emptyQueue (submit sheetA 1000000 ∷ submit sheetA 2 ∷ [])
 
-pub rounds-case : (turnsGiven two 3 ≡ 2) × (roundsQueue two 3 .next ≡ 2) × (endedIn two 3 ≡ 3) × (goingOn two 3 ≡ 0) × (statusReply (roundsQueue two 3) 1 ≡ served 1 (over (spent 1 2)) 1 2)
+pub rounds-case : (turnsGiven two 3 ≡ 2) × (roundsQueue two 3 .next ≡ 2) × (endedIn two 3 ≡ 3) × (goingOn two 3 ≡ 0) × (statusReply (roundsQueue two 3) 1 ≡ answered (served 1 (over (spent 1 2)) 1 2))
 unfolding opened
 rounds-case = (refl, refl, refl, refl, refl)
 

@@ -1,6 +1,6 @@
 -- The contracts of `submit`, `status` and `release` (specs/Calls) from what is shown of the replies and the bytes. Assumes nothing.
 use Rattle.model.specs.Kit.{_≡_, _∙_, List, [], ℕ}
-use Rattle.desk.specs.{Queue.denied, Queue.noCounts, Meaning.means, Calls.SubmitDone, Calls.StatusDone, Calls.ReleaseDone, declared.Answer.Answer}
+use Rattle.desk.specs.{Queue.refusal, Queue.noCounts, Meaning.means, Calls.SubmitDone, Calls.StatusDone, Calls.ReleaseDone, declared.Answer.Answer}
 use Rattle.desk.specs.declared.SlotStatus.{SlotStatus}
 use Rattle.desk.proofs.Slots.{Submits, Seen, Releasing}
 
@@ -10,7 +10,7 @@ submit-done h = record { answers = h .0; leaves = h .1 }
 pub status-done : {b : List ℕ} {slot : ℕ} {r : SlotStatus} → Seen b slot (means (r .answer) []) (r .counts) → StatusDone b slot r
 status-done h = record { answers = h .0; counts = h .1 }
 
-pub unseen : {b : List ℕ} {slot number : ℕ} {r : SlotStatus} → (means (r .answer) [] ≡ denied number 0) × (r .counts ≡ noCounts) → Seen b slot (denied number 0) noCounts → StatusDone b slot r
+pub unseen : {b : List ℕ} {slot number : ℕ} {r : SlotStatus} → (means (r .answer) [] ≡ refusal number 0) × (r .counts ≡ noCounts) → Seen b slot (refusal number 0) noCounts → StatusDone b slot r
 unseen e h = record { answers = e .0 ∙ h .0; counts = e .1 ∙ h .1 }
 
 pub release-done : {b : List ℕ} {slot : ℕ} {room c after : List ℕ} {r : Answer} → Releasing b slot room (means r after) after c → ReleaseDone b slot room c after r

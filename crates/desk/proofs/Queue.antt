@@ -12,7 +12,7 @@ use Rattle.model.specs.Run.{finished, spent, full, plansIn, nodesIn, Result, se
 use Rattle.model.specs.Run.{tallyFor, tallyOf}
 use Rattle.run_cut.specs.Parts.{nodesAfter, lastOf, Progress, start, progressAt, goOn, added, countsAfter, resumed}
 use Rattle.desk.specs.Queue.{Standing, running, over, goesOn, Job, newJob, listRoom, turnLimit, standingAfter, jobAfter, jobTurned, turned, Slot, free, taken, isFree, waits}
-use Rattle.desk.specs.Queue.{slotTurned, Queue, emptyQueue, slotAt, Found, none-found, slot, firstOf, lowestFree, toServe, QueueCall, submit, turn, release, denied, queued}
+use Rattle.desk.specs.Queue.{slotTurned, Queue, emptyQueue, slotAt, Found, none-found, slot, firstOf, lowestFree, toServe, QueueCall, submit, turn, release, refusal, answered, queued}
 use Rattle.desk.specs.Queue.{idle, served, released, servedAs, submitReply, submitQueue, turnReply, turnQueue, fits, releaseFor, releaseReply, releaseSlot, queueReply}
 use Rattle.desk.specs.{Queue.queueAfter, Queue.queueEnd, Queue.queueReplies, Queue.countsOf, Claims.serves, Claims.turnsIn, Claims.timesServed, Claims.Throughout}
 use Rattle.desk.specs.Claims.{Remains, Waits, Fair, alone, HoldsAs, Holds, As-alone, Same-as-run, Turn-of-64, Sixty-four-each, Turn-answers, Refused-same, Idle-exactly}
@@ -335,7 +335,8 @@ unfolding answerOf listOf tallyOf tallyAt
 same-as-run xs k h e out tally q s n = (
   same-answer,
   ap (λ (x : Slot). releaseReply x out) q ∙ go (fits h out) refl
-      ∙ ap₂ released (sized ∙ ap (λ (m : ℕ). m * p .variables) (a .2)) (sym (ap (λ (v : Verdict). kept v out (written (resultOf p (h .limit) (length out) .rows) out)) c ∙ ap
+      ∙ ap₂ (λ (n : ℕ) (room : List ℕ). answered (released n room)) (sized ∙ ap (λ (m : ℕ). m * p .variables) (a .2))
+      (sym (ap (λ (v : Verdict). kept v out (written (resultOf p (h .limit) (length out) .rows) out)) c ∙ ap
       (λ (m : ℕ). written (resultOf p (h .limit) m .rows) out) n ∙ ap (λ (r : Result). written (r .rows) out) (a .0))),
   ap (λ (x : Answer). tallyFor x (tallyAt p) tally) same-answer ∙ ap₂ (λ (m : ℕ) (l : List ℕ). let t : Tally = record { nodes = m; counts = l } in t) (sym (a .1)) (sym (a .3) ∙ sym (ap countsOf q)),
 )
@@ -365,7 +366,7 @@ same-as-run xs k h e out tally q s n = (
         let g : length (h .progress .rows) * p .variables ≤ listRoom p = subst (λ (l : List (List ℕ)). length l * p .variables ≤ listRoom p) rows f in
         subst (λ (z : ℕ). z ≤ length out) (sym sized) (subst (λ (z : ℕ). length (h .progress .rows) * p .variables ≤ z) (sym n) g)
 
-    go : (b : Bool) → fits h out ≡ b → releaseFor b h out ≡ released (length (flat (h .progress .rows))) (written (h .progress .rows) out)
+    go : (b : Bool) → fits h out ≡ b → releaseFor b h out ≡ answered (released (length (flat (h .progress .rows))) (written (h .progress .rows) out))
     go true f = refl
     go false f = absurd (let l = leb-false (length (flat (h .progress .rows))) (length out) f in let m = enough in omega arith)
 
@@ -480,7 +481,7 @@ keeps-slot d xs k h q r =
     let t = turned-keeps m h in
     (turned m h, by-own-turns d xs k h q r, t .0, t .1)
 
-submits : (f : Found) (v : Verdict) (k : ℕ) → submitReply f v ≡ queued k → (f ≡ slot k) × (v ≡ accepted)
+submits : (f : Found) (v : Verdict) (k : ℕ) → submitReply f v ≡ answered (queued k) → (f ≡ slot k) × (v ≡ accepted)
 submits none-found v k e = absurd (never (cc))
 submits (slot j) (refused number item) k e = absurd (never (cc))
 submits (slot j) accepted k e = ((cc), refl)
@@ -555,7 +556,7 @@ verdict-range b =
     (ask-range (eqb (h .size) (h .third + 2 * (h .symmetries * (n * d)))) 14 0 _ (omega arith) (omega arith)
     (symmetries-range (problemOf b) 0 (problemOf b .symmetries)))))))))))
 
-submit-refused : (f : Found) (v : Verdict) (number item : ℕ) → Range v → submitReply f v ≡ denied number item → ((number ≡ 37) × (f ≡ none-found)) ⊎
+submit-refused : (f : Found) (v : Verdict) (number item : ℕ) → Range v → submitReply f v ≡ refusal number item → ((number ≡ 37) × (f ≡ none-found)) ⊎
     ((1 ≤ number) × (number ≤ 16) × (v ≡ refused number item))
 submit-refused none-found v number item r e = let n : number ≡ 37 = cc in inl (n, refl)
 submit-refused (slot k) accepted number item r e = absurd (never (cc))
@@ -633,9 +634,10 @@ sixty-four-each d xs k b limit g q r e s =
     ∙ (let i : 64 * (0 + timesServed k (queueReplies d xs)) ≡ 64 * timesServed k (queueReplies d xs) = omega arith in i)
 
 -- ---- what a turn answers
-answered : (f : Found) (d : Queue) (k : ℕ) (s : Standing) (plans made : ℕ) → turnReply f d ≡ served k s plans made → (f ≡ slot k) × (servedAs k (slotTurned (slotAt d k)) ≡ served k s plans made)
-answered none-found d k s plans made e = absurd (never (cc))
-answered (slot j) d k s plans made e = let z : j ≡ k = cc in (ap slot z, rw z at e)
+served-so : (f : Found) (d : Queue) (k : ℕ) (s : Standing) (plans made : ℕ) → turnReply f d ≡ answered (served k s plans made) →
+    (f ≡ slot k) × (servedAs k (slotTurned (slotAt d k)) ≡ answered (served k s plans made))
+served-so none-found d k s plans made e = absurd (never (cc))
+served-so (slot j) d k s plans made e = let z : j ≡ k = cc in (ap slot z, rw z at e)
 
 pub job-of : (s : Slot) → T (waits s) → (h : Job) × (s ≡ taken h)
 job-of free t = absurd t
@@ -643,10 +645,11 @@ job-of (taken h) t = (h, refl)
 
 pub turn-answers : Turn-answers
 turn-answers d k s plans made e =
-    let a = answered (toServe d) d k s plans made e in
+    let a = served-so (toServe d) d k s plans made e in
     let h = job-of (slotAt d k) (to-serve-waits d k (a .0)) in
     let g = jobTurned (h .0) in
-    let r : served k (g .standing) (length (g .progress .rows)) (g .progress .made) ≡ served k s plans made = sym (ap (λ (x : Slot). servedAs k (slotTurned x)) (h .1)) ∙ a .1 in (
+    let r : answered (served k (g .standing) (length (g .progress .rows)) (g .progress .made)) ≡ answered (served k s plans made) =
+    sym (ap (λ (x : Slot). servedAs k (slotTurned x)) (h .1)) ∙ a .1 in (
       h .0,
       h .1,
       ap (λ (f : Found). slotAt (turnQueue f d) k) (a .0) ∙ getD-set-same (d .slots) k (slotTurned (slotAt d k)) free (held-lt (d .slots) k (h .0) (h .1)) ∙ ap slotTurned (h .1),
@@ -656,20 +659,20 @@ turn-answers d k s plans made e =
     )
 
 -- ---- refusals
-submit-denied : (f : Found) (v : Verdict) (d : Queue) (h : Job) (number item : ℕ) → submitReply f v ≡ denied number item → submitQueue f v d h ≡ d
+submit-denied : (f : Found) (v : Verdict) (d : Queue) (h : Job) (number item : ℕ) → submitReply f v ≡ refusal number item → submitQueue f v d h ≡ d
 submit-denied none-found v d h number item e = refl
 submit-denied (slot k) (refused n i) d h number item e = refl
 submit-denied (slot k) accepted d h number item e = absurd (never (cc))
 
-turn-denied : (f : Found) (d : Queue) (number item : ℕ) → turnReply f d ≡ denied number item → ⊥
+turn-denied : (f : Found) (d : Queue) (number item : ℕ) → turnReply f d ≡ refusal number item → ⊥
 turn-denied none-found d number item e = never (cc)
 turn-denied (slot k) d number item e = never (cc)
 
-release-denied : (s : Slot) (room : List ℕ) (number item : ℕ) → releaseReply s room ≡ denied number item → releaseSlot s room ≡ s
+release-denied : (s : Slot) (room : List ℕ) (number item : ℕ) → releaseReply s room ≡ refusal number item → releaseSlot s room ≡ s
 release-denied free room number item e = refl
 release-denied (taken h) room number item e = go (fits h room) e
   where
-    go : (b : Bool) → releaseFor b h room ≡ denied number item → _≡_ {A = Slot} (elim b [ true ↦ free | false ↦ taken h ]) (taken h)
+    go : (b : Bool) → releaseFor b h room ≡ refusal number item → _≡_ {A = Slot} (elim b [ true ↦ free | false ↦ taken h ]) (taken h)
     go true e = absurd (never (cc))
     go false e = refl
 
@@ -680,7 +683,7 @@ refused-same d (release k room) number item e =
     ap (λ (l : List Slot). let x : Queue = record { slots = l; next = d .next } in x)
     (ap (set (d .slots) k) (release-denied (slotAt d k) room number item e) ∙ set-getD (d .slots) k free)
 
-idle-none : (f : Found) (d : Queue) → turnReply f d ≡ idle → f ≡ none-found
+idle-none : (f : Found) (d : Queue) → turnReply f d ≡ answered idle → f ≡ none-found
 idle-none none-found d e = refl
 idle-none (slot k) d e = absurd (never (cc))
 
@@ -690,7 +693,7 @@ idle-exactly d = (all-done, λ f. let z = none-waits f in (ap (λ (x : Found). t
     round : ℕ → ℕ
     round i = (d .next + i) % 8
 
-    all-done : queueReply d turn ≡ idle → (k : ℕ) → k < 8 → waits (slotAt d k) ≡ false
+    all-done : queueReply d turn ≡ answered idle → (k : ℕ) → k < 8 → waits (slotAt d k) ≡ false
     all-done e k h =
         let i = (k + 8 - d .next % 8) % 8 in
         let l : i < 8 = omega arith in

@@ -7,7 +7,7 @@ use lib.Seq.{take-add, take-take}
 use Rattle.model.specs.{Lists.at, Lists.choose, Lists.flat, Lists.below, Lists.upFrom, Verdict.Verdict, Verdict.accepted, Verdict.refused, Sheet.«word», Sheet.verdictOf}
 use Rattle.model.specs.{Written.placed, Run.listedPlans, Run.written}
 use Rattle.model.proofs.{Lists.below-e, Room.length-listed}
-use Rattle.desk.specs.Queue.{Job, Slot, free, taken, isFree, slotAt, Found, none-found, slot, firstOf, lowestFree, QueueCall, submit, release, QueueReply, denied, queued}
+use Rattle.desk.specs.Queue.{Job, Slot, free, taken, isFree, slotAt, Found, none-found, slot, firstOf, lowestFree, QueueCall, submit, release, QueueReply, refusal, answered, queued}
 use Rattle.desk.specs.Queue.{served, released, submitReply, fits, releaseFor, releaseReply, queueReply, statusFor, statusReply, noCounts, countsOf, statusCounts}
 use Rattle.desk.specs.{Places.LIST, Places.LIST-BYTES, Places.size, Layout.slotPlace, Layout.long, Layout.plansAt, Layout.widthAt, Layout.nodesAt, Layout.standingAt}
 use Rattle.desk.specs.Layout.{standingBy, rowsAt, jobAt, slotOf, queueOf, slotBytes, submitBytes, releaseBytes, callBytes, replyOn, statusOn, bytesAfter, countsAt, countsOn}
@@ -104,11 +104,11 @@ more-taken b k f n j h = go (eqb j k) refl
 module _ (b : List ℕ) (x : QueueCall) where
   pub reply-whole : length b ≡ size → replyOn b x ≡ queueReply (queueOf b) x
   unfolding replyOn
-  reply-whole e = ap (λ (t : Bool). choose t (queueReply (queueOf b) x) (denied 255 0)) (eq-eqb (length b) size e)
+  reply-whole e = ap (λ (t : Bool). choose t (queueReply (queueOf b) x) (refusal 255 0)) (eq-eqb (length b) size e)
 
-  pub reply-wrong : (length b ≡ size → ⊥) → replyOn b x ≡ denied 255 0
+  pub reply-wrong : (length b ≡ size → ⊥) → replyOn b x ≡ refusal 255 0
   unfolding replyOn
-  reply-wrong n = ap (λ (t : Bool). choose t (queueReply (queueOf b) x) (denied 255 0)) (ne-eqb (length b) size n)
+  reply-wrong n = ap (λ (t : Bool). choose t (queueReply (queueOf b) x) (refusal 255 0)) (ne-eqb (length b) size n)
 
   pub bytes-whole : length b ≡ size → bytesAfter b x ≡ callBytes b x
   unfolding bytesAfter
@@ -124,7 +124,7 @@ module _ (b sheet : List ℕ) (limit : ℕ) where
   abbrev pub Submits : QueueReply → List ℕ → Type 0
   Submits r c = (r ≡ replyOn b (submit sheet limit)) × (c ≡ bytesAfter b (submit sheet limit))
 
-  pub submit-255 : (length b ≡ size → ⊥) → Submits (denied 255 0) b
+  pub submit-255 : (length b ≡ size → ⊥) → Submits (refusal 255 0) b
   submit-255 n = (sym (reply-wrong b (submit sheet limit) n), sym (bytes-wrong b (submit sheet limit) n))
 
   module _ (whole : length b ≡ size) where
@@ -140,13 +140,13 @@ module _ (b sheet : List ℕ) (limit : ℕ) where
     found-k : (k : ℕ) → k < 8 → found k ≡ slot k
     found-k k h = ap (λ (t : Bool). choose t (slot k) none-found) (lt-ltb k 8 h)
 
-    pub submit-37 : (k : ℕ) → found k ≡ lowestFree (queueOf b) → 8 ≤ k → Submits (denied 37 0) b
+    pub submit-37 : (k : ℕ) → found k ≡ lowestFree (queueOf b) → 8 ≤ k → Submits (refusal 37 0) b
     submit-37 k e h = by none-found (verdictOf sheet) (sym e ∙ found-8 k h) refl
 
-    pub submit-refused : (k number item : ℕ) → found k ≡ lowestFree (queueOf b) → k < 8 → refused number item ≡ verdictOf sheet → Submits (denied number item) b
+    pub submit-refused : (k number item : ℕ) → found k ≡ lowestFree (queueOf b) → k < 8 → refused number item ≡ verdictOf sheet → Submits (refusal number item) b
     submit-refused k number item e h v = by (slot k) (refused number item) (sym e ∙ found-k k h) (sym v)
 
-    pub submit-yes : (k : ℕ) (c : List ℕ) → found k ≡ lowestFree (queueOf b) → k < 8 → accepted ≡ verdictOf sheet → c ≡ placed b (slotPlace k) (slotBytes sheet limit) → Submits (queued k) c
+    pub submit-yes : (k : ℕ) (c : List ℕ) → found k ≡ lowestFree (queueOf b) → k < 8 → accepted ≡ verdictOf sheet → c ≡ placed b (slotPlace k) (slotBytes sheet limit) → Submits (answered (queued k)) c
     submit-yes k c e h v q = let r = by (slot k) accepted (sym e ∙ found-k k h) (sym v) in (r .0, q ∙ r .1)
 
 -- ---- the status
@@ -155,36 +155,36 @@ module _ (b : List ℕ) (k : ℕ) where
   abbrev pub Seen : QueueReply → List ℕ → Type 0
   Seen r counts = (r ≡ statusOn b k) × (counts ≡ countsOn b k)
 
-  pub status-255 : (length b ≡ size → ⊥) → Seen (denied 255 0) noCounts
+  pub status-255 : (length b ≡ size → ⊥) → Seen (refusal 255 0) noCounts
   unfolding statusOn countsOn
   status-255 n =
       let e = ne-eqb (length b) size n in
-      (sym (ap (λ (t : Bool). choose t (statusReply (queueOf b) k) (denied 255 0)) e), sym (ap (λ (t : Bool). choose t (statusCounts (queueOf b) k) noCounts) e))
+      (sym (ap (λ (t : Bool). choose t (statusReply (queueOf b) k) (refusal 255 0)) e), sym (ap (λ (t : Bool). choose t (statusCounts (queueOf b) k) noCounts) e))
 
   module _ (whole : length b ≡ size) where
     seen-by : (s : Slot) → slotAt (queueOf b) k ≡ s → Seen (statusFor k s) (countsOf s)
     unfolding statusOn countsOn
     seen-by s e =
         let w = eq-eqb (length b) size whole in (
-          sym (ap (λ (t : Bool). choose t (statusReply (queueOf b) k) (denied 255 0)) w ∙ ap (statusFor k) e),
+          sym (ap (λ (t : Bool). choose t (statusReply (queueOf b) k) (refusal 255 0)) w ∙ ap (statusFor k) e),
           sym (ap (λ (t : Bool). choose t (statusCounts (queueOf b) k) noCounts) w ∙ ap countsOf e),
         )
 
-    pub status-out : 8 ≤ k → Seen (denied 38 0) noCounts
+    pub status-out : 8 ≤ k → Seen (refusal 38 0) noCounts
     status-out h = seen-by free (slot-out b k h)
 
     module _ (h : k < 8) where
-      pub status-free : at b (slotPlace k) ≡ 0 → Seen (denied 38 0) noCounts
+      pub status-free : at b (slotPlace k) ≡ 0 → Seen (refusal 38 0) noCounts
       status-free z = seen-by free (slot-in b k h ∙ free-at b k z)
 
       pub status-yes : (s plans nodes : ℕ) (counts : List ℕ) → (at b (slotPlace k) ≡ 0 → ⊥) → s ≡ standingAt b (slotPlace k) → plans ≡ plansAt b (slotPlace k) → nodes ≡ nodesAt b (slotPlace k) →
-          counts ≡ countsAt b (slotPlace k) → Seen (served k (standingBy s plans nodes) plans nodes) counts
+          counts ≡ countsAt b (slotPlace k) → Seen (answered (served k (standingBy s plans nodes) plans nodes)) counts
       unfolding jobAt rowsAt
       status-yes s plans nodes counts n x y z c =
           let p = slotPlace k in
           let r = seen-by (taken (jobAt b p)) (slot-in b k h ∙ taken-at b k n) in (
-            ap (λ (i : ℕ). served k (standingBy i plans nodes) plans nodes) x ∙ ap₂ (λ (i j : ℕ). served k (standingBy (standingAt b p) i j) i j) y z
-                ∙ ap (λ (i : ℕ). served k (standingBy (standingAt b p) (plansAt b p) (nodesAt b p)) i (nodesAt b p))
+            ap (λ (i : ℕ). answered (served k (standingBy i plans nodes) plans nodes)) x ∙ ap₂ (λ (i j : ℕ). answered (served k (standingBy (standingAt b p) i j) i j)) y z
+                ∙ ap (λ (i : ℕ). answered (served k (standingBy (standingAt b p) (plansAt b p) (nodesAt b p)) i (nodesAt b p)))
                 (sym (length-listed (widthAt b p) (plansAt b p) (take LIST-BYTES (drop (p + LIST) b))))
                 ∙ r .0,
             c ∙ r .1,
@@ -202,7 +202,7 @@ module _ (b : List ℕ) (k : ℕ) (room : List ℕ) where
   abbrev pub Releasing : QueueReply → List ℕ → List ℕ → Type 0
   Releasing r out c = (r ≡ replyOn b (release k room)) × ((out ≡ roomAfter (replyOn b (release k room)) room) × (c ≡ bytesAfter b (release k room)))
 
-  pub release-255 : (length b ≡ size → ⊥) → Releasing (denied 255 0) room b
+  pub release-255 : (length b ≡ size → ⊥) → Releasing (refusal 255 0) room b
   release-255 n =
       let e = reply-wrong b (release k room) n in
       (sym e, (sym (ap (λ (r : QueueReply). roomAfter r room) e), sym (bytes-wrong b (release k room) n)))
@@ -213,11 +213,11 @@ module _ (b : List ℕ) (k : ℕ) (room : List ℕ) where
         let r = reply-whole b (release k room) whole ∙ ap (λ (x : Slot). releaseReply x room) e in
         (sym r, (sym (ap (λ (x : QueueReply). roomAfter x room) r), sym (bytes-whole b (release k room) whole ∙ ap (λ (x : Slot). releaseBytes x b k room) e)))
 
-    pub release-out : 8 ≤ k → Releasing (denied 38 0) room b
+    pub release-out : 8 ≤ k → Releasing (refusal 38 0) room b
     release-out h = by-slot free (slot-out b k h)
 
     module _ (h : k < 8) where
-      pub release-free : at b (slotPlace k) ≡ 0 → Releasing (denied 38 0) room b
+      pub release-free : at b (slotPlace k) ≡ 0 → Releasing (refusal 38 0) room b
       release-free z = by-slot free (slot-in b k h ∙ free-at b k z)
 
       abbrev job : Job
@@ -237,11 +237,11 @@ module _ (b : List ℕ) (k : ℕ) (room : List ℕ) where
         sized : length (flat (job .progress .rows)) ≡ n
         sized = ap length listed ∙ length-take-le n (drop (slotPlace k + LIST) b) (let e = length-drop (slotPlace k + LIST) b in omega arith)
 
-        pub release-22 : (at b (slotPlace k) ≡ 0 → ⊥) → length room < n → Releasing (denied 22 0) room b
+        pub release-22 : (at b (slotPlace k) ≡ 0 → ⊥) → length room < n → Releasing (refusal 22 0) room b
         release-22 z l = by-room false z (lt-leb (length (flat (job .progress .rows))) (length room) (let e = sized in omega arith))
 
         pub release-yes : (m : ℕ) (out c : List ℕ) → m ≡ n → (at b (slotPlace k) ≡ 0 → ⊥) → n ≤ length room → out ≡ placed room 0 (take m (drop (slotPlace k + LIST) b)) → c ≡ set b (slotPlace k) 0
-            → Releasing (released n out) out c
+            → Releasing (answered (released n out)) out c
         unfolding written placed
         release-yes m out c s z l e q =
             let r = by-room true z (le-leb (length (flat (job .progress .rows))) (length room) (let e = sized in omega arith)) in
@@ -249,4 +249,4 @@ module _ (b : List ℕ) (k : ℕ) (room : List ℕ) where
             let w : written (job .progress .rows) room ≡ out =
             ap (λ (x : List ℕ). x ++ drop (length x) room) listed ∙ ap (λ (i : ℕ). t ++ drop i room) (sym (zero-add (length t)))
             ∙ sym (e ∙ ap (λ (i : ℕ). placed room 0 (take i (drop (slotPlace k + LIST) b))) s) in
-            (ap₂ released (sym sized) (sym w) ∙ r .0, (sym w ∙ r .1 .0, q ∙ r .1 .1))
+            (ap₂ (λ (n : ℕ) (out : List ℕ). answered (released n out)) (sym sized) (sym w) ∙ r .0, (sym w ∙ r .1 .0, q ∙ r .1 .1))

@@ -5,7 +5,7 @@ use Rattle.model.specs.{Lists.any, Lists.at, Lists.flat, Verdict.refused, Searc
 use Rattle.model.specs.Run.{Result, resultOf, ended, answerOf, written, listOf, Tally, tallyAt, tallyOf}
 use Rattle.run_cut.specs.Parts.{progressAt}
 use Rattle.desk.specs.Queue.{Standing, running, over, goesOn, Job, newJob, listRoom, jobTurned, turned, free, taken, isFree, waits, Queue, emptyQueue, slotAt, QueueCall}
-use Rattle.desk.specs.Queue.{submit, turn, release, QueueReply, denied, queued, idle, served, released, fits, releaseSlot, queueReply, queueAfter, queueEnd, queueReplies}
+use Rattle.desk.specs.Queue.{submit, turn, release, QueueReply, refusal, answered, queued, idle, served, released, fits, releaseSlot, queueReply, queueAfter, queueEnd, queueReplies}
 use Rattle.desk.specs.{Queue.roundsQueue, Queue.turnsGiven, Queue.due, Queue.statusCounts, Places.size, Layout.queueOf, Layout.roundsBytes, Layout.replyOn, Layout.bytesAfter}
 
 -- ---- words
@@ -15,11 +15,11 @@ alone h limit = resultOf (problemOf (h .sheet)) limit (listRoom (problemOf (h .s
 
 -- a turn that served the slot
 abbrev pub serves : ℕ → QueueReply → Bool
-serves k (denied number item) = false
-serves k (queued j) = false
-serves k idle = false
-serves k (served j s plans made) = eqb j k
-serves k (released count room) = false
+serves k (refusal number item) = false
+serves k (answered (queued j)) = false
+serves k (answered idle) = false
+serves k (answered (served j s plans made)) = eqb j k
+serves k (answered (released count room)) = false
 
 unfoldable pub turnsIn : List QueueCall → ℕ
 turnsIn [] = 0
@@ -86,7 +86,7 @@ Sixty-four-each =
 -- a turn answers the slot served, and how its run stands after it, with its figures
 abbrev pub Turn-answers : Type 0
 Turn-answers =
-    (d : Queue) (k : ℕ) (s : Standing) (plans made : ℕ) → queueReply d turn ≡ served k s plans made →
+    (d : Queue) (k : ℕ) (s : Standing) (plans made : ℕ) → queueReply d turn ≡ answered (served k s plans made) →
     (h : Job) × (slotAt d k ≡ taken h) × (slotAt (queueAfter d turn) k ≡ taken (jobTurned h))
     × (jobTurned h .standing ≡ s) × (length (jobTurned h .progress .rows) ≡ plans) × (jobTurned h .progress .made ≡ made)
 
@@ -96,7 +96,7 @@ Same-as-run =
     (xs : List QueueCall) (k : ℕ) (h : Job) (e : Ending) (out : List ℕ) (tally : Tally) →
     slotAt (queueEnd emptyQueue xs) k ≡ taken h → h .standing ≡ over e → length out ≡ listRoom (problemOf (h .sheet)) →
     (answerOf (h .sheet) (h .limit) out ≡ ended e)
-    × (queueReply (queueEnd emptyQueue xs) (release k out) ≡ released (plansIn e * problemOf (h .sheet) .variables) (listOf (h .sheet) (h .limit) out))
+    × (queueReply (queueEnd emptyQueue xs) (release k out) ≡ answered (released (plansIn e * problemOf (h .sheet) .variables) (listOf (h .sheet) (h .limit) out)))
     × (tallyOf (h .sheet) (h .limit) out tally ≡ record { nodes = h .progress .made; counts = statusCounts (queueEnd emptyQueue xs) k })
 
 -- 3: what a slot holds depends on its own turns alone
@@ -114,15 +114,15 @@ Others-nothing =
 -- 4: a new job gets the lowest free slot, one of the eight
 abbrev pub Lowest-slot : Type 0
 Lowest-slot =
-    (xs : List QueueCall) (b : List ℕ) (limit k : ℕ) → queueReply (queueEnd emptyQueue xs) (submit b limit) ≡ queued k →
+    (xs : List QueueCall) (b : List ℕ) (limit k : ℕ) → queueReply (queueEnd emptyQueue xs) (submit b limit) ≡ answered (queued k) →
     (k < 8) × (slotAt (queueEnd emptyQueue xs) k ≡ free) × ((j : ℕ) → j < k → isFree (slotAt (queueEnd emptyQueue xs) j) ≡ false)
     × (slotAt (queueAfter (queueEnd emptyQueue xs) (submit b limit)) k ≡ taken (newJob b limit))
 
 -- 37 exactly where all eight are taken; any other refusal is the sheet's own, 1 to 16
 abbrev pub Slots-taken : Type 0
 Slots-taken =
-    (d : Queue) (b : List ℕ) (limit : ℕ) → (((k : ℕ) → k < 8 → isFree (slotAt d k) ≡ false) → queueReply d (submit b limit) ≡ denied 37 0)
-    × ((number item : ℕ) → queueReply d (submit b limit) ≡ denied number item →
+    (d : Queue) (b : List ℕ) (limit : ℕ) → (((k : ℕ) → k < 8 → isFree (slotAt d k) ≡ false) → queueReply d (submit b limit) ≡ refusal 37 0)
+    × ((number item : ℕ) → queueReply d (submit b limit) ≡ refusal number item →
     ((number ≡ 37) × ((k : ℕ) → k < 8 → isFree (slotAt d k) ≡ false)) ⊎ ((1 ≤ number) × (number ≤ 16) × (verdictOf b ≡ refused number item)))
 
 -- and keeps it, with its sheet and its limit, until it is released
@@ -135,22 +135,22 @@ Keeps-slot =
 abbrev pub Releases : Type 0
 Releases =
     (d : Queue) (k : ℕ) (h : Job) (room : List ℕ) → slotAt d k ≡ taken h → T (fits h room) →
-    (queueReply d (release k room) ≡ released (length (flat (h .progress .rows))) (written (h .progress .rows) room)) × (slotAt (queueAfter d (release k room)) k ≡ free)
+    (queueReply d (release k room) ≡ answered (released (length (flat (h .progress .rows))) (written (h .progress .rows) room))) × (slotAt (queueAfter d (release k room)) k ≡ free)
 
 -- ---- refusals
 -- a refused call leaves the queue as it is
 abbrev pub Refused-same : Type 0
-Refused-same = (d : Queue) (x : QueueCall) (number item : ℕ) → queueReply d x ≡ denied number item → queueAfter d x ≡ d
+Refused-same = (d : Queue) (x : QueueCall) (number item : ℕ) → queueReply d x ≡ refusal number item → queueAfter d x ≡ d
 
 -- a turn is idle exactly where no job waits, and then does nothing
 abbrev pub Idle-exactly : Type 0
 Idle-exactly =
-    (d : Queue) → (queueReply d turn ≡ idle → (k : ℕ) → k < 8 → waits (slotAt d k) ≡ false)
-    × (((k : ℕ) → k < 8 → waits (slotAt d k) ≡ false) → (queueReply d turn ≡ idle) × (queueAfter d turn ≡ d))
+    (d : Queue) → (queueReply d turn ≡ answered idle → (k : ℕ) → k < 8 → waits (slotAt d k) ≡ false)
+    × (((k : ℕ) → k < 8 → waits (slotAt d k) ≡ false) → (queueReply d turn ≡ answered idle) × (queueAfter d turn ≡ d))
 
 -- 38 past the eighth slot
 abbrev pub Past-eighth : Type 0
-Past-eighth = (xs : List QueueCall) (k : ℕ) (room : List ℕ) → 8 ≤ k → queueReply (queueEnd emptyQueue xs) (release k room) ≡ denied 38 0
+Past-eighth = (xs : List QueueCall) (k : ℕ) (room : List ℕ) → 8 ≤ k → queueReply (queueEnd emptyQueue xs) (release k room) ≡ refusal 38 0
 
 -- ---- rounds
 -- the queue after rounds is that of so many turns one by one; at a queue of eight slots, as any is that calls have made of the empty one

@@ -6,7 +6,7 @@ use Rattle.model.specs.{Bytes.twoBytes, Bytes.fourBytes, Written.placed, Run.fi
 use Rattle.sheet.specs.Form.{compilable}
 use Rattle.desk.specs.Places.{LENGTH, LIMIT, STANDING, NODES, PLANS, DEPTH, LAST, COUNTS, SHEET, SHEET-BYTES, LIST, LIST-PLANS, LIST-BYTES, SLOT, NEXT, size}
 use Rattle.desk.specs.Queue.{Standing, running, over, Job, jobTurned, Slot, free, taken, Queue, slotAt, Found, none-found, slot, lowestFree, toServe, QueueCall, submit, turn}
-use Rattle.desk.specs.Queue.{release, QueueReply, denied, fits, queueReply, dueAt, given, roundFrom, roundsQueue, statusReply, noCounts, statusCounts, RoundsReply, not-given}
+use Rattle.desk.specs.Queue.{release, QueueReply, refusal, fits, queueReply, dueAt, given, roundFrom, roundsQueue, statusReply, noCounts, statusCounts, RoundsReply}
 use Rattle.desk.specs.Queue.{roundsReply}
 
 -- where slot k starts
@@ -139,11 +139,11 @@ callBytes b (release k room) = releaseBytes (slotAt (queueOf b) k) b k room
 
 -- ---- a call on lent bytes of any length: asked first, refusal 255 where they have not the queue's size
 unfoldable pub replyOn : List ℕ → QueueCall → QueueReply
-replyOn b x = choose (eqb (length b) size) (queueReply (queueOf b) x) (denied 255 0)
+replyOn b x = choose (eqb (length b) size) (queueReply (queueOf b) x) (refusal 255 0)
 
 -- the status: the reply, and the twelve counts beside it
 unfoldable pub statusOn : List ℕ → ℕ → QueueReply
-statusOn b k = choose (eqb (length b) size) (statusReply (queueOf b) k) (denied 255 0)
+statusOn b k = choose (eqb (length b) size) (statusReply (queueOf b) k) (refusal 255 0)
 
 unfoldable pub countsOn : List ℕ → ℕ → List ℕ
 countsOn b k = choose (eqb (length b) size) (statusCounts (queueOf b) k) noCounts
@@ -153,7 +153,7 @@ bytesAfter b x = choose (eqb (length b) size) (callBytes b x) b
 
 -- rounds, likewise
 unfoldable pub roundsOn : List ℕ → ℕ → RoundsReply
-roundsOn b r = choose (eqb (length b) size) (roundsReply (queueOf b) r) (not-given 255 0)
+roundsOn b r = choose (eqb (length b) size) (roundsReply (queueOf b) r) (refusal 255 0)
 
 unfoldable pub roundsAfter : List ℕ → ℕ → List ℕ
 roundsAfter b r = choose (eqb (length b) size) (roundsBytes b r) b

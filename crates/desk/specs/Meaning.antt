@@ -1,25 +1,25 @@
 -- What the answers mean.
 use Rattle.model.specs.Kit.{List, ℕ, ltb}
-use Rattle.desk.specs.{Queue.QueueReply, Queue.denied, Queue.queued, Queue.idle, Queue.served, Queue.released, Queue.Found, Queue.none-found, Queue.slot, Layout.standingBy}
+use Rattle.desk.specs.{Queue.QueueReply, Queue.refusal, Queue.answered, Queue.queued, Queue.idle, Queue.served, Queue.released, Queue.Found, Queue.none-found, Queue.slot, Layout.standingBy}
 use Rattle.desk.specs.{declared.Answer.Answer, declared.Answer.the-variants.Queued, declared.Answer.the-variants.Idle, declared.Answer.the-variants.Stands}
 use Rattle.desk.specs.declared.Answer.the-variants.{Released, Refused}
 use Rattle.model.specs.Lists.{choose}
 
 -- the reply, given the room afterwards
 abbrev pub means : Answer → List ℕ → QueueReply
-means (Queued s) room = queued s
-means Idle room = idle
-means (Stands s standing plans nodes) room = served s (standingBy standing plans nodes) plans nodes
-means (Released bytes) room = released bytes room
-means (Refused number item) room = denied number item
+means (Queued s) room = answered (queued s)
+means Idle room = answered idle
+means (Stands s standing plans nodes) room = answered (served s (standingBy standing plans nodes) plans nodes)
+means (Released bytes) room = answered (released bytes room)
+means (Refused number item) room = refusal number item
 
 -- the lent room after a reply
 abbrev pub roomAfter : QueueReply → List ℕ → List ℕ
-roomAfter (denied number item) room = room
-roomAfter (queued k) room = room
-roomAfter idle room = room
-roomAfter (served k s plans made) room = room
-roomAfter (released count after) room = after
+roomAfter (refusal number item) room = room
+roomAfter (answered (queued k)) room = room
+roomAfter (answered idle) room = room
+roomAfter (answered (served k s plans made)) room = room
+roomAfter (answered (released count after)) room = after
 
 -- a slot's number, 8 where none was found
 abbrev pub found : ℕ → Found

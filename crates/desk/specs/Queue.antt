@@ -3,6 +3,7 @@
 use Rattle.model.specs.Kit.{Bool, true, false, not, List, [], _∷_, map, ℕ, zero, suc, _+_, _*_, _%_, min, length, set, getD, replicate, leb, ltb}
 use Rattle.model.specs.{Lists.both, Lists.choose, Lists.flat, Lists.below, Lists.total, ValueSets.maskOf, Problem.Problem, Verdict.Verdict, Verdict.accepted, Verdict.refused}
 use Rattle.model.specs.{Sheet.verdictOf, Sheet.problemOf, Run.Ending, Run.finished, Run.spent, Run.full, Run.Result, Run.written}
+pub use Rattle.model.specs.Verdict.{Reply, refusal, answered}
 use Rattle.run_cut.specs.Parts.{Progress, start, goOn, progressAfter}
 use Rattle.desk.specs.Places.{LIST-PLANS, QUANTUM}
 
@@ -111,14 +112,15 @@ pub data QueueCall : Type 0 where
   turn : QueueCall
   release : ℕ → List ℕ → QueueCall
 
--- a refusal; the slot of a new job; no run waits; the slot served, how its run stands, its plans and its nodes so far; the bytes written, and the
--- room afterwards
-pub data QueueReply : Type 0 where
-  denied : ℕ → ℕ → QueueReply
-  queued : ℕ → QueueReply
-  idle : QueueReply
-  served : ℕ → Standing → ℕ → ℕ → QueueReply
-  released : ℕ → List ℕ → QueueReply
+-- the slot of a new job; no run waits; the slot served, how its run stands, its plans and its nodes so far; the bytes written, and the room afterwards
+pub data QueueAnswer : Type 0 where
+  queued : ℕ → QueueAnswer
+  idle : QueueAnswer
+  served : ℕ → Standing → ℕ → ℕ → QueueAnswer
+  released : ℕ → List ℕ → QueueAnswer
+
+abbrev pub QueueReply : Type 0
+QueueReply = Reply QueueAnswer
 
 -- how a slot stands, with its figures
 abbrev pub standingOf : Slot → Standing
@@ -134,16 +136,16 @@ madeOf free = 0
 madeOf (taken h) = h .progress .made
 
 abbrev pub servedAs : ℕ → Slot → QueueReply
-servedAs k s = served k (standingOf s) (plansOf s) (madeOf s)
+servedAs k s = answered (served k (standingOf s) (plansOf s) (madeOf s))
 
 abbrev pub withSlot : Queue → ℕ → Slot → Queue
 withSlot d k s = record { slots = set (d .slots) k s; next = d .next }
 
 -- submitting: 37, then the sheet's questions
 abbrev pub submitReply : Found → Verdict → QueueReply
-submitReply none-found v = denied 37 0
-submitReply (slot k) (refused number item) = denied number item
-submitReply (slot k) accepted = queued k
+submitReply none-found v = refusal 37 0
+submitReply (slot k) (refused number item) = refusal number item
+submitReply (slot k) accepted = answered (queued k)
 
 abbrev pub submitQueue : Found → Verdict → Queue → Job → Queue
 submitQueue none-found v d h = d
@@ -152,7 +154,7 @@ submitQueue (slot k) accepted d h = withSlot d k (taken h)
 
 -- a turn: the slot served, and how it stands after it; with no such slot it does nothing and says so
 abbrev pub turnReply : Found → Queue → QueueReply
-turnReply none-found d = idle
+turnReply none-found d = answered idle
 turnReply (slot k) d = servedAs k (slotTurned (slotAt d k))
 
 abbrev pub turnQueue : Found → Queue → Queue
@@ -164,11 +166,11 @@ abbrev pub fits : Job → List ℕ → Bool
 fits h room = leb (length (flat (h .progress .rows))) (length room)
 
 abbrev pub releaseFor : Bool → Job → List ℕ → QueueReply
-releaseFor true h room = released (length (flat (h .progress .rows))) (written (h .progress .rows) room)
-releaseFor false h room = denied 22 0
+releaseFor true h room = answered (released (length (flat (h .progress .rows))) (written (h .progress .rows) room))
+releaseFor false h room = refusal 22 0
 
 abbrev pub releaseReply : Slot → List ℕ → QueueReply
-releaseReply free room = denied 38 0
+releaseReply free room = refusal 38 0
 releaseReply (taken h) room = releaseFor (fits h room) h room
 
 abbrev pub releaseSlot : Slot → List ℕ → Slot
@@ -195,7 +197,7 @@ queueReplies d (x ∷ xs) = queueReply d x ∷ queueReplies (queueAfter d x) xs
 
 -- ---- the status of a slot: how it stands; 38 where it is free
 abbrev pub statusFor : ℕ → Slot → QueueReply
-statusFor k free = denied 38 0
+statusFor k free = refusal 38 0
 statusFor k (taken h) = servedAs k (taken h)
 
 abbrev pub statusReply : Queue → ℕ → QueueReply
@@ -251,9 +253,8 @@ abbrev pub goingOn : Queue → ℕ → ℕ
 goingOn d r = maskOf (λ k. waits (slotGiven r (slotAt d k)))
 
 -- a refusal, or these two sets
-pub data RoundsReply : Type 0 where
-  not-given : ℕ → ℕ → RoundsReply
-  gave : ℕ → ℕ → RoundsReply
+abbrev pub RoundsReply : Type 0
+RoundsReply = Reply (ℕ × ℕ)
 
 abbrev pub roundsReply : Queue → ℕ → RoundsReply
-roundsReply d r = gave (endedIn d r) (goingOn d r)
+roundsReply d r = answered (endedIn d r, goingOn d r)

@@ -18,7 +18,7 @@ ghost use mathlib.Core.List.{[]};
 ghost use Prim.Native.Nat.{_+_, _*_, _≤_, _<_};
 ghost use lib.ListN.{length};
 ghost use Rattle.desk.specs.Places.{LIST, LIST-BYTES};
-ghost use Rattle.desk.specs.Queue.{denied, noCounts};
+ghost use Rattle.desk.specs.Queue.{refusal, noCounts};
 ghost use Rattle.desk.specs.Layout.{plansAt, widthAt};
 ghost use Rattle.desk.specs.Meaning.{means};
 ghost use Rattle.desk.specs.Calls.{StatusDone, ReleaseDone};
@@ -33,7 +33,7 @@ fn list_length(queue: &[u8], p: usize) -> usize
 
 // A refusal in place of how a slot stands.
 fn unseen(number: u8) -> SlotStatus
-    ensures { λ r. ⌜ (means (r .answer) [] ≡ denied number 0) × (r .counts ≡ noCounts) ⌝ }
+    ensures { λ r. ⌜ (means (r .answer) [] ≡ refusal number 0) × (r .counts ≡ noCounts) ⌝ }
 {
     SlotStatus {
         answer: Answer::Refused { number, item: 0 },

@@ -4,8 +4,8 @@ use Rattle.model.specs.Kit.{eqb, ltb, leb, length, set, eq-eqb, ne-eqb, lt-ltb,
 use lib.Bits.{and-lt}
 use lib.ListN.{List·getD-map}
 use Rattle.model.specs.{Lists.at, Lists.both, Lists.choose, Lists.below, Lists.upFrom, ValueSets.has, ValueSets.maskOf}
-use Rattle.model.proofs.{Masks.is-mask, Masks.has-and, Masks.has-not, Sets.has-mask, Sets.mask-lt}
-use Rattle.desk.specs.Queue.{Slot, free, taken, waits, Queue, slotAt, roundFrom, due, dueAt, given, slotGiven, behindLast, roundsQueue, RoundsReply, gave, not-given, roundsReply}
+use Rattle.model.proofs.{Lists.both-false, Masks.is-mask, Masks.has-and, Masks.has-not, Sets.has-mask, Sets.mask-lt}
+use Rattle.desk.specs.Queue.{Slot, free, taken, waits, Queue, slotAt, roundFrom, due, dueAt, given, slotGiven, behindLast, roundsQueue, RoundsReply, refusal, answered, roundsReply}
 use Rattle.desk.specs.{Places.NEXT, Places.size, Layout.slotPlace, Layout.jobAt, Layout.slotOf, Layout.queueOf, Layout.withRun, Layout.roundBytes, Layout.roundsBytes}
 use Rattle.desk.specs.{Layout.roundsOn, Layout.roundsAfter, Claims.QueueBytes}
 use Rattle.desk.proofs.{Slots.slot-in, Rounds.due-over, Rounds.due-none, RoundCalls.Served, RoundCalls.serve, RoundCalls.rounds-call}
@@ -108,11 +108,7 @@ module _ (b : List ℕ) (r : ℕ) where
         yes h = let a = t .some in ap₂ both (lt-ltb 0 took (omega arith)) (le-leb best took h)
 
         no : took < best → choice best took ≡ false
-        no h = ap (both (ltb 0 took)) (lt-leb best took h) ∙ never (ltb 0 took)
-          where
-            never : (x : Bool) → both x false ≡ false
-            never true = refl
-            never false = refl
+        no h = ap (both (ltb 0 took)) (lt-leb best took h) ∙ both-false (ltb 0 took)
 
         kept : ((best ≤ took) × (next′ ≡ (k + 1) % 8) × (best′ ≡ took)) ⊎ ((took < best) × (next′ ≡ next) × (best′ ≡ best)) → behindLast turns (rest (i + 1)) best′ next′ ≡ behindLast turns
             (rest 0) 0 (at b NEXT)
@@ -138,17 +134,17 @@ module _ (b : List ℕ) (r : ℕ) where
   abbrev pub Rounded : RoundsReply → List ℕ → Type 0
   Rounded x c = (x ≡ roundsOn b r) × (c ≡ roundsAfter b r)
 
-  pub rounds-255 : (length b ≡ size → ⊥) → Rounded (not-given 255 0) b
+  pub rounds-255 : (length b ≡ size → ⊥) → Rounded (refusal 255 0) b
   unfolding roundsOn roundsAfter
-  rounds-255 n = let e = ne-eqb (length b) size n in (sym (ap (λ (t : Bool). choose t (roundsReply (queueOf b) r) (not-given 255 0)) e), sym (ap (λ (t : Bool). choose t (roundsBytes b r) b) e))
+  rounds-255 n = let e = ne-eqb (length b) size n in (sym (ap (λ (t : Bool). choose t (roundsReply (queueOf b) r) (refusal 255 0)) e), sym (ap (λ (t : Bool). choose t (roundsBytes b r) b) e))
 
   pub rounded : QueueBytes b → (before going next : ℕ) (c c′ : List ℕ) → before ≡ maskOf (λ k. waits (slotAt (queueOf b) k)) → c ≡ roundBytes r (roundFrom (at b NEXT)) b → next ≡ roundsQueue
       (queueOf b) r .next → c′ ≡ set c NEXT next →
-      going ≡ maskOf (λ k. waits (slotAt (queueOf c′) k)) → Rounded (gave (bitAnd before (65535 - going)) going) c′
+      going ≡ maskOf (λ k. waits (slotAt (queueOf c′) k)) → Rounded (answered (bitAnd before (65535 - going), going)) c′
   unfolding roundsOn roundsAfter roundsBytes
   rounded d before going next c c′ eb ec en es eg = (
-    ap₂ gave (is-mask ended over ended-small ended-has) (is-mask going on going-small (λ v l. going-has v l))
-        ∙ sym (ap (λ (t : Bool). choose t (roundsReply (queueOf b) r) (not-given 255 0)) whole),
+    ap₂ (λ (x y : ℕ). answered (x, y)) (is-mask ended over ended-small ended-has) (is-mask going on going-small (λ v l. going-has v l))
+        ∙ sym (ap (λ (t : Bool). choose t (roundsReply (queueOf b) r) (refusal 255 0)) whole),
     whole-bytes ∙ sym (ap (λ (t : Bool). choose t (roundsBytes b r) b) whole),
   )
     where

@@ -7,7 +7,7 @@ use Rattle.model.proofs.{Lists.T-of, Lists.of-T, Written.length-placed, Written
 use Rattle.run_state.specs.{inner.Pair.prefixOf, Walk.stopIn}
 use Rattle.run_cut.specs.Parts.{nodesAfter, goOn, madeIn, added}
 use Rattle.desk.specs.Queue.{Standing, running, over, goesOn, Job, listRoom, standingAfter, jobAfter, jobTurned, turned, Slot, taken, waits, slotTurned, slotAt, Found, none-found}
-use Rattle.desk.specs.Queue.{slot, roundFrom, toServe, turn, QueueReply, idle, served, servedAs, turnReply, denied, due, given}
+use Rattle.desk.specs.Queue.{slot, roundFrom, toServe, turn, QueueReply, idle, served, servedAs, turnReply, refusal, answered, due, given}
 use Rattle.desk.specs.{Places.LIMIT, Places.STANDING, Places.COUNTS, Places.LIST, Places.NEXT, Places.size, Layout.slotPlace, Layout.long, Layout.standingBy, Layout.nodesAt}
 use Rattle.desk.specs.Layout.{countsAt, jobAt, slotOf, queueOf, standingByte, stateBytes, countBytes, runBytes, withRun, turnBytes, replyOn, bytesAfter}
 use Rattle.desk.specs.{Claims.QueueBytes, Meaning.found}
@@ -163,14 +163,14 @@ module _ (b : List ℕ) where
   abbrev pub Turned : QueueReply → List ℕ → Type 0
   Turned r c = (r ≡ replyOn b turn) × (c ≡ bytesAfter b turn)
 
-  pub turn-255 : (length b ≡ size → ⊥) → Turned (denied 255 0) b
+  pub turn-255 : (length b ≡ size → ⊥) → Turned (refusal 255 0) b
   turn-255 n = (sym (reply-wrong b turn n), sym (bytes-wrong b turn n))
 
   module _ (whole : length b ≡ size) where
     by : (f : Found) → toServe (queueOf b) ≡ f → Turned (turnReply f (queueOf b)) (turnBytes f b)
     by f e = (sym (reply-whole b turn whole ∙ ap (λ (x : Found). turnReply x (queueOf b)) e), sym (bytes-whole b turn whole ∙ ap (λ (x : Found). turnBytes x b) e))
 
-    pub turn-idle : (k : ℕ) → found k ≡ toServe (queueOf b) → 8 ≤ k → Turned idle b
+    pub turn-idle : (k : ℕ) → found k ≡ toServe (queueOf b) → 8 ≤ k → Turned (answered idle) b
     turn-idle k e h = by none-found (sym e ∙ ap (λ (t : Bool). choose t (slot k) none-found) (le-ltb k 8 h))
 
     module _ (small : (i : ℕ) → at b i < 256) (k : ℕ) (e : found k ≡ toServe (queueOf b)) (l : k < 8) where
@@ -187,7 +187,7 @@ module _ (b : List ℕ) where
       unfolding due
       one = ap (λ (t : Bool). turned (choose t 1 0) now) (goes b k (whole, small) l waiting)
 
-      pub turn-served : (c : List ℕ) (s : Served) → ServedAt b k 1 c s → Turned (served k (standingBy (s .standing) (s .plans) (s .nodes)) (s .plans) (s .nodes)) (set c NEXT ((k + 1) % 8))
+      pub turn-served : (c : List ℕ) (s : Served) → ServedAt b k 1 c s → Turned (answered (served k (standingBy (s .standing) (s .plans) (s .nodes)) (s .plans) (s .nodes))) (set c NEXT ((k + 1) % 8))
       turn-served c s q =
           let r = by (slot k) serves in
           let f = fits-after b k (whole, small) l waiting 1 (omega arith) in
@@ -195,7 +195,8 @@ module _ (b : List ℕ) where
           let stands : standingBy (s .standing) (s .plans) (s .nodes) ≡ g .standing =
           ap (λ (x : ℕ). standingBy x (s .plans) (s .nodes)) (q .standing ∙ sym (byte-number (g .standing))) ∙ ap₂ (standingBy (min 3 (standingByte (g .standing)))) (q .plans) (q .nodes)
           ∙ f .figured in (
-            ap (λ (x : Standing). served k x (s .plans) (s .nodes)) stands ∙ ap₂ (served k (g .standing)) (q .plans) (q .nodes) ∙ ap (λ (x : Job). servedAs k (taken x)) one
+            ap (λ (x : Standing). answered (served k x (s .plans) (s .nodes))) stands
+                ∙ ap₂ (λ (x y : ℕ). answered (served k (g .standing) x y)) (q .plans) (q .nodes) ∙ ap (λ (x : Job). servedAs k (taken x)) one
                 ∙ sym (ap (λ (x : Slot). servedAs k (slotTurned x)) (slot-in b k l ∙ slot-is b k (whole, small) l waiting)) ∙ r .0,
             ap (λ (x : List ℕ). set x NEXT ((k + 1) % 8)) (q .written ∙ ap (withRun b (slotPlace k)) one) ∙ r .1,
           )

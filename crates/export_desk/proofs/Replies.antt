@@ -6,7 +6,7 @@ use Rattle.model.proofs.{Lists.below-e, Lists.at-replicate, Room.length-flat, W
 use Rattle.wire.specs.Wire.{wrongLength, threeNumbers}
 use Rattle.wire.proofs.{Codes.Small, Codes.verdict-small, Numbers.whole}
 use Rattle.desk.specs.Queue.{Job, jobTurned, Slot, free, taken, isFree, waits, slotTurned, slotAt, Found, none-found, slot, lowestFree, roundFrom, toServe, QueueCall, submit, turn}
-use Rattle.desk.specs.Queue.{release, QueueReply, denied, servedAs, submitReply, turnReply, fits, releaseFor, releaseReply, statusFor, noCounts, countsOf, RoundsReply, not-given}
+use Rattle.desk.specs.Queue.{release, QueueReply, refusal, servedAs, submitReply, turnReply, fits, releaseFor, releaseReply, statusFor, noCounts, countsOf, RoundsReply}
 use Rattle.desk.specs.{Queue.roundsReply, Places.LIMIT, Places.size, Layout.slotPlace, Layout.standingBy, Layout.widthAt, Layout.jobAt, Layout.queueOf, Layout.replyOn}
 use Rattle.desk.specs.{Layout.statusOn, Layout.countsOn, Layout.bytesAfter, Layout.roundsOn, Layout.roundsAfter, Meaning.means, Meaning.roomAfter, declared.Answer.Answer}
 use Rattle.desk.specs.declared.Answer.the-variants.{Queued, Idle, Stands, Released, Refused}
@@ -14,7 +14,7 @@ use Rattle.desk.proofs.{Queue.first-in, Slots.long-small, Slots.slot-in, Slots.
 use Rattle.export_counts.specs.{Tallied.numbersOf, inner.Inner.Twelve}
 use Rattle.export_counts.proofs.Tallied.{length-numbers}
 use Rattle.export_desk.specs.Told.{fourNumbers, kindOf, replyCode, replyAnswer, answerLength, queueCode, queueBytes, queueAnswer, releaseRoom, statusBytes, statusCode}
-use Rattle.export_desk.specs.Told.{statusAnswer, roundsReplyCode, roundsReplyAnswer, roundsCode, roundsQueue, roundsAnswer, CallQueue, CallRelease, CallStatus, CallRounds}
+use Rattle.export_desk.specs.Told.{statusAnswer, roundsReplyAnswer, roundsCode, roundsQueue, roundsAnswer, CallQueue, CallRelease, CallStatus, CallRounds}
 use Rattle.export_desk.specs.Told.{Holds, Sees}
 
 -- ---- four numbers
@@ -85,10 +85,10 @@ unfolding at
 none-twelve = record { long = refl; small = λ i. let z = at-replicate 12 i in omega arith }
 
 module _ (b : List ℕ) (small : (i : ℕ) → at b i < 256) where
-  sized : (x : QueueReply) (n : ℕ) → (length b ≡ size → Holds x n) → Holds (choose (eqb (length b) size) x (denied 255 0)) n
+  sized : (x : QueueReply) (n : ℕ) → (length b ≡ size → Holds x n) → Holds (choose (eqb (length b) size) x (refusal 255 0)) n
   sized x n h = go (eqb (length b) size) refl
     where
-      go : (t : Bool) → eqb (length b) size ≡ t → Holds (choose t x (denied 255 0)) n
+      go : (t : Bool) → eqb (length b) size ≡ t → Holds (choose t x (refusal 255 0)) n
       go true e = h (eqb-true (length b) size e)
       go false e = omega arith
 
@@ -160,7 +160,7 @@ module _ (b : List ℕ) (small : (i : ℕ) → at b i < 256) where
   unfolding statusOn
   status-reply k = go (eqb (length b) size) refl
     where
-      go : (t : Bool) → eqb (length b) size ≡ t → Sees (choose t (statusFor k (slotAt (queueOf b) k)) (denied 255 0)) 64
+      go : (t : Bool) → eqb (length b) size ≡ t → Sees (choose t (statusFor k (slotAt (queueOf b) k)) (refusal 255 0)) 64
       go true e = status-fits (eqb-true (length b) size e) k
       go false e = omega arith
 
@@ -193,10 +193,10 @@ module _ (b : List ℕ) (x : QueueCall) (answer : List ℕ) where
     told = short (replyAnswer (replyOn b x) answer) answer answer (answerLength x) h;
   }
 
-  pub answered : length answer ≡ answerLength x → (r : QueueReply) → r ≡ replyOn b x → (n : ℕ) (c d : List ℕ) → n ≡ replyCode r → c ≡ bytesAfter b x → d ≡ replyAnswer r answer
+  pub replied : length answer ≡ answerLength x → (r : QueueReply) → r ≡ replyOn b x → (n : ℕ) (c d : List ℕ) → n ≡ replyCode r → c ≡ bytesAfter b x → d ≡ replyAnswer r answer
       → CallQueue b x answer n c d
   unfolding queueCode queueBytes queueAnswer
-  answered h r e n c d f g i = record {
+  replied h r e n c d f g i = record {
     code = f ∙ ap replyCode e ∙ full (replyCode (replyOn b x)) wrongLength answer (answerLength x) h;
     bytes = g ∙ full (bytesAfter b x) b answer (answerLength x) h;
     told = i ∙ ap (λ (q : QueueReply). replyAnswer q answer) e ∙ full (replyAnswer (replyOn b x) answer) answer answer (answerLength x) h;
@@ -229,15 +229,15 @@ module _ (b : List ℕ) (k : ℕ) (room answer : List ℕ) where
       CallRelease b k room answer n c out d
   unfolding releaseRoom
   release-done h r e n c out d f g o i =
-      let u = answered b (release k room) answer h r e n c d f g i in
+      let u = replied b (release k room) answer h r e n c d f g i in
       record { code = u .code; bytes = u .bytes; written = o ∙ full (roomAfter (replyOn b (release k room)) room) room answer 12 h; told = u .told }
 
 -- ---- rounds
-pub refused-item : (b : List ℕ) (r number item : ℕ) → not-given number item ≡ roundsOn b r → item < 256
+pub refused-item : (b : List ℕ) (r number item : ℕ) → refusal number item ≡ roundsOn b r → item < 256
 unfolding roundsOn
 refused-item b r number item e = go (eqb (length b) size) e
   where
-    go : (t : Bool) → not-given number item ≡ choose t (roundsReply (queueOf b) r) (not-given 255 0) → item < 256
+    go : (t : Bool) → refusal number item ≡ choose t (roundsReply (queueOf b) r) (refusal 255 0) → item < 256
     go true f = absurd (let z : _≡_ {A = ℕ} 0 1 = cc in omega arith)
     go false f = let z : item ≡ 0 = cc in omega arith
 
@@ -245,16 +245,16 @@ module _ (b : List ℕ) (r : ℕ) (answer : List ℕ) where
   pub unrounded : (length answer ≡ 12 → ⊥) → CallRounds b r answer wrongLength b answer
   unfolding roundsCode roundsQueue roundsAnswer
   unrounded h = record {
-    code = short (roundsReplyCode (roundsOn b r)) wrongLength answer 12 h;
+    code = short (replyCode (roundsOn b r)) wrongLength answer 12 h;
     bytes = short (roundsAfter b r) b answer 12 h;
     told = short (roundsReplyAnswer (roundsOn b r) answer) answer answer 12 h;
   }
 
-  pub rounded : length answer ≡ 12 → (x : RoundsReply) → x ≡ roundsOn b r → (n : ℕ) (c d : List ℕ) → n ≡ roundsReplyCode x → c ≡ roundsAfter b r → d ≡ roundsReplyAnswer x answer
+  pub rounded : length answer ≡ 12 → (x : RoundsReply) → x ≡ roundsOn b r → (n : ℕ) (c d : List ℕ) → n ≡ replyCode x → c ≡ roundsAfter b r → d ≡ roundsReplyAnswer x answer
       → CallRounds b r answer n c d
   unfolding roundsCode roundsQueue roundsAnswer
   rounded h x e n c d f g i = record {
-    code = f ∙ ap roundsReplyCode e ∙ full (roundsReplyCode (roundsOn b r)) wrongLength answer 12 h;
+    code = f ∙ ap replyCode e ∙ full (replyCode (roundsOn b r)) wrongLength answer 12 h;
     bytes = g ∙ full (roundsAfter b r) b answer 12 h;
     told = i ∙ ap (λ (q : RoundsReply). roundsReplyAnswer q answer) e ∙ full (roundsReplyAnswer (roundsOn b r) answer) answer answer 12 h;
   }

@@ -3,7 +3,7 @@
 use Rattle.model.specs.Kit.{_≡_, List, _++_, ℕ, _+_, _*_, _^_, _<_, eqb, length}
 use Rattle.model.specs.{Lists.choose, Bytes.fourBytes, Run.finished, Run.spent, Run.full}
 use Rattle.wire.specs.Wire.{wrongLength, threeNumbers}
-use Rattle.desk.specs.Queue.{Standing, running, over, QueueCall, submit, turn, release, QueueReply, denied, queued, idle, served, released, RoundsReply, not-given, gave}
+use Rattle.desk.specs.Queue.{Standing, running, over, QueueCall, submit, turn, release, QueueReply, Reply, refusal, answered, queued, idle, served, released, RoundsReply}
 use Rattle.desk.specs.{Layout.replyOn, Layout.statusOn, Layout.countsOn, Layout.bytesAfter, Layout.roundsOn, Layout.roundsAfter, Meaning.roomAfter}
 use Rattle.export_counts.specs.Tallied.{numbersOf}
 
@@ -12,12 +12,9 @@ unfoldable pub fourNumbers : ℕ → ℕ → ℕ → ℕ → List ℕ
 fourNumbers kind a b c = threeNumbers kind a b ++ fourBytes c
 
 -- 0, or the number and the item of the refusal
-abbrev pub replyCode : QueueReply → ℕ
-replyCode (denied number item) = number * 256 + item
-replyCode (queued k) = 0
-replyCode idle = 0
-replyCode (served k s plans made) = 0
-replyCode (released count room) = 0
+abbrev pub replyCode : {A : Type 0} → Reply A → ℕ
+replyCode (refusal number item) = number * 256 + item
+replyCode (answered x) = 0
 
 -- the kind of a slot: 1 finished, 2 spent, 3 full, as a run's; 4 running
 abbrev pub kindOf : Standing → ℕ
@@ -29,11 +26,11 @@ kindOf (over (full plans made)) = 3
 -- of a new job 1, its slot, 0; of a job released 1, the bytes written, 0; of a slot its kind, its number, its plans and its nodes; four zeros where no run
 -- waits. After a refusal the answer is as it came
 abbrev pub replyAnswer : QueueReply → List ℕ → List ℕ
-replyAnswer (denied number item) answer = answer
-replyAnswer (queued k) answer = threeNumbers 1 k 0
-replyAnswer idle answer = fourNumbers 0 0 0 0
-replyAnswer (served k s plans made) answer = fourNumbers (kindOf s) k plans made
-replyAnswer (released count room) answer = threeNumbers 1 count 0
+replyAnswer (refusal number item) answer = answer
+replyAnswer (answered (queued k)) answer = threeNumbers 1 k 0
+replyAnswer (answered idle) answer = fourNumbers 0 0 0 0
+replyAnswer (answered (served k s plans made)) answer = fourNumbers (kindOf s) k plans made
+replyAnswer (answered (released count room)) answer = threeNumbers 1 count 0
 
 -- ---- submitting, turns and releasing
 abbrev pub answerLength : QueueCall → ℕ
@@ -56,11 +53,11 @@ releaseRoom b k room answer = choose (eqb (length answer) 12) (roomAfter (replyO
 
 -- ---- the status: the four numbers of a slot, then its nodes by variable, twelve numbers
 abbrev pub statusBytes : QueueReply → List ℕ → List ℕ → List ℕ
-statusBytes (denied number item) counts answer = answer
-statusBytes (queued k) counts answer = answer
-statusBytes idle counts answer = answer
-statusBytes (served k s plans made) counts answer = fourNumbers (kindOf s) k plans made ++ numbersOf counts
-statusBytes (released count room) counts answer = answer
+statusBytes (refusal number item) counts answer = answer
+statusBytes (answered (queued k)) counts answer = answer
+statusBytes (answered idle) counts answer = answer
+statusBytes (answered (served k s plans made)) counts answer = fourNumbers (kindOf s) k plans made ++ numbersOf counts
+statusBytes (answered (released count room)) counts answer = answer
 
 unfoldable pub statusCode : List ℕ → ℕ → List ℕ → ℕ
 statusCode b k answer = choose (eqb (length answer) 64) (replyCode (statusOn b k)) wrongLength
@@ -69,16 +66,12 @@ unfoldable pub statusAnswer : List ℕ → ℕ → List ℕ → List ℕ
 statusAnswer b k answer = choose (eqb (length answer) 64) (statusBytes (statusOn b k) (countsOn b k) answer) answer
 
 -- ---- rounds: 1, the slots whose run ended, those whose run goes on
-abbrev pub roundsReplyCode : RoundsReply → ℕ
-roundsReplyCode (not-given number item) = number * 256 + item
-roundsReplyCode (gave ended going) = 0
-
 abbrev pub roundsReplyAnswer : RoundsReply → List ℕ → List ℕ
-roundsReplyAnswer (not-given number item) answer = answer
-roundsReplyAnswer (gave ended going) answer = threeNumbers 1 ended going
+roundsReplyAnswer (refusal number item) answer = answer
+roundsReplyAnswer (answered (ended, going)) answer = threeNumbers 1 ended going
 
 unfoldable pub roundsCode : List ℕ → ℕ → List ℕ → ℕ
-roundsCode b r answer = choose (eqb (length answer) 12) (roundsReplyCode (roundsOn b r)) wrongLength
+roundsCode b r answer = choose (eqb (length answer) 12) (replyCode (roundsOn b r)) wrongLength
 
 unfoldable pub roundsQueue : List ℕ → ℕ → List ℕ → List ℕ
 roundsQueue b r answer = choose (eqb (length answer) 12) (roundsAfter b r) b
@@ -110,16 +103,16 @@ pub record CallRounds (b : List ℕ) (r : ℕ) (answer : List ℕ) (n : ℕ) (c 
 
 -- between the functions of the crate: a reply that the code and an answer of n bytes hold
 abbrev pub Holds : QueueReply → ℕ → Type 0
-Holds (denied number item) n = item < 256
-Holds (queued k) n = (n ≡ 12) × (k < 2 ^ 32)
-Holds idle n = n ≡ 16
-Holds (served k s plans made) n = (n ≡ 16) × (k < 2 ^ 32) × (plans < 2 ^ 32) × (made < 2 ^ 32)
-Holds (released count room) n = (n ≡ 12) × (count < 2 ^ 32)
+Holds (refusal number item) n = item < 256
+Holds (answered (queued k)) n = (n ≡ 12) × (k < 2 ^ 32)
+Holds (answered idle) n = n ≡ 16
+Holds (answered (served k s plans made)) n = (n ≡ 16) × (k < 2 ^ 32) × (plans < 2 ^ 32) × (made < 2 ^ 32)
+Holds (answered (released count room)) n = (n ≡ 12) × (count < 2 ^ 32)
 
 -- the same of what the status replies, for an answer with the counts behind it
 abbrev pub Sees : QueueReply → ℕ → Type 0
-Sees (denied number item) n = item < 256
-Sees (queued k) n = Unit {0}
-Sees idle n = Unit {0}
-Sees (served k s plans made) n = (n ≡ 64) × (k < 2 ^ 32) × (plans < 2 ^ 32) × (made < 2 ^ 32)
-Sees (released count room) n = Unit {0}
+Sees (refusal number item) n = item < 256
+Sees (answered (queued k)) n = Unit {0}
+Sees (answered idle) n = Unit {0}
+Sees (answered (served k s plans made)) n = (n ≡ 64) × (k < 2 ^ 32) × (plans < 2 ^ 32) × (made < 2 ^ 32)
+Sees (answered (released count room)) n = Unit {0}

@@ -3,7 +3,7 @@ use Rattle.model.specs.Kit.{sym, subst, [], needs}
 use Rattle.model.specs.Lists.{at}
 use Rattle.desk.specs.{Queue.submit, Queue.QueueReply, Meaning.means}
 use Rattle.export_desk.specs.Told.{Holds}
-use Rattle.export_desk.proofs.{Replies.submit-reply, Replies.unanswered, Replies.answered, submit.Statement.statement}
+use Rattle.export_desk.proofs.{Replies.submit-reply, Replies.unanswered, Replies.replied, submit.Statement.statement}
 use Rattle.export_desk.proofs.submit.Tie as tie
 
 returns : tie.Need-returns
@@ -24,7 +24,7 @@ returns-2 c =
     let a = c10 .before .before .args in
     let f = c .before .before .before .before .before .before .submit in
     let t = c .before .before .told in
-    answered (a .queue .now) (submit (a .sheet .now) (a .limit)) (a .answer .now) (c .before .before .before .before .before .before .before .before .if1 .left) (means (f .result) [])
+    replied (a .queue .now) (submit (a .sheet .now) (a .limit)) (a .answer .now) (c .before .before .before .before .before .before .before .before .if1 .left) (means (f .result) [])
     (f .ensures .answers) (t .result) (f .last .0) (t .last .0) (t .ensures .0) (f .ensures .leaves) (t .ensures .1)
 
 pub submit-spec : {M : Type 1} → statement M

@@ -3,7 +3,7 @@ use Rattle.model.specs.Kit.{sym, subst, [], needs}
 use Rattle.model.specs.Lists.{at}
 use Rattle.desk.specs.{Queue.turn, Queue.QueueReply, Meaning.means}
 use Rattle.export_desk.specs.Told.{Holds}
-use Rattle.export_desk.proofs.Replies.{turn-reply, unanswered, answered}
+use Rattle.export_desk.proofs.Replies.{turn-reply, unanswered, replied}
 use Rattle.export_turns.proofs.turn.Statement.{statement}
 use Rattle.export_turns.proofs.turn.Tie as tie
 
@@ -23,7 +23,7 @@ returns-2 c =
     let a = c .before .before .before .before .before .before .before .before .before .before .before .args in
     let f = c .before .before .before .before .before .before .turn in
     let t = c .before .before .told in
-    answered (a .queue .now) turn (a .answer .now) (c .before .before .before .before .before .before .before .before .if1 .left) (means (f .result) []) (f .ensures .answers) (t .result)
+    replied (a .queue .now) turn (a .answer .now) (c .before .before .before .before .before .before .before .before .if1 .left) (means (f .result) []) (f .ensures .answers) (t .result)
     (f .last .0) (t .last .0) (t .ensures .0) (f .ensures .leaves) (t .ensures .1)
 
 pub turn-spec : {M : Type 1} → statement M
