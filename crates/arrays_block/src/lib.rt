@@ -17,6 +17,7 @@ use arrays::SYMMETRIES;
 use arrays::Supports;
 use arrays::VALUES;
 use arrays::VARIABLES;
+use model::wide;
 use sheet::Answer;
 use sheet_symmetries::is_pair;
 use sheet_symmetries::pair_code;
@@ -148,13 +149,6 @@ pub fn question(block: &[u8], numbers: &Numbers, supports: &Supports) -> Answer
         };
     }
     ask(block[0] as usize, block[1] as usize, numbers, supports)
-}
-
-// A byte as an index.
-fn wide(x: u8) -> usize
-    ensures { λ r. ⌜ r ≡ x ⌝ }
-{
-    x as usize
 }
 
 // Whether x is one of m variables from `first` on.

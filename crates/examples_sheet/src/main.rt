@@ -3,6 +3,7 @@
 // an offset and the number that stands there instead. What follows is a remark.
 use libc::STDIN_FILENO;
 use libc::STDOUT_FILENO;
+use model::wide;
 use sheet::Answer;
 ghost use Prim.Native.Nat.{_≤_, _<_};
 ghost use lib.ListN.{length};
@@ -13,12 +14,6 @@ fn put(b: &mut [u8; 65536], at: usize, v: usize) {
         b[at] = (v % 256) as u8;
         b[at + 1] = (v / 256 % 256) as u8;
     }
-}
-
-fn wide(x: u8) -> usize
-    ensures { λ r. ⌜ r < 256 ⌝ }
-{
-    x as usize
 }
 
 // Numbers below 256, one after another.

@@ -3,14 +3,9 @@
 // solutions and plans are sets of four, printed as four digits, 1 where 00, 01, 10, 11 is one of them. A difference is said at the
 // line's end.
 use libc::STDOUT_FILENO;
+use model::wide;
 use run_state::Ending;
 ghost use Prim.Native.Nat.{_+_, _≤_, _<_};
-
-fn wide(x: u8) -> usize
-    ensures { λ r. ⌜ r < 256 ⌝ }
-{
-    x as usize
-}
 
 // ---- sets of four
 // The set of one of them; the empty set past the last.

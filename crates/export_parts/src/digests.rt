@@ -1,14 +1,8 @@
 // The digest of bytes, which names what a part was lent.
+use model::wide;
 ghost use mathlib.Core.Path.{_≡_};
 ghost use Prim.Native.Nat.{_+_, _*_, _%_, _<_};
 ghost use Rattle.export_parts.specs.Head.{digest};
-
-// A byte as a number.
-fn byte(x: u8) -> usize
-    ensures { λ r. ⌜ (r ≡ x) × (r < 256) ⌝ }
-{
-    x as usize
-}
 
 // The digest with one byte more.
 fn with_byte(h: usize, base: usize, x: usize) -> usize
@@ -25,7 +19,7 @@ pub fn digest(bytes: &[u8], base: usize) -> usize
     let mut h: usize = 1;
     let mut i = 0;
     while i < bytes.len() {
-        h = with_byte(h, base, byte(bytes[i]));
+        h = with_byte(h, base, wide(bytes[i]));
         i += 1;
     }
     h

@@ -1,4 +1,5 @@
 // Plans stored by window (paper 02, #103): rows to columns and back. `means` in specs/Meaning.antt says what the answers mean.
+use model::wide;
 ghost use mathlib.Core.Path.{_≡_};
 ghost use Prim.Native.Nat.{_+_, _*_, _≤_, _<_};
 ghost use lib.ListN.{length};
@@ -146,12 +147,6 @@ fn word_at(store: &[u8], at: usize) -> usize
     ensures { λ r. ⌜ (r ≡ wordOf (now (store .entry)) at) × (r < 65536) ⌝ }
 {
     wide(store[at]) + 256 * wide(store[at + 1])
-}
-
-fn wide(x: u8) -> usize
-    ensures { λ r. ⌜ (r ≡ x) × (r < 256) ⌝ }
-{
-    x as usize
 }
 
 // Question 23. The product is taken in 64 bits, without wrapping.

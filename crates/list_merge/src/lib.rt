@@ -1,4 +1,5 @@
 // One list from two (paper 02, #106). `means` in specs/Meaning.antt says what the answers mean.
+use model::wide;
 use wire::put;
 ghost use mathlib.Core.Path.{_≡_};
 ghost use mathlib.Core.Bool.{true};
@@ -35,14 +36,8 @@ enum Way {
     After,
 }
 
-fn wide(x: u8) -> u64
-    ensures { λ r. ⌜ (r ≡ x) × (r < 256) ⌝ }
-{
-    x as u64
-}
-
 // A row's first eight bytes as one number, which is asked for equality alone.
-fn eight(row: &[u8]) -> u64
+fn eight(row: &[u8]) -> usize
     requires { ⌜ 8 ≤ length (now row) ⌝ }
     ensures { λ r. ⌜ Number (now (row .entry)) (eightOf (now (row .entry))) r ⌝ }
 {
@@ -57,7 +52,7 @@ fn eight(row: &[u8]) -> u64
 }
 
 // Four bytes of a row as one number, the first byte highest.
-fn word(row: &[u8], at: usize) -> u64
+fn word(row: &[u8], at: usize) -> usize
     requires { ⌜ at + 4 ≤ length (now row) ⌝ }
     ensures { λ r. ⌜ Number (now (row .entry)) (wordOf (now (row .entry)) at) r ⌝ }
 {
@@ -67,7 +62,7 @@ fn word(row: &[u8], at: usize) -> u64
         + wide(row[at + 3])
 }
 
-fn way_of(x: u64, y: u64) -> Way
+fn way_of(x: usize, y: usize) -> Way
     ensures { λ r. ⌜ r ≡ wayOf (ltb x y) (ltb y x) ⌝ }
 {
     if x != y {
@@ -103,7 +98,7 @@ fn by_words(n: usize, a: &[u8], b: &[u8]) -> Way
 }
 
 // A row's byte at a place of the order.
-fn at_place(order: &[u8], i: usize, row: &[u8]) -> u64
+fn at_place(order: &[u8], i: usize, row: &[u8]) -> usize
     requires { ⌜ (i < length (now order)) × (getD (now order) i 0 < length (now row)) ⌝ }
     ensures { λ r. ⌜ r ≡ getD (now (row .entry)) (getD (now (order .entry)) i 0) 0 ⌝ }
 {

@@ -1,8 +1,21 @@
-// Sets of values (paper 01, "Words"): value v is a member where bit v is 1.
+// Sets of values (paper 01, "Words"): value v is a member where bit v is 1. A byte as a number.
 ghost use mathlib.Core.Path.{_≡_};
 ghost use Prim.Native.Nat.{_<_};
 ghost use lib.Dec.{eqb};
 ghost use Rattle.model.specs.ValueSets.{has, fullMask, withoutMask, onlyMask, unionMask, commonMask, lowestOf};
+
+// A byte as a number, and that it is one: as an index, and as an element of an array of numbers.
+pub fn wide(x: u8) -> usize
+    ensures { λ r. ⌜ (r ≡ x) × (r < 256) ⌝ }
+{
+    x as usize
+}
+
+pub fn long(x: u8) -> u64
+    ensures { λ r. ⌜ (r ≡ x) × (r < 256) ⌝ }
+{
+    x as u64
+}
 
 pub struct ValueSet {
     pub bits: u16,

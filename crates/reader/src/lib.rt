@@ -1,5 +1,6 @@
 // Reading a sheet: the number at an offset of a slice, and a reader that holds the lent sheet and its present offset and moves along.
 // The functions over the reader are thin: each takes it apart, and the work is in functions on the slice and the number.
+use model::wide;
 ghost use mathlib.Core.Path.{_≡_};
 ghost use Prim.Native.Nat.{_+_, _≤_, _<_, _^_};
 ghost use lib.ListN.{length};
@@ -25,12 +26,6 @@ struct Reader<'a> {
 
 // How many bytes a number has.
 const BYTES: usize = 2;
-
-fn wide(x: u8) -> usize
-    ensures { λ r. ⌜ (r ≡ x) × (r < 256) ⌝ }
-{
-    x as usize
-}
 
 // The 16-bit number at an offset, low byte first.
 fn word_at(sheet: &[u8], at: usize) -> usize

@@ -1,7 +1,7 @@
 // The questions to the heads.
-use crate::paths::byte;
 use crate::paths::four_at;
 use crate::paths::path_shaped;
+use model::long;
 ghost use mathlib.Core.Path.{_≡_};
 ghost use Prim.Native.Nat.{_+_, _*_, _≤_};
 ghost use lib.Dec.{leb};
@@ -52,7 +52,7 @@ fn is_alike(l: &[u8], k: usize) -> bool
 {
     let mut i = 0;
     while i < 16 {
-        if byte(l[115 * k + 60 + i]) != byte(l[60 + i]) {
+        if long(l[115 * k + 60 + i]) != long(l[60 + i]) {
             return false;
         }
         i += 1;

@@ -1,26 +1,20 @@
 // Numbers and paths in lent bytes.
+use model::long;
 ghost use mathlib.Core.Path.{_≡_};
 ghost use Prim.Native.Nat.{_+_, _*_, _^_, _≤_, _<_};
 ghost use lib.ListN.{length};
 ghost use Rattle.run_join.specs.Join.{fourAt, pathAt, pathShaped};
 ghost use Rattle.run_join.specs.inner.Inner.{Path, orderOf};
 
-// A byte as a number.
-pub fn byte(x: u8) -> u64
-    ensures { λ r. ⌜ (r ≡ x) × (r < 256) ⌝ }
-{
-    x as u64
-}
-
 // The number in four bytes.
 pub fn four_at(l: &[u8], o: usize) -> u64
     requires { ⌜ o + 4 ≤ length (now l) ⌝ }
     ensures { λ r. ⌜ (r ≡ fourAt (now (l .entry)) o) × (r < 2 ^ 32) ⌝ }
 {
-    let a = byte(l[o]);
-    let b = byte(l[o + 1]);
-    let c = byte(l[o + 2]);
-    let d = byte(l[o + 3]);
+    let a = long(l[o]);
+    let b = long(l[o + 1]);
+    let c = long(l[o + 2]);
+    let d = long(l[o + 3]);
     a + 256 * b + 65536 * c + 16777216 * d
 }
 
@@ -29,7 +23,7 @@ pub fn path_shaped(l: &[u8], o: usize) -> bool
     requires { ⌜ o + 13 ≤ length (now l) ⌝ }
     ensures { λ r. ⌜ r ≡ pathShaped (now (l .entry)) o ⌝ }
 {
-    let length = byte(l[o]) as usize;
+    let length = long(l[o]) as usize;
     if length > 12 {
         return false;
     }
@@ -50,14 +44,14 @@ pub fn order(a: &[u8], o: usize, b: &[u8], p: usize) -> u8
 {
     let mut i = 0;
     while i < 12 {
-        let x = byte(a[o + 1 + i]);
-        let y = byte(b[p + 1 + i]);
+        let x = long(a[o + 1 + i]);
+        let y = long(b[p + 1 + i]);
         if x != y {
             return compared(x, y);
         }
         i += 1;
     }
-    compared(byte(a[o]), byte(b[p]))
+    compared(long(a[o]), long(b[p]))
 }
 
 // 0 where two numbers are the same, 1 where the second is larger, else 2.

@@ -3,9 +3,9 @@ use crate::marks::is_marked;
 use crate::marks::mark;
 use crate::marks::mark_all;
 use crate::marks::pending;
-use crate::paths::byte;
 use crate::paths::order;
 use crate::steps::reach_place;
+use model::long;
 ghost use mathlib.Core.Path.{_≡_};
 ghost use mathlib.Core.List.{[]};
 ghost use Prim.Native.Nat.{_<_};
@@ -62,7 +62,7 @@ fn is_first(l: &[u8], n: usize, marks: &[u64; 1024], k: usize) -> bool
     ensures { λ r. ⌜ r ≡ both (marked (now (marks .entry)) k) (same (fromAt (now (l .entry)) k) []) ⌝ }
 {
     if is_marked(marks, k) {
-        return byte(l[115 * k + 76]) == 0;
+        return long(l[115 * k + 76]) == 0;
     }
     false
 }

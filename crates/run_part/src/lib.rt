@@ -17,6 +17,7 @@ use arrays::VARIABLES;
 use arrays::WORK;
 use arrays::Work;
 use model::ValueSet;
+use model::long;
 use run::Answer;
 use run_state::Tally;
 use run_tree::CountedPart;
@@ -353,13 +354,6 @@ fn below(
     )
 }
 
-// A byte as a number of `work`.
-fn byte(x: u8) -> u64
-    ensures { λ r. ⌜ (r ≡ x) × (r < 256) ⌝ }
-{
-    x as u64
-}
-
 // The lesser of two numbers.
 fn lesser(a: usize, b: usize) -> usize
     ensures { λ r. ⌜ r ≡ min a b ⌝ }
@@ -375,7 +369,7 @@ pub fn put_path(work: &mut Work, path: &[u8])
     let end = lesser(path.len(), 12);
     let mut i = 0;
     while i < end {
-        work[i] = byte(path[i]);
+        work[i] = long(path[i]);
         i += 1;
     }
     work[LAST] = end as u64;

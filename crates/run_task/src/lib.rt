@@ -5,6 +5,7 @@ use arrays::ORDER;
 use arrays::ROOM;
 use arrays::WANTED;
 use arrays::Work;
+use model::long;
 ghost use mathlib.Core.Path.{_≡_};
 ghost use Prim.Native.Nat.{ℕ, _+_, _≤_, _<_};
 ghost use lib.ListN.{length, set};
@@ -21,13 +22,6 @@ pub fn put_bounds(numbers: &mut [u64], limit: u64, room: u64)
     numbers[ROOM] = room;
 }
 
-// A byte as a number.
-fn wide(x: u8) -> u64
-    ensures { λ r. ⌜ r ≡ x ⌝ }
-{
-    x as u64
-}
-
 // Puts the order of the variables among the numbers.
 pub fn put_order(numbers: &mut [u64], order: &[u8; 16])
     requires { ⌜ ORDER + 12 ≤ length (now numbers) ⌝ }
@@ -35,7 +29,7 @@ pub fn put_order(numbers: &mut [u64], order: &[u8; 16])
 {
     let mut k = 0;
     while k < 12 {
-        numbers[ORDER + k] = wide(order[k]);
+        numbers[ORDER + k] = long(order[k]);
         k += 1;
     }
 }

@@ -7,9 +7,9 @@ ghost use Rattle.sheet_symmetries.specs.inner.Table.{Framed};
 ghost use Rattle.sheet_symmetries.specs.inner.Forbidden.{Blank, Target, Targets};
 use super::table::initial;
 use super::table::number;
-use super::table::wide;
 use arrays::Numbers;
 use arrays::VARIABLES;
+use model::wide;
 
 // From here on, for each variable the one that all of its pairs go to, or 15.
 pub const TO: usize = 192;

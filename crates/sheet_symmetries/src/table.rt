@@ -14,13 +14,7 @@ use arrays::VARIABLES;
 use model::ValueSet;
 use reader::read_word;
 
-// A byte as an index, and an element of `numbers`.
-pub fn wide(x: u8) -> usize
-    ensures { λ r. ⌜ (r ≡ x) × (r < 256) ⌝ }
-{
-    x as usize
-}
-
+// An element of `numbers`.
 pub fn number(numbers: &Numbers, i: usize) -> usize
     requires { ⌜ i < NUMBERS ⌝ }
     ensures { λ r. ⌜ r ≡ at (now (numbers .entry)) i ⌝ }

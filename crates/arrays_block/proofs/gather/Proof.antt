@@ -36,7 +36,7 @@ loop-again : tie.Need-loop-again Inv-loop μ-loop
 unfolding at
 loop-again c =
     let i = c .before .before .before .before .before .loop .inv .1 in
-    let e = sym (c .before .is-inside .ensures ∙ ap (inBlock _ _) (c .before .before .wide .ensures)) in (
+    let e = sym (c .before .is-inside .ensures ∙ ap (inBlock _ _) (c .before .before .wide .ensures .0)) in (
       search needs,
       ⊎-elim (λ w. subst (Gathered _ _) (sym (w .1)) (gather-one _ _ _ i (search needs) (e ∙ w .0 .taken))) (λ w. subst (Gathered _ _) (sym (w .1)) (gather-none _ _ _ i (e ∙ w .0 .left)))
           (c .if1 .came),

@@ -16,11 +16,11 @@ lesser-requires c κs = search needs
 loop-holds : tie.Need-loop-holds Inv-loop μ-loop
 loop-holds c = (putting-start _ _, omega arith)
 
-shared-slice-read-byte : tie.Need-shared-slice-read-byte Inv-loop μ-loop
-shared-slice-read-byte c = search needs
+shared-slice-read-long : tie.Need-shared-slice-read-long Inv-loop μ-loop
+shared-slice-read-long c = search needs
 
-byte-requires : tie.Need-byte-requires Inv-loop μ-loop
-byte-requires c κs = search needs
+long-requires : tie.Need-long-requires Inv-loop μ-loop
+long-requires c κs = search needs
 
 mul-work : tie.Need-mul-work Inv-loop μ-loop
 mul-work c = search needs
@@ -40,7 +40,7 @@ loop-again c =
     let i = c .before .before .before in
     let l = i .before .lesser .ensures in
     let t = c .before .before .loop-test .taken in
-    (putting-next _ _ _ _ _ (i .loop .inv .0) (i .before .before .before .pre) (omega (arith, l, t)) (c .byte .ensures .0) (c .byte .ensures .1), omega (arith, t))
+    (putting-next _ _ _ _ _ (i .loop .inv .0) (i .before .before .before .pre) (omega (arith, l, t)) (c .long .ensures .0) (c .long .ensures .1), omega (arith, t))
 
 element-write-work-2 : tie.Need-element-write-work-2 Inv-loop μ-loop
 element-write-work-2 c = search needs
@@ -53,5 +53,5 @@ pub put-path-spec : {M : Type 1} → statement M
 put-path-spec =
     tie.close
     (tie.spec
-    Inv-loop μ-loop lesser-requires loop-holds shared-slice-read-byte byte-requires mul-work element-write-work add-i loop-less loop-again element-write-work-2
+    Inv-loop μ-loop lesser-requires loop-holds shared-slice-read-long long-requires mul-work element-write-work add-i loop-less loop-again element-write-work-2
     returns)

@@ -16,11 +16,11 @@ loop-holds : tie.Need-loop-holds Inv-loop μ-loop
 unfolding ordered
 loop-holds c = (omega arith, refl)
 
-element-copy-out-wide : tie.Need-element-copy-out-wide Inv-loop μ-loop
-element-copy-out-wide c = omega arith
+element-copy-out-long : tie.Need-element-copy-out-long Inv-loop μ-loop
+element-copy-out-long c = omega arith
 
-wide-requires : tie.Need-wide-requires Inv-loop μ-loop
-wide-requires c κs = search needs
+long-requires : tie.Need-long-requires Inv-loop μ-loop
+long-requires c κs = search needs
 
 add-numbers : tie.Need-add-numbers Inv-loop μ-loop
 add-numbers c = omega arith
@@ -43,7 +43,7 @@ unfolding ordered at
 loop-again c =
     let l = c .before .before .before .loop in
     let a = c .before .before .before .before .before .args in
-    (omega arith, ap₂ (λ (s : List ℕ) (v : ℕ). set s (ORDER + l .k) v) (l .inv .1) (c .wide .ensures) ∙ ap (λ (k : ℕ). ordered (now (a .order)) k (now (a .numbers))) (sym (add-one (l .k))))
+    (omega arith, ap₂ (λ (s : List ℕ) (v : ℕ). set s (ORDER + l .k) v) (l .inv .1) (c .long .ensures .0) ∙ ap (λ (k : ℕ). ordered (now (a .order)) k (now (a .numbers))) (sym (add-one (l .k))))
 
 same-length : tie.Need-same-length Inv-loop μ-loop
 same-length c = let l = c .before .loop in let a = c .before .before .before .args in ap length (l .inv .1) ∙ length-ordered (now (a .order)) (l .k) (now (a .numbers))
@@ -59,4 +59,4 @@ pub put-order-spec : {M : Type 1} → statement M
 put-order-spec =
     tie.close
     (tie.spec
-    Inv-loop μ-loop loop-holds element-copy-out-wide wide-requires add-numbers mul-numbers slice-write-numbers add-k loop-less loop-again same-length returns)
+    Inv-loop μ-loop loop-holds element-copy-out-long long-requires add-numbers mul-numbers slice-write-numbers add-k loop-less loop-again same-length returns)

@@ -13,11 +13,11 @@ abbrev μ-loop : tie.MeasureT-loop
 loop-holds : tie.Need-loop-holds Inv-loop μ-loop
 loop-holds c = (omega arith, omega arith, digest-none (c .before .args .base))
 
-shared-slice-read-byte : tie.Need-shared-slice-read-byte Inv-loop μ-loop
-shared-slice-read-byte c = omega arith
+shared-slice-read-wide : tie.Need-shared-slice-read-wide Inv-loop μ-loop
+shared-slice-read-wide c = omega arith
 
-byte-requires : tie.Need-byte-requires Inv-loop μ-loop
-byte-requires c κs = search needs
+wide-requires : tie.Need-wide-requires Inv-loop μ-loop
+wide-requires c κs = search needs
 
 with-byte-requires : tie.Need-with-byte-requires Inv-loop μ-loop
 with-byte-requires c κs = search needs
@@ -35,8 +35,8 @@ loop-again c =
     let s = t .before .before .before in (
       omega arith,
       c .with-byte .ensures .1,
-      digest-turn (s .args .base) (l .i) (l .h) (c .before .byte .result) (c .with-byte .result) (s .args .bytes .now) (t .loop-test .taken) (l .inv .2)
-          (c .before .byte .ensures .0) (c .with-byte .ensures .0),
+      digest-turn (s .args .base) (l .i) (l .h) (c .before .wide .result) (c .with-byte .result) (s .args .bytes .now) (t .loop-test .taken) (l .inv .2)
+          (c .before .wide .ensures .0) (c .with-byte .ensures .0),
     )
 
 returns : tie.Need-returns Inv-loop μ-loop
@@ -49,4 +49,4 @@ pub digest-spec : {M : Type 1} → statement M
 digest-spec =
     tie.close
     (tie.spec
-    Inv-loop μ-loop loop-holds shared-slice-read-byte byte-requires with-byte-requires add-i loop-less loop-again returns)
+    Inv-loop μ-loop loop-holds shared-slice-read-wide wide-requires with-byte-requires add-i loop-less loop-again returns)

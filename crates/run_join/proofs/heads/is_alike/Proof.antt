@@ -13,29 +13,29 @@ abbrev μ-loop : tie.MeasureT-loop
 loop-holds : tie.Need-loop-holds Inv-loop μ-loop
 loop-holds c = (omega arith, λ j h. absurd (omega arith))
 
-mul-byte : tie.Need-mul-byte Inv-loop μ-loop
-mul-byte c = omega arith
+mul-long : tie.Need-mul-long Inv-loop μ-loop
+mul-long c = omega arith
 
-add-byte : tie.Need-add-byte Inv-loop μ-loop
-add-byte c = omega arith
+add-long : tie.Need-add-long Inv-loop μ-loop
+add-long c = omega arith
 
-add-byte-2 : tie.Need-add-byte-2 Inv-loop μ-loop
-add-byte-2 c = omega arith
+add-long-2 : tie.Need-add-long-2 Inv-loop μ-loop
+add-long-2 c = omega arith
 
-shared-slice-read-byte : tie.Need-shared-slice-read-byte Inv-loop μ-loop
-shared-slice-read-byte c = omega arith
+shared-slice-read-long : tie.Need-shared-slice-read-long Inv-loop μ-loop
+shared-slice-read-long c = omega arith
 
-byte-requires : tie.Need-byte-requires Inv-loop μ-loop
-byte-requires c κs = search needs
+long-requires : tie.Need-long-requires Inv-loop μ-loop
+long-requires c κs = search needs
 
-add-byte-3 : tie.Need-add-byte-3 Inv-loop μ-loop
-add-byte-3 c = omega arith
+add-long-3 : tie.Need-add-long-3 Inv-loop μ-loop
+add-long-3 c = omega arith
 
-shared-slice-read-byte-2 : tie.Need-shared-slice-read-byte-2 Inv-loop μ-loop
-shared-slice-read-byte-2 c = omega arith
+shared-slice-read-long-2 : tie.Need-shared-slice-read-long-2 Inv-loop μ-loop
+shared-slice-read-long-2 c = omega arith
 
-byte-requires-2 : tie.Need-byte-requires-2 Inv-loop μ-loop
-byte-requires-2 c κs = search needs
+long-requires-2 : tie.Need-long-requires-2 Inv-loop μ-loop
+long-requires-2 c κs = search needs
 
 returns : tie.Need-returns Inv-loop μ-loop
 unfolding at
@@ -44,7 +44,7 @@ returns c =
     let e = f .before .before in
     let l = e .before .before .before in
     let a = l .before .before .args in
-    alike-no (a .l .now) (a .k) (l .loop .i) (omega arith) (λ q. c .if1 .taken (e .byte .ensures .0 ∙ q ∙ sym (f .byte2 .ensures .0)))
+    alike-no (a .l .now) (a .k) (l .loop .i) (omega arith) (λ q. c .if1 .taken (e .long .ensures .0 ∙ q ∙ sym (f .long2 .ensures .0)))
 
 add-i : tie.Need-add-i Inv-loop μ-loop
 add-i c = omega arith
@@ -58,7 +58,7 @@ loop-again c =
     let f = c .before in
     let e = f .before .before in
     let l = e .before .before .before in
-    (omega arith, below-more _ _ (l .loop .inv .1) (sym (e .byte .ensures .0) ∙ c .if1 .left ∙ f .byte2 .ensures .0))
+    (omega arith, below-more _ _ (l .loop .inv .1) (sym (e .long .ensures .0) ∙ c .if1 .left ∙ f .long2 .ensures .0))
 
 returns-2 : tie.Need-returns-2 Inv-loop μ-loop
 returns-2 c = let l = c .before in let a = l .before .before .args in alike-yes (a .l .now) (a .k) (l .loop .i) (c .loop-test .left) (l .loop .inv .1)
@@ -67,5 +67,5 @@ pub is-alike-spec : {M : Type 1} → statement M
 is-alike-spec =
     tie.close
     (tie.spec
-    Inv-loop μ-loop loop-holds mul-byte add-byte add-byte-2 shared-slice-read-byte byte-requires add-byte-3 shared-slice-read-byte-2 byte-requires-2 returns
+    Inv-loop μ-loop loop-holds mul-long add-long add-long-2 shared-slice-read-long long-requires add-long-3 shared-slice-read-long-2 long-requires-2 returns
     add-i loop-less loop-again returns-2)

@@ -7,10 +7,10 @@ use Rattle.run_join.proofs.paths.four_at.Tie as tie
 returns : tie.Need-returns
 unfolding at
 returns c =
-    let d = c .byte4 .ensures in
-    let e = c .before .before .byte3 .ensures in
-    let f = c .before .before .before .before .byte2 .ensures in
-    let g = c .before .before .before .before .before .before .byte .ensures in
+    let d = c .long4 .ensures in
+    let e = c .before .before .long3 .ensures in
+    let f = c .before .before .before .before .long2 .ensures in
+    let g = c .before .before .before .before .before .before .long .ensures in
     (omega (arith, d .0, e .0, f .0, g .0), omega (arith, d .1, e .1, f .1, g .1))
 
 pub four-at-spec : {M : Type 1} → statement M

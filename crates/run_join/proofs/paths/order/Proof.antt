@@ -13,29 +13,29 @@ abbrev μ-loop : tie.MeasureT-loop
 loop-holds : tie.Need-loop-holds Inv-loop μ-loop
 loop-holds c = (omega arith, λ k h. absurd (omega arith))
 
-add-byte : tie.Need-add-byte Inv-loop μ-loop
-add-byte c = omega arith
+add-long : tie.Need-add-long Inv-loop μ-loop
+add-long c = omega arith
 
-add-byte-2 : tie.Need-add-byte-2 Inv-loop μ-loop
-add-byte-2 c = omega arith
+add-long-2 : tie.Need-add-long-2 Inv-loop μ-loop
+add-long-2 c = omega arith
 
-shared-slice-read-byte : tie.Need-shared-slice-read-byte Inv-loop μ-loop
-shared-slice-read-byte c = omega arith
+shared-slice-read-long : tie.Need-shared-slice-read-long Inv-loop μ-loop
+shared-slice-read-long c = omega arith
 
-byte-requires : tie.Need-byte-requires Inv-loop μ-loop
-byte-requires c κs = search needs
+long-requires : tie.Need-long-requires Inv-loop μ-loop
+long-requires c κs = search needs
 
-add-byte-3 : tie.Need-add-byte-3 Inv-loop μ-loop
-add-byte-3 c = omega arith
+add-long-3 : tie.Need-add-long-3 Inv-loop μ-loop
+add-long-3 c = omega arith
 
-add-byte-4 : tie.Need-add-byte-4 Inv-loop μ-loop
-add-byte-4 c = omega arith
+add-long-4 : tie.Need-add-long-4 Inv-loop μ-loop
+add-long-4 c = omega arith
 
-shared-slice-read-byte-2 : tie.Need-shared-slice-read-byte-2 Inv-loop μ-loop
-shared-slice-read-byte-2 c = omega arith
+shared-slice-read-long-2 : tie.Need-shared-slice-read-long-2 Inv-loop μ-loop
+shared-slice-read-long-2 c = omega arith
 
-byte-requires-2 : tie.Need-byte-requires-2 Inv-loop μ-loop
-byte-requires-2 c κs = search needs
+long-requires-2 : tie.Need-long-requires-2 Inv-loop μ-loop
+long-requires-2 c κs = search needs
 
 compared-requires : tie.Need-compared-requires Inv-loop μ-loop
 compared-requires c κs = search needs
@@ -49,9 +49,9 @@ returns c =
     let l = t .before in
     let s = l .before .before .before in
     let a = s .args in
-    order-diff (a .a .now) (a .b .now) (a .o) (a .p) (s .pre .0 .shaped) (s .pre .1 .shaped) (l .loop .i) (e .byte .result) (f .byte2 .result) (c .compared .result) (t .loop-test .taken)
+    order-diff (a .a .now) (a .b .now) (a .o) (a .p) (s .pre .0 .shaped) (s .pre .1 .shaped) (l .loop .i) (e .long .result) (f .long2 .result) (c .compared .result) (t .loop-test .taken)
     (l .loop .inv .1)
-    (e .byte .ensures .0) (f .byte2 .ensures .0) (c .before .if1 .taken) (c .compared .ensures)
+    (e .long .ensures .0) (f .long2 .ensures .0) (c .before .if1 .taken) (c .compared .ensures)
 
 add-i : tie.Need-add-i Inv-loop μ-loop
 add-i c = omega arith
@@ -65,19 +65,19 @@ loop-again c =
     let f = c .before in
     let e = f .before .before in
     let l = e .before .before .before in
-    (omega arith, below-more _ _ (l .loop .inv .1) (sym (e .byte .ensures .0) ∙ c .if1 .left ∙ f .byte2 .ensures .0))
+    (omega arith, below-more _ _ (l .loop .inv .1) (sym (e .long .ensures .0) ∙ c .if1 .left ∙ f .long2 .ensures .0))
 
-shared-slice-read-byte-3 : tie.Need-shared-slice-read-byte-3 Inv-loop μ-loop
-shared-slice-read-byte-3 c = omega arith
+shared-slice-read-long-3 : tie.Need-shared-slice-read-long-3 Inv-loop μ-loop
+shared-slice-read-long-3 c = omega arith
 
-byte-requires-3 : tie.Need-byte-requires-3 Inv-loop μ-loop
-byte-requires-3 c κs = search needs
+long-requires-3 : tie.Need-long-requires-3 Inv-loop μ-loop
+long-requires-3 c κs = search needs
 
-shared-slice-read-byte-4 : tie.Need-shared-slice-read-byte-4 Inv-loop μ-loop
-shared-slice-read-byte-4 c = omega arith
+shared-slice-read-long-4 : tie.Need-shared-slice-read-long-4 Inv-loop μ-loop
+shared-slice-read-long-4 c = omega arith
 
-byte-requires-4 : tie.Need-byte-requires-4 Inv-loop μ-loop
-byte-requires-4 c κs = search needs
+long-requires-4 : tie.Need-long-requires-4 Inv-loop μ-loop
+long-requires-4 c κs = search needs
 
 compared-requires-2 : tie.Need-compared-requires-2 Inv-loop μ-loop
 compared-requires-2 c κs = search needs
@@ -91,14 +91,14 @@ returns-2 c =
     let l = t .before in
     let s = l .before .before .before in
     let a = s .args in
-    order-end (a .a .now) (a .b .now) (a .o) (a .p) (s .pre .0 .shaped) (s .pre .1 .shaped) (l .loop .i) (e .byte3 .result) (f .byte4 .result) (c .compared2 .result) (t .loop-test .left)
+    order-end (a .a .now) (a .b .now) (a .o) (a .p) (s .pre .0 .shaped) (s .pre .1 .shaped) (l .loop .i) (e .long3 .result) (f .long4 .result) (c .compared2 .result) (t .loop-test .left)
     (l .loop .inv .1)
-    (e .byte3 .ensures .0) (f .byte4 .ensures .0) (c .compared2 .ensures)
+    (e .long3 .ensures .0) (f .long4 .ensures .0) (c .compared2 .ensures)
 
 pub order-spec : {M : Type 1} → statement M
 order-spec =
     tie.close
     (tie.spec
-    Inv-loop μ-loop loop-holds add-byte add-byte-2 shared-slice-read-byte byte-requires add-byte-3 add-byte-4 shared-slice-read-byte-2 byte-requires-2
-    compared-requires returns add-i loop-less loop-again shared-slice-read-byte-3 byte-requires-3 shared-slice-read-byte-4 byte-requires-4 compared-requires-2
+    Inv-loop μ-loop loop-holds add-long add-long-2 shared-slice-read-long long-requires add-long-3 add-long-4 shared-slice-read-long-2 long-requires-2
+    compared-requires returns add-i loop-less loop-again shared-slice-read-long-3 long-requires-3 shared-slice-read-long-4 long-requires-4 compared-requires-2
     returns-2)

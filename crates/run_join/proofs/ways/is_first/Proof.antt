@@ -10,7 +10,7 @@ unfolding at
 returns c =
     let f = c .before .before .before in
     let a = f .before .before .args in
-    first-is (a .l .now) (a .k) (c .byte .result) (marked (a .marks .now) (a .k)) (c .byte .ensures .0) (sym (f .is-marked .ensures) ∙ c .before .before .if1 .taken)
+    first-is (a .l .now) (a .k) (c .long .result) (marked (a .marks .now) (a .k)) (c .long .ensures .0) (sym (f .is-marked .ensures) ∙ c .before .before .if1 .taken)
 
 returns-2 : tie.Need-returns-2
 returns-2 c =
