@@ -3,13 +3,10 @@
 use Rattle.model.specs.Kit.{Bool, true, false, List, [], _∷_, map, ℕ, zero, suc, _+_, _*_, _/_, _%_, eqb, ltb, leb, length}
 use Rattle.model.specs.{Lists.all, Lists.any, Lists.at, Lists.below, Lists.both, Lists.either, Lists.choose, Lists.same, Lists.tabulate, Lists.total, Verdict.Verdict}
 use Rattle.model.specs.Verdict.{accepted, ask}
+pub use Rattle.model.specs.Bytes.{fourAt}
 use Rattle.run_cut.specs.Parts.{after}
 
 -- ---- what stands in the bytes
--- the number in the four bytes at an offset, low byte first
-abbrev pub fourAt : List ℕ → ℕ → ℕ
-fourAt l o = at l o + 256 * at l (o + 1) + 65536 * at l (o + 2) + 16777216 * at l (o + 3)
-
 -- the path at an offset: as many values as the first byte says
 unfoldable pub pathAt : List ℕ → ℕ → List ℕ
 pathAt l o = tabulate (at l o) (λ i. at l (o + 1 + i))

@@ -1,6 +1,7 @@
 -- An answer as one number and as three numbers in bytes: what the exported functions return and leave in the lent answer.
 use Rattle.model.specs.Kit.{List, _++_, ℕ, _+_, _*_}
-use Rattle.model.specs.{Lists.at, Bytes.fourBytes, Verdict.Verdict, Verdict.accepted, Verdict.refused}
+pub use Rattle.model.specs.Bytes.{fourAt}
+use Rattle.model.specs.{Bytes.fourBytes, Verdict.Verdict, Verdict.accepted, Verdict.refused}
 
 -- an answer as one number: 0, or the number and the item of the refusal
 abbrev pub codeOf : Verdict → ℕ
@@ -14,7 +15,3 @@ wrongLength = 255 * 256
 -- three numbers of four bytes
 unfoldable pub threeNumbers : ℕ → ℕ → ℕ → List ℕ
 threeNumbers kind a b = fourBytes kind ++ fourBytes a ++ fourBytes b
-
--- the number in the four bytes at an offset, low byte first
-abbrev pub fourAt : List ℕ → ℕ → ℕ
-fourAt l o = at l o + 256 * at l (o + 1) + 65536 * at l (o + 2) + 16777216 * at l (o + 3)
