@@ -1,7 +1,8 @@
 -- A job that a slot's bytes can hold, and that a turn makes such a job of it (specs/Layout). Assumes nothing.
 use Rattle.model.specs.Kit.{_≡_, refl, sym, ap, ap₂, _∙_, subst, Bool, true, false, _⊎_, inl, inr, ⊎-elim, List, [], _∷_, _++_, List·Memᴰ, List·Memᴰ·head, List·Memᴰ·tail}
-use Rattle.model.specs.Kit.{append-nil, ℕ, zero, suc, _+_, _-_, _*_, _≤_, _<_, min, mul-le-mul, suc-mul, arith, T, ltb, leb, eqb, eqb→eq, length, take, drop, length-take}
-use Rattle.model.specs.Kit.{length-drop, getD-drop, length-take-le, leb-true, leb-false, ltb-true, ltb-false}
+use Rattle.model.specs.Kit.{append-nil, ℕ, zero, suc, _+_, _-_, _*_, _≤_, _<_, min, mul-le-mul, arith, T, ltb, eqb, eqb→eq, length, take, drop, length-take}
+use Rattle.model.specs.Kit.{length-drop, getD-drop, length-take-le, ltb-true, ltb-false}
+use native.Mathlib.Nat.{le-of-mul-le-mul-right}
 use lib.Seq.{take-nil}
 use Rattle.model.specs.{Lists.at, Lists.choose, Lists.flat, Lists.keep, Problem.Problem, Search.nodes, Search.isPlan, Sheet.«word», Sheet.headerOf, Sheet.problemOf, Run.Ending}
 use Rattle.model.specs.Run.{finished, spent, full, plansIn, nodesIn, search, settledBy, countsBy, listedPlans}
@@ -121,18 +122,6 @@ unfolding flat
 small-flat [] f = small-nil
 small-flat (r ∷ rows) f = small-append r (flat rows) (f r (List·Memᴰ·head refl)) (small-flat rows (λ t m. f t (List·Memᴰ·tail m)))
 
-few-of : (a c n : ℕ) → 1 ≤ n → a * n ≤ c * n → a ≤ c
-few-of a c n o h = go (leb a c) refl
-  where
-    go : (t : Bool) → leb a c ≡ t → a ≤ c
-    go true e = leb-true a c e
-    go false e =
-        let l : suc c ≤ a = (let z = leb-false a c e in omega arith) in
-        let r : n ≤ n = omega arith in
-        let m : suc c * n ≤ a * n = mul-le-mul l r in
-        let s = suc-mul c n in
-        absurd (omega arith)
-
 -- ---- a turn
 after-figured : (limit : ℕ) (e : Ending) (plans made : ℕ) → plansIn e ≡ plans → nodesIn e ≡ made → Figured (standingAfter limit e) plans made
 after-figured limit (finished a m) plans made f g = ap₂ (λ (x y : ℕ). over (finished x y)) (sym f) (sym g)
@@ -199,7 +188,7 @@ module _ (b : List ℕ) (p : ℕ) (h : Job) (f : Fits b p h) where
           let o = f .few in
           let z : q .variables ≤ q .variables = omega arith in
           let u = roomy (mul-le-mul o z) in (
-            few-of (length rows) 4096 (q .variables) (s .1) u,
+            le-of-mul-le-mul-right u (s .1),
             subst (Wide (widthAt b p)) (sym e) (wide-append (h .progress .rows) (keep (isPlan q) (take k ts)) (f .wide) (λ t m. new-in k t m .1 ∙ s .0)),
           )
       few-wide k rows e roomy (inr s) =

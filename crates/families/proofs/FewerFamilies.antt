@@ -1,11 +1,11 @@
 -- Families and other symmetries: more symmetries never make more families, those that join nothing new don't matter, nor does their order, and
 -- without any each solution is a family. Assumes nothing.
 use Rattle.model.specs.Kit.{_≡_, refl, sym, ap, _∙_, subst, not, List, [], List·Memᴰ, List·Memᴰ·not-nil, ℕ, _≤_, arith, T, length}
-use Rattle.model.specs.{Lists.both, Lists.any, Lists.keep, Lists.earlier, Problem.Problem, Problem.pair, Problem.isPair, Problem.pairsOf, Problem.takes, Problem.isSolution}
-use Rattle.model.specs.{Problem.assignments, Problem.withSymmetries, Verdict.isAccepted, Verdict.accepted, Verdict.Verdict, Sheet.problemOf, Sheet.verdictOf, Sheet.permutesPairs}
-use Rattle.model.specs.{Claims.isLeader, Claims.leaders, Claims.OneMore, WellFormed.WellFormed, WellFormed.Respected, WellFormed.GoodSymmetry}
+use Rattle.model.specs.{Lists.both, Lists.any, Lists.keep, Lists.earlier, Problem.Problem, Problem.pair, Problem.pairsOf, Problem.takes, Problem.isSolution}
+use Rattle.model.specs.{Problem.assignments, Problem.withSymmetries, Verdict.isAccepted, Verdict.accepted, Verdict.Verdict, Sheet.problemOf, Sheet.verdictOf}
+use Rattle.model.specs.{Claims.isLeader, Claims.leaders, Claims.OneMore, WellFormed.WellFormed, WellFormed.Respected}
 use Rattle.families.specs.Families.{Joined, alone, further, solutionsOf, isEarliest, earliestOf, familiesOf}
-use Rattle.model.proofs.{Lists.earlier-asym, Lists.keep-all, Lists.keep-ext, Lists.both-true, OneMore.one-more, Demands.of-accepted}
+use Rattle.model.proofs.{Lists.earlier-asym, Lists.keep-all, Lists.keep-ext, Lists.both-true, Asked.well-formed-with, OneMore.one-more, Demands.of-accepted}
 use Rattle.families.proofs.{Joined.joined-to, Joined.joined-trans, Joined.joined-one, FamilyCount.in-solution, FamilyCount.earliest-i, FamilyCount.earliest-e}
 use Rattle.families.proofs.FamilyCount.{keep-fewer}
 
@@ -25,21 +25,6 @@ module _ (p : Problem) (gs : List (List ℕ)) where
   pub solutions-same : solutionsOf (withSymmetries p gs) ≡ solutionsOf p
   unfolding solutionsOf
   solutions-same = keep-ext (isSolution q) (isSolution p) (assignments (p .initial)) (λ s m. solution-same s)
-
-  -- a problem stays well-formed with other symmetries of its pairs
-  pub well-formed-with : WellFormed p → ((g : List ℕ) → List·Memᴰ g gs → GoodSymmetry p g) → WellFormed (withSymmetries p gs)
-  unfolding permutesPairs isPair
-  well-formed-with w h = record {
-    some = w .some;
-    few = w .few;
-    one = w .one;
-    sixteen = w .sixteen;
-    sized = w .sized;
-    nonempty = w .nonempty;
-    narrow = w .narrow;
-    constrained = λ c m. let k = w .constrained c m in record { some = k .some; few = k .few; inside = k .inside; ordered = k .ordered; sized = k .sized; valued = k .valued };
-    symmetric = λ g m. let k = h g m in record { sized = k .sized; permutes = k .permutes };
-  }
 
   -- what is joined stays joined
   pub joined-more : ((g : List ℕ) → List·Memᴰ g (p .symmetries) → List·Memᴰ g gs) → (a b : List ℕ) → Joined p a b → Joined (withSymmetries p gs) a b

@@ -5,12 +5,11 @@ use types.Run.{OneOf}
 use denote.Enum.Declared.{tagOf}
 use Rattle.model.specs.{Lists.at, Problem.Problem, WellFormed.WellFormed, Verdict.Verdict, Verdict.accepted, Verdict.refused, Verdict.isAccepted, Verdict.reply, Sheet.problemOf}
 use Rattle.model.specs.{Sheet.verdictOf, Run.Ending, Run.finished, Run.spent, Run.full, Run.plansIn, Run.nodesIn, Run.resultOf, Run.Tally}
-use Rattle.model.proofs.{Accepted.passed, Accepted.constraints-are, Accepted.symmetries-are, Accepted.is-accepted, Lists.at-set}
+use Rattle.model.proofs.{Accepted.passed, Accepted.constraints-are, Accepted.symmetries-are, Accepted.is-accepted, Asked.well-formed-with, Lists.at-set}
 use Rattle.order.specs.{Reordered.constraintIn, RunBy.Input, RunBy.resultBy}
 use Rattle.order.proofs.Reordered.{well-reordered}
 use Rattle.arrays.specs.inner.Places.{VARIABLES, SYMMETRIES, PLANS, ALL, SPENT, FULL, STACK, TABLES, WORK}
 use Rattle.arrays.specs.inner.Layout.{Compiled}
-use Rattle.block.proofs.Tables.{well-formed-with}
 use Rattle.run_input.specs.Lent.{verdictLent, problemWith, orderLent, problemLent}
 use Rattle.run_input.proofs.Lent.{lent-passed, well-lent, ordering-lent, nothing-lent}
 use Rattle.families.specs.{Families.familiesOf, inner.Numbered.Counted}

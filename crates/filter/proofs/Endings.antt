@@ -5,7 +5,7 @@ use lib.Seq.{take-set-lt}
 use Rattle.model.specs.{Lists.at, Lists.same, ValueSets.has, ValueSets.onlyMask, ValueSets.withoutMask, ValueSets.anyEmpty, Problem.assignments, Nogood.Entry, Nogood.equality}
 use Rattle.model.specs.Nogood.{is, obeysFrom, obeys, filtered, failed, entailed, consistent, endingBy, everyObeys, filterEnding, Entails, Fails}
 use Rattle.model.proofs.Lists.{T-of, of-T, not-of, of-not, T-ext, all-i, all-e, same-eq, same-refl, at-ext, at-set, at-take}
-use Rattle.model.proofs.{Sets.members-i, Sets.members-e, Sets.empty-e, Sets.inside-antisym, Filter.filtered-inside, Assignments.assign-i, Assignments.assign-e, Endings.SameModels}
+use Rattle.model.proofs.{Sets.members-i, Sets.members-e, Sets.empty-e, Sets.inside-antisym, Filter.filtered-inside, Obey.obeys-unheld, Assignments.assign-i, Assignments.assign-e, Endings.SameModels}
 use Rattle.model.proofs.Endings.{every-i, every-no, failed-i, entailed-i, ending-by, entailed-exactly, consistent-exactly, entailed-left, same-ending}
 use Rattle.filter.specs.inner.Scan.{stepOf, models, None, Some, Live, Passed, Remainder, Right, Changed}
 use Rattle.filter.specs.{Lists.forced, declared.entry.Step.the-variants.Split}
@@ -62,7 +62,7 @@ every-force ss x v es h =
     kept every a d true q =
         subst (λ (c : Bool). T (obeysFrom c a es)) (sym (Scan.is-at ss a x v h d ∙ q))
         (every a (draw-mem (forced ss x v) a (Scan.cut-i ss x (Scan.equal v) a h d (T-of (eqb (at a x) v) q))))
-    kept every a d false q = T-of (obeysFrom (is a x v) a es) (ap (λ (c : Bool). obeysFrom c a es) (Scan.is-at ss a x v h d ∙ q) ∙ Scan.obeys-unheld a es)
+    kept every a d false q = T-of (obeysFrom (is a x v) a es) (ap (λ (c : Bool). obeysFrom c a es) (Scan.is-at ss a x v h d ∙ q) ∙ obeys-unheld a es)
 
     forth : Entails (forced ss x v) es → Entails ss (equality x v ∷ es)
     forth every a m = let d = mem-draw ss a m in kept every a d (eqb (at a x) v) refl

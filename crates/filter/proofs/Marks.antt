@@ -6,8 +6,8 @@ use Rattle.model.specs.Kit.{lt-ltb, le-ltb}
 use Rattle.model.specs.{Lists.at, Lists.both, ValueSets.has, ValueSets.maskOf, ValueSets.withoutMask, ValueSets.onlyMask, ValueSets.Inside, Problem.assignments, Nogood.Entry}
 use Rattle.model.specs.Nogood.{equality, disequality, Kind, isEquality, isDisequality, bothAbsent, bothPresent, mark, kindBy, kindOf, entryIn, entryOf, valueOk, entryOk, is}
 use Rattle.model.specs.Nogood.{obeysFrom, obeys, obeying}
-use Rattle.model.proofs.{Lists.T-of, Lists.of-T, Lists.not-of, Lists.of-not, Lists.both-i, Lists.both-l, Lists.both-r, Lists.keep-ext, Lists.getD-at, Sets.has-none, Sets.has-lt}
-use Rattle.model.proofs.{Sets.mask-i, Assignments.assign-mono, Assignments.drawn-e, EntryKinds.right-kinds, Endings.entailed-left, Endings.entails-mono}
+use Rattle.model.proofs.{Lists.T-of, Lists.of-T, Lists.not-of, Lists.of-not, Lists.both-i, Lists.both-l, Lists.both-r, Lists.both-no-r, Lists.keep-ext, Lists.getD-at, Sets.has-none, Sets.has-lt}
+use Rattle.model.proofs.{Sets.mask-i, Obey.obeys-unheld, Assignments.assign-mono, Assignments.drawn-e, EntryKinds.right-kinds, Endings.entailed-left, Endings.entails-mono}
 use Rattle.filter.specs.declared.Kind.the-variants.{Equality, Disequality, BothAbsent, BothPresent}
 use Rattle.filter.specs.{declared.entry.Step.the-variants.Next, declared.entry.Step.the-variants.Obeyed, inner.Scan.Right, inner.Scan.stepOf, Lists.kindAs, Marks.Vacuous}
 use Rattle.filter.specs.Marks.{ObeyedForGood, NamesGone, Skippable, Skipped-here, Skipped-below}
@@ -145,7 +145,7 @@ module _ (ds : List ℕ) (x v : ℕ) (h : x < length ds) where
   -- "this value", which the set has not
   pub for-good-equality : (T (has (at ds x) v) → ⊥) → ObeyedForGood ds (equality x v ∷ [])
   unfolding obeysFrom
-  for-good-equality z a m fs = T-of (obeysFrom (is a x v) a fs) (ap (λ (b : Bool). obeysFrom b a fs) (absent z a m) ∙ Scan.obeys-unheld a fs)
+  for-good-equality z a m fs = T-of (obeysFrom (is a x v) a fs) (ap (λ (b : Bool). obeysFrom b a fs) (absent z a m) ∙ obeys-unheld a fs)
 
 -- an equality that the scan passes, and one that ends it
 module _ (ds : List ℕ) (x v : ℕ) (h : x < length ds) (b : at ds x < 2 ^ 16) where
@@ -198,16 +198,12 @@ skipped-below ds es s a m fs = behind true es (s .entailed a m) (s .gone .2)
     Broken (equality y w) = is a y w ≡ false
     Broken (disequality y w) = ⊥
 
-    both-false : (c b : Bool) → b ≡ false → both c b ≡ false
-    both-false true b e = e
-    both-false false b e = refl
-
     -- behind the equality nothing is asked
     behind : (c : Bool) (es : List Entry) → T (obeysFrom c a es) → List·Memᴰ (equality x v) es → T (obeysFrom c a (es ++ fs))
     behind c [] t i = absurd (List·Memᴰ·not-nil i)
     behind c (equality y w ∷ es) t (List·Memᴰ·head e) =
         T-of (obeysFrom (both c (is a y w)) a (es ++ fs))
-        (ap (λ (b : Bool). obeysFrom b a (es ++ fs)) (both-false c (is a y w) (subst Broken e (absent ds x v (g .3) (g .4) a m))) ∙ Scan.obeys-unheld a (es ++ fs))
+        (ap (λ (b : Bool). obeysFrom b a (es ++ fs)) (both-no-r c (is a y w) (subst Broken e (absent ds x v (g .3) (g .4) a m))) ∙ obeys-unheld a (es ++ fs))
     behind c (equality y w ∷ es) t (List·Memᴰ·tail i) = behind (both c (is a y w)) es t i
     behind c (disequality y w ∷ es) t (List·Memᴰ·head e) = absurd (subst Broken e (absent ds x v (g .3) (g .4) a m))
     behind c (disequality y w ∷ es) t (List·Memᴰ·tail i) =

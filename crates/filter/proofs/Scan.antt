@@ -9,7 +9,7 @@ use Rattle.model.specs.{Problem.assignments, Nogood.Entry, Nogood.equality, Nog
 use Rattle.model.specs.Nogood.{filtered}
 use Rattle.model.proofs.Lists.{T-of, of-T, not-of, of-not, T-ext, both-i, both-l, both-r, either-l, either-r, either-e, any-i, any-e, keep-i, keep-e, getD-at, at-ext, at-tabulate}
 use Rattle.model.proofs.{Lists.length-tabulate, Lists.at-set, Lists.at-set-other, Lists.set-at, Lists.set-each, Lists.both-less, Sets.has-mask, Sets.has-none, Sets.mask-lt}
-use Rattle.model.proofs.{Sets.mask-i, Sets.mask-e, Sets.members-i, Sets.members-e, Sets.member, Sets.at-zeros, Masks.is-mask, Members.either-no, Assignments.assign-i}
+use Rattle.model.proofs.{Sets.mask-i, Sets.mask-e, Sets.members-i, Sets.members-e, Sets.member, Sets.at-zeros, Masks.is-mask, Members.either-no, Obey.obeys-unheld, Assignments.assign-i}
 use Rattle.model.proofs.Assignments.{assign-e}
 use Rattle.filter.specs.inner.Scan.{models}
 
@@ -69,12 +69,6 @@ cut-inside ss x f l i v =
     (λ t. both-l (has (at ss x) v) (f v) (mask-e (λ w. both (has (at ss x) w) (f w)) v t .1)) (λ e t. t)
 
 -- ---- one entry
-pub obeys-unheld : (a : List ℕ) (es : List Entry) → obeysFrom false a es ≡ true
-unfolding obeysFrom
-obeys-unheld a [] = refl
-obeys-unheld a (equality x v ∷ es) = obeys-unheld a es
-obeys-unheld a (disequality x v ∷ es) = obeys-unheld a es
-
 abbrev pub other : ℕ → ℕ → Bool
 other u v = not (eqb v u)
 

@@ -1,9 +1,9 @@
 -- Numbers put one after another, and a buffer by its indexes. Assumes nothing.
 use Rattle.model.specs.Kit.{_≡_, refl, sym, ap, ap₂, _∙_, subst, Bool, true, false, List, [], _∷_, _++_, List·Memᴰ·head, ℕ, zero, suc, _+_, _*_, _-_, _/_, _%_, _≤_, _<_, suc-mul}
-use Rattle.model.specs.Kit.{arith, ltb, length, take, drop, getD, set, length-set, length-append, length-drop, take-append-drop, length-take-le, getD-drop, ltb-true, ltb-false}
+use Rattle.model.specs.Kit.{arith, ltb, length, take, drop, getD, set, length-set, length-append, length-drop, take-append-drop, length-take-le, ltb-true, ltb-false}
 use native.Mathlib.Nat.{zero-mul, mul-zero, div-add-mod', mod-lt, div-lt-iff-lt-mul}
 use Rattle.model.specs.{Lists.flat, Lists.at, Run.listedPlans, Bytes.twoBytes, Written.placed, Written.Written}
-use Rattle.model.proofs.{Lists.at-ext, Lists.at-append, Lists.at-skip, Lists.at-take, Lists.getD-below, Room.Wide, Room.wide-tail, Room.length-listed, Room.length-flat}
+use Rattle.model.proofs.{Lists.at-ext, Lists.at-append, Lists.at-skip, Lists.at-take, Lists.at-drop, Lists.getD-below, Room.Wide, Room.wide-tail, Room.length-listed, Room.length-flat}
 use Rattle.model.proofs.Written.{written-byte, written-then}
 use Rattle.list_columns.specs.Columns.{column, transposed, heading}
 use Rattle.list_columns.proofs.Transposing.{at-column, length-transposed, transposed-wide}
@@ -25,10 +25,6 @@ put-four {d} n k fits w₁ w₂ w₃ w₄ =
     written-then (omega (arith, w₁ .ends, w₂ .ends, w₃ .ends)) (written-then (omega (arith, w₁ .ends, w₂ .ends)) (written-then (omega (arith, w₁ .ends)) w₁ w₂) w₃) w₄
 
 -- ---- a text in a buffer by its indexes
-at-drop : (n : ℕ) (l : List ℕ) (i : ℕ) → at (drop n l) i ≡ at l (n + i)
-unfolding at
-at-drop n l i = getD-drop n l i 0
-
 pub placed-by : (d e : List ℕ) (start : ℕ) (t : List ℕ) → start + length t ≤ length d → length e ≡ length d → ((j : ℕ) → j < length t → at e (start + j) ≡ at t j) →
     ((j : ℕ) → j < start → at e j ≡ at d j) → ((j : ℕ) → start + length t ≤ j → at e j ≡ at d j) → e ≡ placed d start t
 unfolding placed

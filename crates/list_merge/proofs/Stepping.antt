@@ -2,7 +2,7 @@
 use Rattle.model.specs.Kit.{_≡_, refl, sym, ap, ap₂, _∙_, subst, Bool, true, false, not, _⊎_, inl, inr, List, [], _∷_, _++_, List·Memᴰ, List·Memᴰ·head, List·Memᴰ·tail}
 use Rattle.model.specs.Kit.{List·Memᴰ·not-nil, ℕ, _+_, _-_, _%_, _≤_, _<_, mod-eq-of-lt, arith, T, eqb, leb, ltb, length, take, drop, length-drop, length-take-le, eqb-true}
 use Rattle.model.specs.Kit.{eqb-false, eq-eqb, ne-eqb, leb-true, leb-false, ltb-true, ltb-false, lt-ltb, le-ltb}
-use native.Mathlib.Nat.{le-antisymm, mod-eq-sub-mod}
+use native.Mathlib.Nat.{mod-eq-sub-mod}
 use lib.Seq.{take-nil}
 use Rattle.model.specs.{Lists.choose, Lists.both, Lists.either, Lists.flat, Lists.same, Room.rowsIn}
 use Rattle.model.proofs.Lists.{T-of, of-T, not-of, of-not, same-eq, same-refl, earlier-asym, earlier-trans, Sorted, length-none}
@@ -22,13 +22,6 @@ way-after p q e f = sym (ap₂ wayOf e f)
 
 pub way-same : (p q : Bool) → p ≡ false → q ≡ false → Same ≡ wayOf p q
 way-same p q e f = sym (ap₂ wayOf e f)
-
-pub less : (x y : ℕ) → y ≤ x → (x ≡ y → ⊥) → y < x
-less x y h ne = go (leb x y) refl
-  where
-    go : (t : Bool) → leb x y ≡ t → y < x
-    go true e = absurd (ne (le-antisymm (leb-true x y e) h))
-    go false e = leb-false x y e
 
 pub less-by : (room first second : ℕ) → first ≤ room → ltb (room - first) second ≡ ltb room (first + second)
 less-by room first second h = go (ltb (room - first) second) refl

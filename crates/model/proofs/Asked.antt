@@ -5,7 +5,7 @@ use Rattle.model.specs.{Lists.all, Lists.any, Lists.both, Lists.at, List
 use Rattle.model.specs.Problem.{Constraint, pair, isPair, pairsAt, within, assignments, doubled, excluded, forbidden, respects, withSymmetries}
 use Rattle.model.specs.{Verdict.Verdict, Verdict.accepted, Verdict.ask, Verdict.isAccepted, Sheet.Header, Sheet.word, Sheet.headerVerdict, Sheet.scopeAt, Sheet.rowsAt}
 use Rattle.model.specs.Sheet.{afterAt, setsVerdict, constraintVerdict, constraintsVerdict, permutesPairs, symmetriesVerdict}
-use Rattle.model.specs.WellFormed.{GoodSymmetry}
+use Rattle.model.specs.WellFormed.{WellFormed, GoodSymmetry, Respected}
 use Rattle.model.proofs.{Lists.of-T, Lists.map-ext, Accepted.HeaderPassed, Accepted.asked, OneMore.after-low, OneMore.arity, OneMore.count, OneMore.after-agree}
 use Rattle.model.proofs.OneMore.{scope-agree, rows-agree, Agree}
 
@@ -138,6 +138,20 @@ module _ (p : Problem) (gs : List (List ℕ)) where
   unfolding permutesPairs isPair
   good-other g a = record { sized = a .sized; permutes = a .permutes }
 
+  -- so the problem with other symmetries is as good as these are
+  pub well-formed-with : WellFormed p → ((g : List ℕ) → List·Memᴰ g gs → GoodSymmetry p g) → WellFormed (withSymmetries p gs)
+  well-formed-with w h = record {
+    some = w .some;
+    few = w .few;
+    one = w .one;
+    sixteen = w .sixteen;
+    sized = w .sized;
+    nonempty = w .nonempty;
+    narrow = w .narrow;
+    constrained = λ c i. (let g = w .constrained c i in record { some = g .some; few = g .few; inside = g .inside; ordered = g .ordered; sized = g .sized; valued = g .valued });
+    symmetric = λ g i. good-other g (h g i);
+  }
+
   pub permutes-same : (g : List ℕ) → permutesPairs (withSymmetries p gs) g ≡ permutesPairs p g
   unfolding permutesPairs isPair
   permutes-same g = refl
@@ -148,3 +162,6 @@ module _ (p : Problem) (gs : List (List ℕ)) where
 
   pub respects-other : (g : List ℕ) → T (respects p g) → T (respects (withSymmetries p gs) g)
   respects-other g = subst T (sym (respects-same g))
+
+  pub respected-with : ((g : List ℕ) → List·Memᴰ g gs → T (respects p g)) → Respected (withSymmetries p gs)
+  respected-with h = record { respectful = λ g i. respects-other g (h g i) }

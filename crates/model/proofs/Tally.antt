@@ -82,7 +82,7 @@ module _ {A : Type 0} (f : A → ℕ) where
           ∙ ap length (keep-none (λ a. eqb (f a) x) l (λ a m t. let s = h a m in let q : f a ≡ x = eqb-true (f a) x (of-T _ t) in omega arith))
       go false e = at-out (countsBy f l) x (let s = length-counts l in let q = ltb-false x 12 e in omega arith)
 
-tabulate-ext : (n : ℕ) (f g : ℕ → ℕ) → ((i : ℕ) → f i ≡ g i) → tabulate n f ≡ tabulate n g
+pub tabulate-ext : (n : ℕ) (f g : ℕ → ℕ) → ((i : ℕ) → f i ≡ g i) → tabulate n f ≡ tabulate n g
 unfolding tabulate
 tabulate-ext zero f g h = refl
 tabulate-ext (suc n) f g h = ap₂ (λ (x : ℕ) (l : List ℕ). x ∷ l) (h 0) (tabulate-ext n (λ i. f (suc i)) (λ i. g (suc i)) (λ i. h (suc i)))

@@ -88,7 +88,7 @@ module _ (n : ℕ) (pairs : List ℕ) where
   unfolding settlingOrder
   order-at i h = first-at n i h
 
-  order-length : length (settlingOrder n pairs) ≡ n
+  pub order-length : length (settlingOrder n pairs) ≡ n
   unfolding settlingOrder
   order-length = first-length n
 

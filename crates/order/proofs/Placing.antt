@@ -8,7 +8,7 @@ use Rattle.order.specs.Order.{pairsIn, Before, canFollow, settledFirst, 
 use Rattle.order.specs.inner.Settled.{Holds, Befores, Settled, Ordered}
 use Rattle.model.proofs.Lists.{T-of, of-T, not-of, of-not, all-i, all-e, any-cons, among-i, among-e, mem-at, at-mem, at-ext, at-take, at-set, at-set-other}
 use Rattle.model.proofs.{Masks.has-or, Sets.has-none, Sets.mask-ext, Members.or-i, Members.or-e}
-use Rattle.order.proofs.Order.{follow-i, follow-e, first-length, first-at, order-passed}
+use Rattle.order.proofs.Order.{follow-i, follow-e, first-length, first-at, order-length, order-passed}
 
 -- ---- pairs by their index
 pub before-at : (pairs : List ℕ) (i : ℕ) → 2 * i + 1 < length pairs → Before pairs (at pairs (2 * i)) (at pairs (2 * i + 1))
@@ -250,10 +250,6 @@ module _ (n : ℕ) (pairs : List ℕ) where
   }
 
 -- ---- the answers
-order-long : (n : ℕ) (pairs : List ℕ) → length (settlingOrder n pairs) ≡ n
-unfolding settlingOrder
-order-long n pairs = first-length n pairs n
-
 module _ (n : ℕ) (pairs old : List ℕ) where
   pub many : 128 < length pairs → Ordered n pairs old old 28
   unfolding orderVerdict
@@ -316,7 +312,7 @@ module _ (n : ℕ) (pairs old : List ℕ) where
             take-long = length-take n new ∙ (let e = s .size in omega arith)
 
             take-is : take n new ≡ settlingOrder n pairs
-            take-is = at-ext (take n new) (settlingOrder n pairs) (take-long ∙ sym (order-long n pairs))
+            take-is = at-ext (take n new) (settlingOrder n pairs) (take-long ∙ sym (order-length n pairs))
                 (λ i h. let l : i < n = omega (arith, take-long) in at-take n new i l ∙ s .places (T-of r e) i l)
 
             drop-is : drop n new ≡ drop n old

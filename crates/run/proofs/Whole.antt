@@ -1,9 +1,9 @@
 -- A whole run: its answer, list and tally, of what the search leaves. Assumes nothing.
-use Rattle.model.specs.Kit.{_≡_, refl, sym, ap, ap₂, _∙_, Bool, true, false, List, [], _∷_, map, ℕ, zero, suc, _*_, _-_, _≤_, _<_, arith, eqb, eqb-true, eqb-false, length, set}
+use Rattle.model.specs.Kit.{_≡_, refl, sym, ap, ap₂, _∙_, Bool, true, false, List, [], map, ℕ, zero, suc, _*_, _-_, _≤_, _<_, arith, eqb, eqb-true, eqb-false, length, set}
 use Rattle.model.specs.Kit.{replicate, length-set}
 use Rattle.model.specs.{Lists.flat, Lists.at, Lists.choose, Problem.Problem, Search.nodes, Verdict.Verdict, Verdict.accepted, Verdict.refused, Verdict.reply, Run.finished}
 use Rattle.model.specs.{Run.spent, Run.full, Run.refusal, Run.ended, Run.Result, Run.resultOf, Run.written, Run.Tally, Run.tallyFor, Run.plansIn, Run.nodesIn, Sheet.problemOf}
-use Rattle.model.proofs.{Lists.at-set, Lists.at-set-other, Runs.rows-fit, Accepted.is-accepted}
+use Rattle.model.proofs.{Lists.length-none, Lists.at-set, Lists.at-set-other, Runs.rows-fit, Accepted.is-accepted}
 use Rattle.order.specs.{Reordered.write, RunBy.resultBy, RunBy.placeCounts, RunBy.placeTally, RunBy.answerBy, RunBy.listBy, RunBy.talliedBy}
 use Rattle.run_input.specs.Lent.{verdictLent, orderLent, problemWith, problemLent, answerLent, listLent, tallyLent}
 use Rattle.run_input.proofs.Lent.{well-sheet}
@@ -86,17 +86,14 @@ pub record Said (b pairs block : List ℕ) (limit : ℕ) (list : List ℕ) (tall
   pub lists : list′ ≡ listLent b pairs block limit list
   pub counts : tally′ ≡ tallyLent b pairs block limit list tally
 
+-- no row of some variables fits into nothing
+pub nothing-of : (n k : ℕ) → 0 < n → k * n ≤ 0 → k ≡ 0
+nothing-of n zero s l = refl
+nothing-of n (suc k) s l = absurd (omega arith)
+
 -- in a list of no byte there are no rows
 no-rows : (p : Problem) (limit : ℕ) → 0 < p .variables → resultOf p limit 0 .rows ≡ []
-no-rows p limit s = none-of (resultOf p limit 0 .rows) (nothing-of (length (resultOf p limit 0 .rows)) (rows-fit p limit 0))
-  where
-    nothing-of : (k : ℕ) → k * p .variables ≤ 0 → k ≡ 0
-    nothing-of zero l = refl
-    nothing-of (suc k) l = absurd (omega arith)
-
-    none-of : {A : Type 0} (l : List A) → length l ≡ 0 → l ≡ []
-    none-of [] e = refl
-    none-of (y ∷ l) e = absurd (omega arith)
+no-rows p limit s = length-none (resultOf p limit 0 .rows) (nothing-of (p .variables) (length (resultOf p limit 0 .rows)) s (rows-fit p limit 0))
 
 pub kept-listed : (p : Problem) (order : List ℕ) (limit : ℕ) (list : List ℕ) → 0 < p .variables →
     kept (map (write order) (resultOf p limit (length list) .rows)) list ≡ written (map (write order) (resultOf p limit (length list) .rows)) list

@@ -2,9 +2,9 @@
 use Rattle.model.specs.Kit.{_≡_, refl, sym, ap, ap₂, _∙_, subst, Bool, true, false, List, [], _∷_, _++_, map, List·Memᴰ, Memᴰ·of-map, append-assoc, append-nil, ℕ, zero, suc, _+_}
 use Rattle.model.specs.Kit.{_-_, ℕ-discrete, arith, eqb, length, drop, length-append, length-map, ne-eqb}
 use lib.Seq.{drop-at}
-use Rattle.model.specs.{Lists.both, Lists.keep, Lists.flat, Lists.at, Lists.tabulate, ValueSets.members, Problem.Problem, Search.setsAt, Search.isLive, Search.nodesBelow}
+use Rattle.model.specs.{Lists.both, Lists.keep, Lists.flat, Lists.at, ValueSets.members, Problem.Problem, Search.setsAt, Search.isLive, Search.nodesBelow}
 use Rattle.model.specs.{Search.isPlan, Run.settledBy, Run.countsBy, WellFormed.WellFormed}
-use Rattle.model.proofs.Lists.{map-ext, map-flat-map, keep-ext}
+use Rattle.model.proofs.{Lists.map-ext, Lists.map-flat-map, Lists.keep-ext, Tally.tabulate-ext}
 use Rattle.run_alike.specs.{inner.Alike.moved, inner.Claims.SameBelow}
 use Rattle.run_alike.proofs.Sets.{Agree, live-alike, sets-alike}
 
@@ -18,11 +18,6 @@ keep-map {A} {B} q f (x ∷ l) = go (q (f x)) (keep-map q f l)
         (elim c [ true ↦ x ∷ keep (λ x. q (f x)) l | false ↦ keep (λ x. q (f x)) l ])
     go true ih = ap (λ (r : List B). f x ∷ r) ih
     go false ih = ih
-
-tabulate-ext : (n : ℕ) (f g : ℕ → ℕ) → ((i : ℕ) → f i ≡ g i) → tabulate n f ≡ tabulate n g
-unfolding tabulate
-tabulate-ext zero f g h = refl
-tabulate-ext (suc n) f g h = ap₂ (λ (x : ℕ) (r : List ℕ). x ∷ r) (h 0) (tabulate-ext n (λ i. f (suc i)) (λ i. g (suc i)) (λ i. h (suc i)))
 
 counts-map : {A : Type 0} (c : A → ℕ) (f : A → A) (l : List A) → ((x : A) → List·Memᴰ x l → c (f x) ≡ c x) → countsBy c (map f l) ≡ countsBy c l
 unfolding countsBy

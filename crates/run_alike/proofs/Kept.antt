@@ -5,10 +5,10 @@ use Rattle.model.specs.Kit.{getD, take, drop, take-append-drop, length-drop, po
 use lib.Seq.{take-take}
 use Rattle.model.specs.{Lists.both, Lists.flat, Lists.upFrom, Lists.at, ValueSets.has, Problem.Problem, Problem.pair, Nogood.Entry, Nogood.equality, Nogood.disequality, Nogood.is}
 use Rattle.model.specs.{Nogood.obeysFrom, Search.entriesAt, Search.nogoodsOf, Search.setsAt, Search.isLive, WellFormed.WellFormed, WellFormed.Respected}
-use Rattle.model.proofs.{Lists.of-T, Lists.T-ext, Lists.not-of, Lists.of-not, Lists.at-take, Sets.has-lt, Sets.has-none, Sets.member, Sets.mask-ext, Assignments.Filled}
+use Rattle.model.proofs.{Lists.of-T, Lists.T-ext, Lists.not-of, Lists.of-not, Lists.at-take, Sets.has-lt, Sets.has-none, Sets.member, Sets.mask-ext, Assignments.Filled, Obey.obeys-unheld}
 use Rattle.model.proofs.{Assignments.drawn-through, Assignments.drawn-i, Assignments.drawn-e, Prune.Sized, Prune.setsAt-sets, Tree.well-sized, Tree.nogoods-append}
 use Rattle.run_alike.specs.{inner.Alike.Residue, inner.Alike.front, inner.Alike.residue, inner.Alike.Vacuous, inner.Claims.Kept-left}
-use Rattle.run_alike.proofs.{Sets.behind-alike, Sets.some-value, Sets.own-only, Sets.own-set, Residue.varOf, Residue.obeys-gone, Residue.single, Residue.single-has}
+use Rattle.run_alike.proofs.{Sets.behind-alike, Sets.some-value, Sets.own-only, Sets.own-set, Residue.varOf, Residue.single, Residue.single-has}
 use Rattle.run_alike.proofs.{Residue.drawn-is, Residue.is-gone, Residue.is-only, Apart.own-in, Apart.own-init, Apart.Settles, Apart.not-elsewhere, Law.entry-e, Law.bounded}
 
 -- ---- entries that the sets decide
@@ -71,7 +71,7 @@ module _ (ds : List ℕ) (full : Filled ds) where
               let e₀ : is s x v ≡ false = ap (λ (j : ℕ). eqb j v) g ∙ ne-eqb u v n in
               let e₁ : is s x u ≡ true = ap (λ (j : ℕ). eqb j u) g ∙ eq-eqb u u refl in
               let e : obeysFrom (is s x v) s (es ++ (disequality x u ∷ [])) ≡ both (not (is s x u)) true = f s (drawn-i ds s small (r .1)) (disequality x u ∷ []) in
-              let q : true ≡ false = sym (obeys-gone s (es ++ (disequality x u ∷ []))) ∙ ap (λ (b : Bool). obeysFrom b s (es ++ (disequality x u ∷ []))) (sym e₀) ∙ e
+              let q : true ≡ false = sym (obeys-unheld s (es ++ (disequality x u ∷ []))) ∙ ap (λ (b : Bool). obeysFrom b s (es ++ (disequality x u ∷ []))) (sym e₀) ∙ e
               ∙ ap (λ (b : Bool). both (not b) true) e₁ in
               absurd (subst T q tt)
 

@@ -2,7 +2,7 @@
 use Rattle.model.specs.Kit.{_≡_, refl, sym, ap, ap₂, _∙_, subst, Bool, true, false, not, _⊎_, inl, inr, ⊎-elim, List, [], _∷_, _++_, List·Memᴰ, List·Memᴰ·head, List·Memᴰ·tail}
 use Rattle.model.specs.Kit.{List·Memᴰ·not-nil, List·Memᴰ·cases-cons, ℕ, _^_, _<_, arith, T, eqb, eqb→eq, eqb-refl, length, getD, eqb-true, eqb-false}
 use Rattle.model.specs.{Lists.both, Lists.at, ValueSets.has, Nogood.Entry, Nogood.equality, Nogood.disequality, Nogood.is, Nogood.obeysFrom, Claims.Drawn}
-use Rattle.model.proofs.{Lists.of-T, Lists.T-of, Lists.not-of, Lists.of-not, Lists.getD-at, Lists.both-true, Lists.both-false, Masks.has-one}
+use Rattle.model.proofs.{Lists.of-T, Lists.T-of, Lists.not-of, Lists.of-not, Lists.getD-at, Lists.both-true, Lists.both-false, Masks.has-one, Obey.obeys-unheld}
 use Rattle.run_alike.specs.inner.Alike.{Residue, front, residue}
 
 -- ---- entries
@@ -22,12 +22,6 @@ obeys-same h s t (equality x v ∷ es) f =
     ap (λ (c : Bool). obeysFrom (both h c) s es) (f (equality x v) (List·Memᴰ·head refl)) ∙ obeys-same (both h (is t x v)) s t es (λ e m. f e (List·Memᴰ·tail m))
 obeys-same h s t (disequality x v ∷ es) f =
     ap₂ (λ (c d : Bool). both (not (both h c)) d) (f (disequality x v) (List·Memᴰ·head refl)) (obeys-same h s t es (λ e m. f e (List·Memᴰ·tail m)))
-
-pub obeys-gone : (s : List ℕ) (es : List Entry) → obeysFrom false s es ≡ true
-unfolding obeysFrom
-obeys-gone s [] = refl
-obeys-gone s (equality x v ∷ es) = obeys-gone s es
-obeys-gone s (disequality x v ∷ es) = obeys-gone s es
 
 -- ---- what is drawn from sets
 pub single : (s u v : ℕ) → s ≡ 2 ^ v → T (has s u) → u ≡ v
@@ -80,7 +74,7 @@ module _ (ds s : List ℕ) (d : Drawn ds s) where
 
       go : ((c : Bool) → Rest c) → (b : Bool) → has (at ds x) v ≡ b → obeysFrom (both h (is s x v)) s (es ++ fs) ≡ obeysFrom h s (after (W b .stopped) (W b .kept) fs)
       go rest true e = held rest (eqb (at ds x) (2 ^ v)) refl
-      go rest false e = ap (λ (c : Bool). obeysFrom c s (es ++ fs)) (ap (both h) (is-gone x v l e) ∙ both-false h) ∙ obeys-gone s (es ++ fs)
+      go rest false e = ap (λ (c : Bool). obeysFrom c s (es ++ fs)) (ap (both h) (is-gone x v l e) ∙ both-false h) ∙ obeys-unheld s (es ++ fs)
   residue-obeys h (disequality x v ∷ es) fs f = go (residue-obeys h es fs (λ e m. f e (List·Memᴰ·tail m))) (has (at ds x) v) refl
     where
       l : x < length ds

@@ -1,10 +1,10 @@
 -- Two prefixes that agree on what is left: behind them any values leave the same sets. Assumes nothing.
 use Rattle.model.specs.Kit.{_≡_, refl, sym, ap, _∙_, subst, Bool, true, false, _⊎_, inl, inr, List, [], _∷_, _++_, map, List·Memᴰ, List·Memᴰ·head, List·Memᴰ·tail}
 use Rattle.model.specs.Kit.{List·Memᴰ·not-nil, ℕ, _+_, _-_, _^_, _≤_, _<_, decLt, arith, T, eqb, leb, eqb→eq, eqb-refl, T-not, length, drop, length-append, length-drop, length-map}
-use Rattle.model.specs.Kit.{pow-lt, getD-drop, eqb-true, le-leb, leb-true}
+use Rattle.model.specs.Kit.{pow-lt, eqb-true, le-leb, leb-true}
 use Rattle.model.specs.{Lists.both, Lists.any, Lists.at, ValueSets.has, ValueSets.anyEmpty, Problem.Problem, Problem.Constraint, Nogood.Entry, Nogood.obeys, Nogood.filtered}
 use Rattle.model.specs.{Search.entriesAt, Search.nogoodsOf, Search.rowWith, Search.setsAt, Search.isLive, Claims.Drawn, Claims.Consistent, WellFormed.WellFormed}
-use Rattle.model.proofs.Lists.{both-i, both-l, both-r, T-of, of-T, T-ext, T-dec, not-of, of-not, any-i, any-e, keep-i, keep-e, at-append, at-skip, at-map, at-ext}
+use Rattle.model.proofs.Lists.{both-i, both-l, both-r, T-of, of-T, T-ext, T-dec, not-of, of-not, any-i, any-e, keep-i, keep-e, at-append, at-skip, at-drop, at-map, at-ext}
 use Rattle.model.proofs.{Sets.has-lt, Sets.has-at-lt, Sets.has-none, Sets.mask-ext, Sets.member, Sets.empty-i, Sets.empty-e, Sets.inside-antisym, Masks.has-one}
 use Rattle.model.proofs.{Assignments.drawn-i, Assignments.drawn-e, Filter.filtered-i, Filter.filtered-e, Filter.filtered-sets, Filter.filtered-inside, Prune.Sized}
 use Rattle.model.proofs.{Prune.setsAt-sets, Consistent.live-consistent, Consistent.consistent-inside, Consistent.dead-empty, Consistent.dead-none, Tree.well-sized}
@@ -12,10 +12,6 @@ use Rattle.model.proofs.Child.{child-sets}
 use Rattle.run_alike.specs.inner.Alike.{unsettled, SameSettled, Carries}
 
 -- ---- lists
-pub at-drop : (n : ℕ) (l : List ℕ) (i : ℕ) → at (drop n l) i ≡ at l (n + i)
-unfolding at
-at-drop n l i = getD-drop n l i 0
-
 -- what stands behind the first n of two lists, one by one
 pub behind-alike : (l r : List ℕ) (n : ℕ) → drop n l ≡ drop n r → (x : ℕ) → n ≤ x → at l x ≡ at r x
 behind-alike l r n h x i =

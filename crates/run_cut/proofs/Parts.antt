@@ -7,7 +7,7 @@ use lib.Seq.{append-snoc}
 use Rattle.model.specs.{Lists.both, Lists.keep, Lists.flat, Lists.below, Lists.at, ValueSets.has, ValueSets.members, Problem.Problem, Search.setsAt, Search.nodesBelow}
 use Rattle.model.specs.Search.{nodes}
 use Rattle.run_cut.specs.{Parts.after, Parts.nodesAfter, Parts.nodesBetween, Parts.ranges, Parts.Cuts, Parts.candidatesAt, Claims.Ranges-whole}
-use Rattle.model.proofs.Lists.{T-of, of-T, of-not, both-r, keep-yes, keep-no, keep-all, keep-none, flat-e, Sorted, sorted-keep, sorted-flat-map, sorted-below}
+use Rattle.model.proofs.Lists.{T-of, of-T, of-not, both-r, both-true, keep-yes, keep-no, keep-all, keep-none, flat-e, Sorted, sorted-keep, sorted-flat-map, sorted-below}
 
 -- ---- the order of the search
 pub after-eq : (x : ℕ) (l m : List ℕ) → after (x ∷ l) (x ∷ m) ≡ after l m
@@ -131,10 +131,6 @@ cut-after a b h (x ∷ l) s = go (cut-after a b h l (s .1)) (after b x) refl
       where
         same-test : between x ≡ after a x
         same-test = ap (λ (c : Bool). both (after a x) (not c)) e ∙ both-true (after a x)
-          where
-            both-true : (c : Bool) → both c true ≡ c
-            both-true true = refl
-            both-true false = refl
 
         inner : (c : Bool) → after a x ≡ c → keep (after a) (x ∷ l) ≡ keep between (x ∷ l) ++ keep (after b) (x ∷ l)
         inner true f =

@@ -1,6 +1,7 @@
 -- Paper 02, #101: the answer from the nodes is what a run with room for m - 1 plans says; what it says of the complete list; its figures. Assumes nothing.
 use Rattle.model.specs.Kit.{_≡_, refl, sym, ap, ap₂, _∙_, subst, Bool, true, false, List, [], _∷_, ℕ, zero, suc, _-_, _*_, _≤_, _<_, mul-le-mul-right, not-suc-le-zero}
 use Rattle.model.specs.Kit.{le-of-suc-le-suc, arith, leb, ltb, length, take, take-all, leb-true, leb-false, ltb-true, ltb-false, le-leb, lt-leb}
+use native.Mathlib.Nat.{le-of-mul-le-mul-right}
 use Rattle.model.specs.{Lists.keep, ValueSets.least, Problem.Problem, Search.nodes, Search.isPlan, Run.Ending, Run.finished, Run.spent, Run.full, Run.plansIn, Run.nodesIn}
 use Rattle.model.specs.{Run.resultOf, Claims.plansAmong, Claims.CountsAt}
 use Rattle.run_enough.specs.AtLeast.{Enough, enough, tooFew, unknown, nodesTo, enoughOf, Enough-none, says, Enough-run, Enough-more}
@@ -157,14 +158,6 @@ module _ (p : Problem) where
 pub enough-none : Enough-none
 enough-none p limit = is-enough p limit 0 (omega arith) ∙ ap (enough 0) (to-at p 0 0 (omega arith) (omega arith) (λ j l. absurd (not-suc-le-zero l)))
 
--- n rows have room among m exactly if they are no more
-times-le : (a b n : ℕ) → 1 ≤ n → a * n ≤ b * n → a ≤ b
-times-le a b n h l = go (leb a b) refl
-  where
-    go : (c : Bool) → leb a b ≡ c → a ≤ b
-    go true e = leb-true a b e
-    go false e = absurd (let r : suc b * n ≤ a * n = mul-le-mul-right n (leb-false a b e) in omega arith)
-
 times-lt : (a b n : ℕ) → a * n < b * n → a < b
 times-lt a b n l = go (ltb a b) refl
   where
@@ -180,7 +173,7 @@ enough-run p limit m h = go (resultOf p limit room .ending) refl
 
     go : (x : Ending) → resultOf p limit room .ending ≡ x → enoughOf p limit (suc m) ≡ says x
     go x e = pick x (counts p limit room x e) (subst (λ (y : Ending). nodesIn y ≤ limit) e (nodes-allowed p limit room))
-        (times-le (plansIn x) m (p .variables) h (subst (λ (k : ℕ). k * p .variables ≤ room) (sym (rows-counted p limit room) ∙ ap plansIn e) (rows-fit p limit room)))
+        (le-of-mul-le-mul-right (subst (λ (k : ℕ). k * p .variables ≤ room) (sym (rows-counted p limit room) ∙ ap plansIn e) (rows-fit p limit room)) h)
       where
         pick : (x : Ending) → CountsAt p limit room x → nodesIn x ≤ limit → plansIn x ≤ m → enoughOf p limit (suc m) ≡ says x
         pick (finished plans made) c a f =

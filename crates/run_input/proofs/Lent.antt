@@ -3,13 +3,13 @@ use Rattle.model.specs.Kit.{_≡_, refl, ap, ap₂, _∙_, ⊎-elim, List, [], 
 use mathlib.Core.List.{List·Memᴰ·append-cases, Memᴰ·append-right}
 use Rattle.model.specs.{Problem.Problem, Problem.respects, Problem.withSymmetries, Verdict.Verdict, Verdict.accepted, Verdict.refused, Verdict.isAccepted, Sheet.verdictOf}
 use Rattle.model.specs.{Sheet.problemOf, WellFormed.WellFormed, WellFormed.GoodSymmetry, WellFormed.Respected, Run.Ending, Run.ended}
-use Rattle.model.proofs.{Accepted.Passed, Accepted.passed, Accepted.is-accepted, OneMore.one-more}
+use Rattle.model.proofs.{Accepted.Passed, Accepted.passed, Accepted.is-accepted, Asked.well-formed-with, Asked.respected-with, OneMore.one-more}
 use Rattle.order.specs.{Order.Ordering, Order.settlingOrder, Order.orderVerdict, Reordered.reordered, RunBy.Input, RunBy.sheetInput, RunBy.answerBy, RunBy.listBy, RunBy.talliedBy}
 use Rattle.order.specs.Claims.{OrderPassed}
 use Rattle.order.proofs.{Order.order-passed, Order.no-pairs, Order.no-pairs-asked, Demanded.Sound, Demanded.ran-by, Demanded.demanded, Demanded.fewer, Demanded.sheet-run}
 use Rattle.sheet.specs.Meaning.{andThen}
 use Rattle.block.specs.Block.{tablesLent, blockLent}
-use Rattle.block.proofs.{Tables.Passes, Tables.well-formed-with, Tables.respected-with, BlockLent.tables-pass, BlockLent.tables-other}
+use Rattle.block.proofs.{Tables.Passes, BlockLent.tables-pass, BlockLent.tables-other}
 use Rattle.run_input.specs.{Lent.verdictLent, Lent.problemWith, Lent.orderLent, Lent.lentInput, Lent.answerLent, LentClaims.Nothing-lent, LentClaims.Demanded-lent}
 use Rattle.run_input.specs.LentClaims.{Fewer-lent}
 

@@ -1,6 +1,7 @@
 -- Paths in bytes: the order of two paths by the first byte in which they differ, else by their lengths. Assumes nothing.
 use Rattle.model.specs.Kit.{_≡_, refl, sym, ap, ap₂, _∙_, subst, Bool, true, false, List, _∷_, ℕ, zero, suc, _+_, _≤_, _<_, arith, T, eqb, ltb, leb, length, eq-eqb, ne-eqb}
 use Rattle.model.specs.Kit.{eqb-true, eqb-false, lt-ltb, le-ltb, ltb-true, ltb-false, le-leb, lt-leb, leb-true}
+use native.Mathlib.Numerals.{lt-of-le-of-ne}
 use Rattle.model.specs.Lists.{all, at, below, both, either, choose, same, tabulate}
 use Rattle.model.proofs.Lists.{T-of, of-T, not-of, of-not, all-i, all-e, below-i, below-e, length-tabulate, at-tabulate, same-eq, same-refl, both-no-r, both-yes, both-second}
 use Rattle.run_cut.specs.Parts.{after}
@@ -128,14 +129,7 @@ order-differ a b x y r n d e f g = go (ltb x y) refl
 
     go : (c : Bool) → ltb x y ≡ c → r ≡ orderOf a b
     go true q = f (ltb-true x y q) ∙ sym (other ∙ ap (λ (z : Bool). choose z 1 2) (e ∙ q))
-    go false q = g (lt x y (ltb-false x y q) d) ∙ sym (other ∙ ap (λ (z : Bool). choose z 1 2) (e ∙ q))
-      where
-        lt : (u v : ℕ) → v ≤ u → (u ≡ v → ⊥) → v < u
-        lt u v h m = below (ltb v u) refl
-          where
-            below : (w : Bool) → ltb v u ≡ w → v < u
-            below true s = ltb-true v u s
-            below false s = absurd (m (let t = ltb-false v u s in omega arith))
+    go false q = g (lt-of-le-of-ne (ltb-false x y q) (λ s. d (sym s))) ∙ sym (other ∙ ap (λ (z : Bool). choose z 1 2) (e ∙ q))
 
 abbrev pub Compared : ℕ → ℕ → ℕ → Type 0
 Compared x y r = (x ≡ y → r ≡ 0) × (x < y → r ≡ 1) × (y < x → r ≡ 2)

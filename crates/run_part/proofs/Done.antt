@@ -1,10 +1,10 @@
 -- What a call of `run_part` holds (crate run_ranges). Assumes nothing.
-use Rattle.model.specs.Kit.{_≡_, refl, sym, ap, ap₂, _∙_, subst, Bool, true, false, _⊎_, inl, inr, List, [], _∷_, map, List·Memᴰ, ℕ, zero, suc, _+_, _-_, _*_, _/_, _^_, _≤_, _<_}
+use Rattle.model.specs.Kit.{_≡_, refl, sym, ap, ap₂, _∙_, subst, Bool, true, false, _⊎_, inl, inr, List, [], map, List·Memᴰ, ℕ, suc, _+_, _-_, _*_, _/_, _^_, _≤_, _<_}
 use Rattle.model.specs.Kit.{arith, eqb, length, take, eqb-true, eqb-false}
 use native.Mathlib.Nat.{sub-zero}
 use Rattle.model.specs.{Lists.at, Lists.choose, Lists.keep, Lists.flat, Problem.Problem, Search.nodes, Verdict.Verdict, Verdict.accepted, Verdict.reply, Sheet.problemOf}
 use Rattle.model.specs.Run.{Ending, finished, spent, full, plansIn, nodesIn, Result, search, Answer, refusal, ended, written, Tally, settledBy, countsBy}
-use Rattle.model.proofs.{Lists.keep-e, Accepted.is-accepted}
+use Rattle.model.proofs.{Lists.keep-e, Lists.length-none, Accepted.is-accepted}
 use Rattle.order.specs.Reordered.{write}
 use Rattle.run_cut.specs.Parts.{nodesBetween, lastOf}
 use Rattle.run_cut.proofs.{Resume.dead-below, Resume.last-in, Resume.taken, Resume.node-values, Counts.counts-none}
@@ -17,6 +17,7 @@ use Rattle.run_task.specs.inner.Task.{roomFor}
 use Rattle.run_search.specs.inner.Prepared.{Prepared}
 use Rattle.run_search.proofs.Prepared.{room-fits, room-most}
 use Rattle.run.specs.{Meaning.means, inner.Whole.Stopped, inner.Whole.Answered}
+use Rattle.run.proofs.Whole.{nothing-of}
 use Rattle.run_ranges.specs.{Ranges.resultPart, Ranges.answerPart, Ranges.listPart, Ranges.nodesSaid, Ranges.tallyPart, Ranges.lastPart, Claims.Call, inner.Within.within}
 use Rattle.run_ranges.proofs.Within.{within-whole}
 use Rattle.run_part.specs.inner.Steps.{AtBelow, Valued, Parted}
@@ -80,22 +81,14 @@ kept-so : (p : Problem) (order : List ℕ) (limit : ℕ) (list : List ℕ) (ts :
 unfolding written flat
 kept-so p order limit list ts some = go (eqb (length list) 0) refl
   where
-    nothing-of : (k : ℕ) → k * p .variables ≤ 0 → k ≡ 0
-    nothing-of zero l = refl
-    nothing-of (suc k) l = absurd (omega arith)
-
-    none-of : {A : Type 0} (l : List A) → length l ≡ 0 → l ≡ []
-    none-of [] e = refl
-    none-of (y ∷ l) e = absurd (omega arith)
-
     go : (c : Bool) → eqb (length list) 0 ≡ c → kept (map (write order) (search p limit (length list) ts 0 [] .rows)) list ≡ written
         (map (write order) (search p limit (length list) ts 0 [] .rows)) list
     go true e =
         let z = eqb-true (length list) 0 e in
         let f : length (search p limit (length list) ts 0 [] .rows) * p .variables ≤ length list = R.walk p limit (length list) ts 0 [] .roomy (omega arith) in
         kept-none (map (write order) (search p limit (length list) ts 0 [] .rows)) list z
-        ∙ sym (ap (λ (rows : List (List ℕ)). written (map (write order) rows) list) (none-of (search p limit (length list) ts 0 [] .rows)
-        (nothing-of (length (search p limit (length list) ts 0 [] .rows)) (omega arith))))
+        ∙ sym (ap (λ (rows : List (List ℕ)). written (map (write order) rows) list) (length-none (search p limit (length list) ts 0 [] .rows)
+        (nothing-of (p .variables) (length (search p limit (length list) ts 0 [] .rows)) some (omega arith))))
     go false e = kept-over (map (write order) (search p limit (length list) ts 0 [] .rows)) list (eqb-false (length list) 0 e)
 
 module _ (task b pairs block from upto : List ℕ) (limit : ℕ) (list : List ℕ) (listing : at task WANTED ≡ 0)

@@ -3,7 +3,7 @@ use Rattle.model.specs.Kit.{_≡_, refl, sym, ap, ap₂, _∙_, subst, Bool, tr
 use Rattle.model.specs.Kit.{suc, _≤_, _<_, arith, T, eqb, ltb, length, take, drop, length-append, take-append-drop, le-ltb}
 use lib.Seq.{take-append-seam}
 use Rattle.model.specs.{Lists.both, Lists.keep, Lists.at, Problem.Problem, Search.nodes}
-use Rattle.model.proofs.Lists.{T-of, of-T, not-of, of-not, both-i, both-l, both-r, keep-yes, keep-no, keep-ext, keep-none, keep-e, Sorted, sorted-keep, T-ext}
+use Rattle.model.proofs.Lists.{T-of, of-T, not-of, of-not, both-i, both-l, both-r, both-true, keep-yes, keep-no, keep-ext, keep-none, keep-e, Sorted, sorted-keep, T-ext}
 use Rattle.run_cut.specs.Parts.{after, nodesAfter, nodesBetween, lastOf}
 use Rattle.run_cut.proofs.{Parts.after-trans, Parts.after-later, Parts.after-ne, Parts.nil-after, Parts.Later, Parts.nodes-ascend, Parts.nodes-start, Resume.node-values}
 use Rattle.run_cut.proofs.Resume.{last-in, taken, after-lasts}
@@ -119,10 +119,6 @@ module _ (p : Problem) where
       low : (t : List ℕ) → ((i : ℕ) → i < length t → at t i < 16) → after (255 ∷ []) t ≡ false
       low [] h = nil-after (255 ∷ [])
       low (v ∷ t) h = let l = h 0 (omega arith) in after-ne 255 v [] t (λ e. omega arith) ∙ le-ltb 255 v (omega arith)
-
-      both-true : (c : Bool) → both c true ≡ c
-      both-true true = refl
-      both-true false = refl
 
   pub whole-between : nodesBetween p [] (255 ∷ []) ≡ nodes p
   whole-between = rest-between [] ∙ nodes-start p

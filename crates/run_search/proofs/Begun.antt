@@ -3,7 +3,7 @@
 use Rattle.model.specs.Kit.{_≡_, refl, sym, ap, _∙_, subst, subst₂, Bool, true, false, inl, List, [], ℕ, suc, _+_, _/_, _%_, _^_, _≤_, _<_, arith, T, not-true, not-false, length}
 use Rattle.model.specs.Kit.{set, take, length-set, length-take-le, take-all}
 use Rattle.model.specs.{Lists.at, Lists.below, ValueSets.has, Problem.Problem, Problem.withSymmetries, Search.isLive, Search.setsAt}
-use Rattle.model.proofs.{Lists.T-of, Lists.of-not, Lists.at-set, Lists.at-set-other, Lists.at-ext, Lists.at-take, Sets.has-none}
+use Rattle.model.proofs.{Lists.T-of, Lists.at-set, Lists.at-set-other, Lists.at-ext, Lists.at-take, Members.has-0}
 use Rattle.order.specs.Order.{Ordering}
 use Rattle.order.proofs.LeadersBy.{ordering-below, below-at}
 use Rattle.block.specs.BlockSets.{BlockIn}
@@ -52,16 +52,13 @@ laid-alone p numbers supports images bytes c f long placed = record {
   ordering = ordering-below (p .variables);
   own-is = ap (withSymmetries p) (take-all (length (p .symmetries)) (p .symmetries) (omega arith));
   block = record {
-    equal = λ x y l m t u. absurd (none x t);
+    equal = λ x y l m t u. absurd (has-0 x t);
     own = λ g m. m;
     each = λ g m. inl m;
-    trade = λ x y l m o t u. absurd (none x t);
+    trade = λ x y l m o t u. absurd (has-0 x t);
   };
-  block-few = λ x t. absurd (none x t);
+  block-few = λ x t. absurd (has-0 x t);
 }
-  where
-    none : (x : ℕ) → T (has 0 x) → ⊥
-    none x = of-not (has 0 x) (has-none x)
 
 -- the search's tables are made
 module _ (p own : Problem) (order numbers supports images bytes : List ℕ) (positions : ℕ) (h : Laid p own order numbers supports images bytes positions) where
