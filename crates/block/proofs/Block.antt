@@ -3,10 +3,10 @@ use Rattle.model.specs.Kit.{_≡_, sym, ap, ap₂, _∙_, subst, Bool, false, L
 use Rattle.model.specs.Kit.{_-_, _*_, _≤_, _<_, arith, ℕ-discrete, decLt, T, leb, ltb, leb→le, ltb→lt, length, le-leb, lt-ltb}
 use Rattle.model.specs.{Lists.both, Lists.upFrom, Lists.below, Lists.at, ValueSets.has, Problem.Problem, Problem.pair, Problem.respects, Verdict.Verdict, Verdict.accepted}
 use Rattle.model.specs.{Verdict.refused, Verdict.ask, Verdict.isAccepted, Sheet.permutesPairs, Sheet.symmetriesVerdict, WellFormed.WellFormed, WellFormed.GoodSymmetry}
-use Rattle.block.specs.Block.{ordering, factorial, andThen, inBlock, imageOf, orderingTable, blockTables, withBlock, isBlock, blockVerdict, TradePasses}
+use Rattle.block.specs.Block.{ordering, factorial, composed, inBlock, imageOf, orderingTable, blockTables, withBlock, isBlock, blockVerdict, TradePasses}
 use Rattle.model.proofs.{Asked.symmetries-i, Asked.symmetries-first, Lists.both-l, Lists.both-r, Lists.T-of, Lists.of-T, Lists.not-of, Lists.T-ext, Lists.map-append, Lists.below-i}
 use Rattle.model.proofs.{Lists.below-e, Lists.upFrom-add, Lists.length-below, Sets.mask-ext, Accepted.asked, Accepted.symmetries-e}
-use Rattle.block.proofs.Orderings.{Few, factorial-up, Moves, moves, moves-small, moves-high, at-andThen, product-row, generated, trade-at, row-zero}
+use Rattle.block.proofs.Orderings.{Few, factorial-up, Moves, moves, moves-small, moves-high, at-composed, product-row, generated, trade-at, row-zero}
 use Rattle.block.proofs.Tables as B
 
 -- ---- where an ordering takes a variable
@@ -47,18 +47,18 @@ module _ (first m : ℕ) (few : Few m) where
       let high : at e c < 5 = moves-small m e o c (omega arith) in
       (at e c - (5 - m), omega arith, image-at e i h ∙ omega arith, omega arith)
 
-  pub image-andThen : (e f : List ℕ) → Moves m e → Moves m f → (x : ℕ) → imageOf first m f (imageOf first m e x) ≡ imageOf first m (andThen e f) x
-  image-andThen e f o u x = go (which x)
+  pub image-composed : (e f : List ℕ) → Moves m e → Moves m f → (x : ℕ) → imageOf first m f (imageOf first m e x) ≡ imageOf first m (composed e f) x
+  image-composed e f o u x = go (which x)
     where
-      go : ((i : ℕ) × (i < m) × (x ≡ first + i)) ⊎ ((x < first) ⊎ (first + m ≤ x)) → imageOf first m f (imageOf first m e x) ≡ imageOf first m (andThen e f) x
+      go : ((i : ℕ) × (i < m) × (x ≡ first + i)) ⊎ ((x < first) ⊎ (first + m ≤ x)) → imageOf first m f (imageOf first m e x) ≡ imageOf first m (composed e f) x
       go (inl (i, h, q)) =
           let l2 = few .0 in
           let l5 = few .1 in
           let b = image-block e o i h in
           let c : 5 - m + i < length e = omega (arith, o .ordered .sized) in
           ap (λ (y : ℕ). imageOf first m f (imageOf first m e y)) q ∙ ap (imageOf first m f) (b .2) ∙ image-at f (b .0) (b .1)
-          ∙ ap (λ (n : ℕ). first + n - (5 - m)) (ap (at f) (b .3) ∙ sym (at-andThen e f (5 - m + i) c)) ∙ sym (ap (imageOf first m (andThen e f)) q ∙ image-at (andThen e f) i h)
-      go (inr h) = ap (imageOf first m f) (image-outside e x h) ∙ image-outside f x h ∙ sym (image-outside (andThen e f) x h)
+          ∙ ap (λ (n : ℕ). first + n - (5 - m)) (ap (at f) (b .3) ∙ sym (at-composed e f (5 - m + i) c)) ∙ sym (ap (imageOf first m (composed e f)) q ∙ image-at (composed e f) i h)
+      go (inr h) = ap (imageOf first m f) (image-outside e x h) ∙ image-outside f x h ∙ sym (image-outside (composed e f) x h)
 
   -- no two variables go to one
   pub image-injective : (e : List ℕ) → Moves m e → (x y : ℕ) → imageOf first m e x ≡ imageOf first m e y → x ≡ y
@@ -118,12 +118,12 @@ module _ (p : Problem) (w : WellFormed p) (first m : ℕ) (few : Few m) (inside 
   length-table row = B.length-variableTable p w (imageOf first m (ordering row))
 
   -- the table of a product of orderings is the product of their tables
-  pub table-andThen : (r s t : ℕ) → r < factorial m → s < factorial m → ordering t ≡ andThen (ordering r) (ordering s) → T (permutesPairs p (table r)) → andThen (table r) (table s) ≡ table t
+  pub table-composed : (r s t : ℕ) → r < factorial m → s < factorial m → ordering t ≡ composed (ordering r) (ordering s) → T (permutesPairs p (table r)) → composed (table r) (table s) ≡ table t
   unfolding orderingTable
-  table-andThen r s t h k e o =
-      B.variableTable-andThen p w (imageOf first m (ordering r)) o (imageOf first m (ordering s))
+  table-composed r s t h k e o =
+      B.variableTable-composed p w (imageOf first m (ordering r)) o (imageOf first m (ordering s))
       ∙ B.variableTable-ext p w (λ x. imageOf first m (ordering s) (imageOf first m (ordering r) x)) (imageOf first m (ordering t))
-      (λ x l. image-andThen first m few (ordering r) (ordering s) (moves m r few h) (moves m s few k) x ∙ ap (λ (f : List ℕ). imageOf first m f x) (sym e))
+      (λ x l. image-composed first m few (ordering r) (ordering s) (moves m r few h) (moves m s few k) x ∙ ap (λ (f : List ℕ). imageOf first m f x) (sym e))
 
   -- row 0 passes both questions
   pub zero-passes : B.Passes p (table 0)
@@ -145,8 +145,8 @@ module _ (p : Problem) (w : WellFormed p) (first m : ℕ) (few : Few m) (inside 
       let less : s < suc row = g .5 in
       let big : s < factorial m = omega arith in
       let a = trades k (g .2) (g .3) low in
-      subst (B.Passes p) (table-andThen (factorial k) s (suc row) (omega arith) big (g .6) (a .good .permutes))
-      (B.passes-andThen p w (table (factorial k)) (table s) a (passes-row n s (omega arith) big (λ j i u v. trades j i u (omega arith))))
+      subst (B.Passes p) (table-composed (factorial k) s (suc row) (omega arith) big (g .6) (a .good .permutes))
+      (B.passes-composed p w (table (factorial k)) (table s) a (passes-row n s (omega arith) big (λ j i u v. trades j i u (omega arith))))
 
   trade-passes : (k : ℕ) → TradePasses p first m k → B.Passes p (table (factorial k))
   trade-passes k t = record { good = good-row (factorial k) (t .0); respectful = t .1 }
@@ -208,7 +208,7 @@ module _ (p : Problem) (w : WellFormed p) (first m : ℕ) (few : Few m) (inside 
 
   -- ---- two of a block's tables, one after the other, are one of them
   pub block-closed : ((row : ℕ) → row < factorial m → T (permutesPairs p (table row))) → (g h : List ℕ) → List·Memᴰ g (blockTables p first m) → List·Memᴰ h (blockTables p first m) → List·Memᴰ
-      (andThen g h) (blockTables p first m)
+      (composed g h) (blockTables p first m)
   unfolding blockTables
   block-closed o g h i j =
       let a = Memᴰ·of-map table (below (factorial m)) i in
@@ -216,7 +216,7 @@ module _ (p : Problem) (w : WellFormed p) (first m : ℕ) (few : Few m) (inside 
       let l = below-e (factorial m) (a .0) (a .1) in
       let k = below-e (factorial m) (b .0) (b .1) in
       let t = product-row m (a .0) (b .0) few l k in
-      Memᴰ·cast (ap₂ andThen (sym (a .2)) (sym (b .2)) ∙ table-andThen (a .0) (b .0) (t .0) l k (t .2) (o (a .0) l)) (Memᴰ·map table (below-i (factorial m) (t .0) (t .1)))
+      Memᴰ·cast (ap₂ composed (sym (a .2)) (sym (b .2)) ∙ table-composed (a .0) (b .0) (t .0) l k (t .2) (o (a .0) l)) (Memᴰ·map table (below-i (factorial m) (t .0) (t .1)))
 
 -- ---- the questions
 -- what the block's questions show
@@ -322,7 +322,7 @@ module _ (p : Problem) (w : WellFormed p) (first m : ℕ) where
       let only : p .symmetries ++ blockTables p first m ≡ blockTables p first m = ap (λ (l : List (List ℕ)). l ++ blockTables p first m) none in
       let i′ = subst (List·Memᴰ g) only i in
       let n : length g ≡ p .variables * p .values = row-passes e g i′ .good .sized in (
-        andThen g h,
-        subst (List·Memᴰ (andThen g h)) (sym only) (block-closed p w first m (b .few) (b .inside) (λ row l. b .rows row l .good .permutes) g h i′ (subst (List·Memᴰ h) only j)),
-        λ q l. sym (at-andThen g h q (subst (λ (k : ℕ). q < k) (sym n) l)),
+        composed g h,
+        subst (List·Memᴰ (composed g h)) (sym only) (block-closed p w first m (b .few) (b .inside) (λ row l. b .rows row l .good .permutes) g h i′ (subst (List·Memᴰ h) only j)),
+        λ q l. sym (at-composed g h q (subst (λ (k : ℕ). q < k) (sym n) l)),
       )

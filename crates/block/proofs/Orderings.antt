@@ -6,7 +6,7 @@ use lib.ListN.{getD-replicate}
 use Rattle.model.specs.Lists.{both, either, all, any, keep, flat, upFrom, below, at, same, earlier, rowsAscend}
 use Rattle.model.specs.{ValueSets.has, ValueSets.maskBelow, ValueSets.fullMask, ValueSets.members, Problem.assignments, Sheet.distinct}
 use Rattle.order.specs.Order.{Ordering}
-use Rattle.block.specs.Block.{orderings, ordering, factorial, andThen}
+use Rattle.block.specs.Block.{orderings, ordering, factorial, composed}
 use Rattle.model.proofs.Lists.{both-l, both-r, either-e, all-e, any-e, keep-i, keep-e, T-of, of-T, upFrom-i, upFrom-e, same-eq, same-refl, at-ext, at-take, at-map, at-set}
 use Rattle.model.proofs.{Lists.at-set-other, Lists.mem-at, Lists.at-mem, Lists.mem-getD, Lists.place-of, Lists.Sorted, Lists.sorted-keep, Lists.rowsAscend-of, Counting.distinct-at}
 use Rattle.model.proofs.{Counting.onto, Sets.has-lt, Sets.mask-i, Sets.members-i, Assignments.assign-i, Assignments.drawn-e, Assignments.assignments-sorted}
@@ -104,14 +104,14 @@ prefixTest row e = all (λ m. alike (stays (5 - m) e) (ltb row (factorial m))) (
 
 -- a row other than the first is row k!, and then an earlier row
 tradeTest : ℕ → List ℕ → Bool
-tradeTest row e = either (eqb row 0) (any (λ k. both (leb (factorial k) row) (any (λ f. same e (andThen (ordering (factorial k)) f)) (take row orderings))) (upFrom 1 4))
+tradeTest row e = either (eqb row 0) (any (λ k. both (leb (factorial k) row) (any (λ f. same e (composed (ordering (factorial k)) f)) (take row orderings))) (upFrom 1 4))
 
 -- 4 - k and 5 - k change places
 pub trade : ℕ → List ℕ
 trade k = set (set (below 5) (4 - k) (5 - k)) (5 - k) (4 - k)
 
 opened : ℕ
-unfolding all any keep flat upFrom below at same has maskBelow members assignments distinct orderings ordering factorial andThen stays alike prefixTest tradeTest trade
+unfolding all any keep flat upFrom below at same has maskBelow members assignments distinct orderings ordering factorial composed stays alike prefixTest tradeTest trade
 opened = 0
 
 pub count : length orderings ≡ 120
@@ -246,35 +246,35 @@ moves-high m e o i l h = go (decLt (at e i) (5 - m))
     go (no q) = omega arith
 
 -- ---- one after the other
-pub at-andThen : (g h : List ℕ) (i : ℕ) → i < length g → at (andThen g h) i ≡ at h (at g i)
-unfolding andThen
-at-andThen g h i l = at-map (at h) g i l
+pub at-composed : (g h : List ℕ) (i : ℕ) → i < length g → at (composed g h) i ≡ at h (at g i)
+unfolding composed
+at-composed g h i l = at-map (at h) g i l
 
-pub length-andThen : (g h : List ℕ) → length (andThen g h) ≡ length g
-unfolding andThen
-length-andThen g h = length-map g (at h)
+pub length-composed : (g h : List ℕ) → length (composed g h) ≡ length g
+unfolding composed
+length-composed g h = length-map g (at h)
 
-pub ordering-andThen : (n : ℕ) (e f : List ℕ) → Ordering n e → Ordering n f → Ordering n (andThen e f)
-ordering-andThen n e f o u =
-    let sized : length (andThen e f) ≡ n = length-andThen e f ∙ o .sized in
-    let step : (i : ℕ) → i < n → at (andThen e f) i ≡ at f (at e i) = λ i h. at-andThen e f i (omega (arith, o .sized)) in
+pub ordering-composed : (n : ℕ) (e f : List ℕ) → Ordering n e → Ordering n f → Ordering n (composed e f)
+ordering-composed n e f o u =
+    let sized : length (composed e f) ≡ n = length-composed e f ∙ o .sized in
+    let step : (i : ℕ) → i < n → at (composed e f) i ≡ at f (at e i) = λ i h. at-composed e f i (omega (arith, o .sized)) in
     let small : (i : ℕ) → i < n → at e i < n = small-at n e o in
-    ordering-of n (andThen e f) sized
-    (λ x k. let q = at-mem (andThen e f) x k in
+    ordering-of n (composed e f) sized
+    (λ x k. let q = at-mem (composed e f) x k in
     let h : q .0 < n = omega (arith, q .1, sized) in
     subst (λ (y : ℕ). y < n) (sym (step (q .0) h) ∙ q .2) (small-at n f u (at e (q .0)) (small (q .0) h)))
-    (apart-distinct (andThen e f) (λ i j h k q. let a : i < n = omega (arith, sized) in let b : j < n = omega (arith, sized) in o .once i j a b
+    (apart-distinct (composed e f) (λ i j h k q. let a : i < n = omega (arith, sized) in let b : j < n = omega (arith, sized) in o .once i j a b
     (u .once (at e i) (at e j) (small i a) (small j b) (sym (step i a) ∙ q ∙ step j b))))
 
-pub moves-andThen : (m : ℕ) (e f : List ℕ) → Moves m e → Moves m f → Moves m (andThen e f)
-moves-andThen m e f o u = record {
-  ordered = ordering-andThen 5 e f (o .ordered) (u .ordered);
-  still = λ i h. at-andThen e f i (omega (arith, o .ordered .sized)) ∙ ap (at f) (o .still i h) ∙ u .still i h;
+pub moves-composed : (m : ℕ) (e f : List ℕ) → Moves m e → Moves m f → Moves m (composed e f)
+moves-composed m e f o u = record {
+  ordered = ordering-composed 5 e f (o .ordered) (u .ordered);
+  still = λ i h. at-composed e f i (omega (arith, o .ordered .sized)) ∙ ap (at f) (o .still i h) ∙ u .still i h;
 }
 
 -- two of the first m! rows, one after the other, are one of them
-pub product-row : (m r s : ℕ) → Few m → r < factorial m → s < factorial m → (t : ℕ) × (t < factorial m) × (ordering t ≡ andThen (ordering r) (ordering s))
-product-row m r s f h k = moves-row m (andThen (ordering r) (ordering s)) f (moves-andThen m (ordering r) (ordering s) (moves m r f h) (moves m s f k))
+pub product-row : (m r s : ℕ) → Few m → r < factorial m → s < factorial m → (t : ℕ) × (t < factorial m) × (ordering t ≡ composed (ordering r) (ordering s))
+product-row m r s f h k = moves-row m (composed (ordering r) (ordering s)) f (moves-composed m (ordering r) (ordering s) (moves m r f h) (moves m s f k))
 
 -- ---- trades of neighbours
 -- row k! trades 4 - k and 5 - k
@@ -293,21 +293,21 @@ trade-at k l h =
 
 -- each of the first m! rows but row 0 is such a trade of the last m numbers, and then an earlier row
 pub generated : (m row : ℕ) → Few m → 1 ≤ row → row < factorial m → (k : ℕ) × (s : ℕ) × (1 ≤ k) × (k < m) × (factorial k ≤ row) × (s < row) ×
-    (ordering row ≡ andThen (ordering (factorial k)) (ordering s))
+    (ordering row ≡ composed (ordering (factorial k)) (ordering s))
 unfolding tradeTest ordering
 generated m row f l h =
     let big : row < 120 = omega (arith, factorial-le m f) in
     let e = ordering row in
-    let byTrade : ℕ → Bool = λ k. both (leb (factorial k) row) (any (λ f. same e (andThen (ordering (factorial k)) f)) (take row orderings)) in
+    let byTrade : ℕ → Bool = λ k. both (leb (factorial k) row) (any (λ f. same e (composed (ordering (factorial k)) f)) (take row orderings)) in
     ⊎-elim (λ t. absurd (let q : row ≡ 0 = eqb→eq row 0 t in omega arith))
     (λ t.
     let a = any-e byTrade (upFrom 1 4) t in
     let k = a .0 in
     let i = upFrom-e 1 4 k (a .1) in
     let low = leb→le (factorial k) row (both-l (leb (factorial k) row) _ (a .2)) in
-    let b = any-e (λ f. same e (andThen (ordering (factorial k)) f)) (take row orderings) (both-r (leb (factorial k) row) _ (a .2)) in
+    let b = any-e (λ f. same e (composed (ordering (factorial k)) f)) (take row orderings) (both-r (leb (factorial k) row) _ (a .2)) in
     let c = place-of (take row orderings) (b .0) [] (b .1) in
     let s = c .0 in
     let z : s < row = subst (λ (n : ℕ). s < n) (length-take-le row orderings (omega (arith, count))) (c .1) in
-    (k, s, i .0, factorial-less m k row f (a .1) low h, low, z, same-eq e _ (b .2) ∙ ap (andThen (ordering (factorial k))) (sym (c .2) ∙ getD-take row orderings s [] z)))
+    (k, s, i .0, factorial-less m k row f (a .1) low h, low, z, same-eq e _ (b .2) ∙ ap (composed (ordering (factorial k))) (sym (c .2) ∙ getD-take row orderings s [] z)))
     (either-e (eqb row 0) (any byTrade (upFrom 1 4)) (both-r (prefixTest row e) (tradeTest row e) (tested-at row big)))

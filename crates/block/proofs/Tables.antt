@@ -3,13 +3,13 @@ use Rattle.model.specs.Kit.{_≡_, refl, sym, ap, ap₂, _∙_, subst, Bool, tr
 use Rattle.model.specs.Kit.{List·Memᴰ·cases-cons, Memᴰ·cast, Memᴰ·map, Memᴰ·of-map, _⊎_, inl, inr, ⊎-elim, ℕ, suc, _*_, _/_, _%_, _<_, arith, T, eqb, eqb-refl, length}
 use mathlib.Core.List.{List·Memᴰ·eq-of-singleton}
 use Rattle.model.specs.{Lists.all, Lists.any, Lists.below, Lists.at, ValueSets.has, Problem.Problem, Problem.Constraint, Problem.pair, Problem.isPair, Problem.pairsAt}
-use Rattle.model.specs.{Problem.within, Problem.doubled, Problem.excluded, Problem.forbidden, Problem.respects, Problem.withSymmetries, Sheet.distinct, Sheet.permutesPairs}
-use Rattle.model.specs.{Claims.Drawn, WellFormed.WellFormed, WellFormed.GoodSymmetry, WellFormed.Respected}
-use Rattle.block.specs.Block.{andThen, variableTable}
+use Rattle.model.specs.{Problem.within, Problem.doubled, Problem.excluded, Problem.forbidden, Problem.respects, Sheet.distinct, Sheet.permutesPairs}
+use Rattle.model.specs.{Claims.Drawn, WellFormed.WellFormed, WellFormed.GoodSymmetry}
+use Rattle.block.specs.Block.{composed, variableTable}
 use Rattle.model.proofs.Lists.{both-i, T-dec, of-T, not-of, all-i, any-i, below-e, length-below, at-below, at-ext}
-use Rattle.model.proofs.{Assignments.drawn-e, Asked.good-other, Asked.respects-other}
+use Rattle.model.proofs.Assignments.{drawn-e}
 use Rattle.order.proofs.Reordered.{apart-distinct}
-use Rattle.block.proofs.Orderings.{at-andThen, length-andThen}
+use Rattle.block.proofs.Orderings.{at-composed, length-composed}
 use Rattle.model.proofs.Pairs as P
 use Rattle.model.proofs.Symmetry as S
 
@@ -20,25 +20,6 @@ choose-yes false x y e = absurd (subst T (sym e) tt)
 pub choose-no : {A : Type 0} (b : Bool) (x y : A) → b ≡ false → elim b [ true ↦ x | false ↦ y ] ≡ y
 choose-no true x y e = absurd (subst T e tt)
 choose-no false x y e = refl
-
--- ---- other symmetries
-module _ (p : Problem) (gs : List (List ℕ)) where
-  -- so the problem with other symmetries is as good as these are
-  pub well-formed-with : WellFormed p → ((g : List ℕ) → List·Memᴰ g gs → GoodSymmetry p g) → WellFormed (withSymmetries p gs)
-  well-formed-with w h = record {
-    some = w .some;
-    few = w .few;
-    one = w .one;
-    sixteen = w .sixteen;
-    sized = w .sized;
-    nonempty = w .nonempty;
-    narrow = w .narrow;
-    constrained = λ c i. (let g = w .constrained c i in record { some = g .some; few = g .few; inside = g .inside; ordered = g .ordered; sized = g .sized; valued = g .valued });
-    symmetric = λ g i. good-other p gs g (h g i);
-  }
-
-  pub respected-with : ((g : List ℕ) → List·Memᴰ g gs → T (respects p g)) → Respected (withSymmetries p gs)
-  respected-with h = record { respectful = λ g i. respects-other p gs g (h g i) }
 
 -- a table that passes questions 15 and 16
 pub record Passes (p : Problem) (g : List ℕ) : Type 0 where
@@ -107,15 +88,15 @@ module _ (p : Problem) where
 
     -- ---- one after the other
     module _ (g h : List ℕ) (a : GoodSymmetry p g) where
-      step : (q : ℕ) → q < size → at (andThen g h) q ≡ at h (at g q)
-      step q l = at-andThen g h q (subst (λ (k : ℕ). q < k) (sym (a .sized)) l)
+      step : (q : ℕ) → q < size → at (composed g h) q ≡ at h (at g q)
+      step q l = at-composed g h q (subst (λ (k : ℕ). q < k) (sym (a .sized)) l)
 
-      pub good-andThen : GoodSymmetry p h → GoodSymmetry p (andThen g h)
-      good-andThen b =
-          let sized : length (andThen g h) ≡ size = length-andThen g h ∙ a .sized in
+      pub good-composed : GoodSymmetry p h → GoodSymmetry p (composed g h)
+      good-composed b =
+          let sized : length (composed g h) ≡ size = length-composed g h ∙ a .sized in
           record {
             sized = sized;
-            permutes = permutes-i (andThen g h) sized record {
+            permutes = permutes-i (composed g h) sized record {
               pairs = λ q i. subst (λ (r : ℕ). T (isPair p r)) (sym (step q (P.isPair-lt p w q i))) (S.to-pair p w h b (at g q) (S.to-pair p w g a q i));
               others = λ q l i. step q l ∙ ap (at h) (S.to-self p w g a q l i) ∙ S.to-self p w h b q l i;
               different = λ i j k l e.
@@ -123,9 +104,9 @@ module _ (p : Problem) where
             };
           }
 
-      respects-andThen : T (respects p g) → GoodSymmetry p h → T (respects p h) → T (respects p (andThen g h))
-      respects-andThen s b t =
-          respects-i (andThen g h)
+      respects-composed : T (respects p g) → GoodSymmetry p h → T (respects p h) → T (respects p (composed g h))
+      respects-composed s b t =
+          respects-i (composed g h)
           (λ f m.
           let c = S.respected p w g a s f m in
           let d = S.respected p w h b t (c .0) (c .1) in (
@@ -137,8 +118,8 @@ module _ (p : Problem) where
                 (x .0, x .1, step (x .0) (P.isPair-lt p w (x .0) (forbidden-pair f m (x .0) (x .1))) ∙ ap (at h) (x .2) ∙ y .2),
           ))
 
-    pub passes-andThen : (g h : List ℕ) → Passes p g → Passes p h → Passes p (andThen g h)
-    passes-andThen g h a b = record { good = good-andThen g h (a .good) (b .good); respectful = respects-andThen g h (a .good) (a .respectful) (b .good) (b .respectful) }
+    pub passes-composed : (g h : List ℕ) → Passes p g → Passes p h → Passes p (composed g h)
+    passes-composed g h a b = record { good = good-composed g h (a .good) (b .good); respectful = respects-composed g h (a .good) (a .respectful) (b .good) (b .respectful) }
 
     -- a table that moves nothing
     pub passes-still : (g : List ℕ) → length g ≡ size → ((q : ℕ) → q < size → at g q ≡ q) → Passes p g
@@ -209,14 +190,14 @@ module _ (p : Problem) where
           subst T (ap₂ (λ (y u : ℕ). has (at (p .initial) y) u) (P.pair-div p w (f x) v l) (P.pair-mod p w (f x) v l)) (P.isPair-has p w (pair p (f x) v) k)
 
       -- the table of f and then that of g is the table of f and then g
-      pub variableTable-andThen : (g : ℕ → ℕ) → andThen (variableTable p f) (variableTable p g) ≡ variableTable p (λ x. g (f x))
-      variableTable-andThen g =
-          at-ext (andThen (variableTable p f) (variableTable p g)) (variableTable p (λ x. g (f x))) (n ∙ sym (length-variableTable (λ x. g (f x))))
+      pub variableTable-composed : (g : ℕ → ℕ) → composed (variableTable p f) (variableTable p g) ≡ variableTable p (λ x. g (f x))
+      variableTable-composed g =
+          at-ext (composed (variableTable p f) (variableTable p g)) (variableTable p (λ x. g (f x))) (n ∙ sym (length-variableTable (λ x. g (f x))))
           (λ q h. let l : q < size = subst (λ (k : ℕ). q < k) n h in
-          at-andThen (variableTable p f) (variableTable p g) q (subst (λ (k : ℕ). q < k) (sym (length-variableTable f)) l) ∙ each q l (T-dec (isPair p q)))
+          at-composed (variableTable p f) (variableTable p g) q (subst (λ (k : ℕ). q < k) (sym (length-variableTable f)) l) ∙ each q l (T-dec (isPair p q)))
         where
-          n : length (andThen (variableTable p f) (variableTable p g)) ≡ size
-          n = length-andThen (variableTable p f) (variableTable p g) ∙ length-variableTable f
+          n : length (composed (variableTable p f) (variableTable p g)) ≡ size
+          n = length-composed (variableTable p f) (variableTable p g) ∙ length-variableTable f
 
           each : (q : ℕ) → q < size → T (isPair p q) ⊎ (T (isPair p q) → ⊥) → at (variableTable p g) (at (variableTable p f) q) ≡ at (variableTable p (λ x. g (f x))) q
           each q h (inl t) =

@@ -18,8 +18,8 @@ factorial (suc m) = suc m * factorial m
 
 -- ---- tables
 -- first g, then h, as one table; of orderings too
-unfoldable pub andThen : List ℕ → List ℕ → List ℕ
-andThen g h = map (at h) g
+unfoldable pub composed : List ℕ → List ℕ → List ℕ
+composed g h = map (at h) g
 
 -- the table that takes each pair (x, v) to (f x, v); other numbers stay put
 unfoldable pub variableTable : Problem → (ℕ → ℕ) → List ℕ
