@@ -5,7 +5,7 @@ use mathlib.Core.Path.{fun-ext}
 use lib.Seq.{set-out}
 use Rattle.model.specs.{Lists.both, Lists.either, Lists.choose, Lists.at, Verdict.Verdict, Verdict.accepted, Verdict.refused, Verdict.ask, Verdict.isAccepted, Written.placed}
 use Rattle.model.proofs.{Lists.of-T, Lists.at-replicate, Lists.set-each, Written.length-placed, Written.placed-before, Written.placed-in, Written.placed-after}
-use Rattle.store.specs.Store.{isTable, Store, keysOf, Action, put, fetch, remove, Call, call, actionVerdict, callVerdict, entryAfter, storeAfter, Reply, replyOf, replyTo}
+use Rattle.store.specs.Store.{isTable, Store, keysOf, Action, put, fetch, remove, Call, call, actionVerdict, callVerdict, entryAfter, storeAfter, StoreReply, replyOf, replyTo}
 use Rattle.store.specs.{Store.storeEnd, Store.ownerOf, Store.repliesTo, Layout.size, Layout.slotAt, Layout.holds, Layout.slotWith, Layout.storeOf, Layout.slotFor}
 use Rattle.store.specs.{Layout.slotBytes, Layout.freed, Layout.changed, Layout.verdictOn, Layout.replyOn, Layout.bytesAfter, Claims.StoreBytes, Claims.ByteCall}
 use Rattle.store.specs.Claims.{ByteCalls, Zeros-empty, Each-call, bytesEnd, repliesOn, All-calls, Isolated-bytes}
@@ -150,9 +150,9 @@ same-replies o b (x ∷ xs) g k =
     go (eqb (ownerOf x) o) (r .0) (same-replies o (bytesAfter b x) xs (r .2) (λ y m. k y (List·Memᴰ·tail m)) ∙ ap (λ (s : Store). repliesTo o s xs) (r .1))
   where
     go : (t : Bool) → replyOn b x ≡ replyTo (storeOf b) x → repliesOn o (bytesAfter b x) xs ≡ repliesTo o (storeAfter (storeOf b) x) xs →
-        _≡_ {A = List Reply} (choose t (replyOn b x ∷ repliesOn o (bytesAfter b x) xs) (repliesOn o (bytesAfter b x) xs))
+        _≡_ {A = List StoreReply} (choose t (replyOn b x ∷ repliesOn o (bytesAfter b x) xs) (repliesOn o (bytesAfter b x) xs))
         (choose t (replyTo (storeOf b) x ∷ repliesTo o (storeAfter (storeOf b) x) xs) (repliesTo o (storeAfter (storeOf b) x) xs))
-    go true e f = ap₂ (λ (r : Reply) (l : List Reply). r ∷ l) e f
+    go true e f = ap₂ (λ (r : StoreReply) (l : List StoreReply). r ∷ l) e f
     go false e f = f
 
 same-end : (b : List ℕ) (xs : List Call) → StoreBytes b → ByteCalls xs → (storeOf (bytesEnd b xs) ≡ storeEnd (storeOf b) xs) × StoreBytes (bytesEnd b xs)

@@ -1,13 +1,13 @@
 -- Calls of several owners on one store (specs/Calls), from the contracts and the theorems about the bytes. Assumes nothing.
 use Rattle.model.specs.Kit.{_≡_, refl, sym, ap, ap₂, _∙_, Bool, true, false, List, [], _∷_, map, ℕ, arith, eqb}
 use Rattle.model.specs.{Lists.choose, Verdict.Verdict, Verdict.accepted, Verdict.refused, Verdict.isAccepted}
-use Rattle.store.specs.{Store.Entry, Store.Call, Store.call, Store.put, Store.fetch, Store.remove, Store.Reply, Store.replyOf, Layout.storeOf, Layout.verdictOn}
+use Rattle.store.specs.{Store.Entry, Store.Call, Store.call, Store.put, Store.fetch, Store.remove, Store.StoreReply, Store.replyOf, Layout.storeOf, Layout.verdictOn}
 use Rattle.store.specs.{Layout.replyOn, Layout.changed, Layout.bytesAfter, Claims.repliesOn, Meaning.means, declared.Answer.Answer, declared.Answer.the-variants.Done}
 use Rattle.store.specs.{declared.Answer.the-variants.Refused, Calls.Got, Calls.own, Calls.Called, Calls.none, Calls.puts, Calls.fetches, Calls.removes, Calls.Isolated-calls}
 use Rattle.store.proofs.Calls.{isolated-bytes}
 
 -- what was handed back, in the words of the definitions
-abbrev meant : Got → Reply
+abbrev meant : Got → StoreReply
 meant g = record { outcome = means (g .answer); room = g .room }
 
 known : (r s : Answer) → means r ≡ means s → r ≡ s
@@ -17,7 +17,7 @@ known (Refused n i) (Done k) e = absurd (let z : _≡_ {A = ℕ} 0 1 = cc in ome
 known (Refused n i) (Refused m j) e = let f : n ≡ m = cc in let g : i ≡ j = cc in cc
 
 got-known : (g h : Got) → meant g ≡ meant h → g ≡ h
-got-known g h e = λ i. record { answer = known (g .answer) (h .answer) (ap (λ (r : Reply). r .outcome) e) i; room = ap (λ (r : Reply). r .room) e i }
+got-known g h e = λ i. record { answer = known (g .answer) (h .answer) (ap (λ (r : StoreReply). r .outcome) e) i; room = ap (λ (r : StoreReply). r .room) e i }
 
 all-known : (gs hs : List Got) → map meant gs ≡ map meant hs → gs ≡ hs
 all-known [] [] e = refl
@@ -48,14 +48,14 @@ unfolding bytesAfter changed
 fetch-leaves b owner key room = same-either (isAccepted (verdictOn b (call owner key (fetch room)))) b
 
 -- one call more
-own-meant : (o owner : ℕ) (g : Got) (gs : List Got) (r : Reply) (rs : List Reply) → meant g ≡ r → map meant gs ≡ rs → map meant (own o owner g gs) ≡ choose (eqb owner o) (r ∷ rs) rs
+own-meant : (o owner : ℕ) (g : Got) (gs : List Got) (r : StoreReply) (rs : List StoreReply) → meant g ≡ r → map meant gs ≡ rs → map meant (own o owner g gs) ≡ choose (eqb owner o) (r ∷ rs) rs
 own-meant o owner g gs r rs e q = go (eqb owner o)
   where
     go : (t : Bool) → map meant (choose t (g ∷ gs) gs) ≡ choose t (r ∷ rs) rs
-    go true = ap₂ (λ (x : Reply) (l : List Reply). x ∷ l) e q
+    go true = ap₂ (λ (x : StoreReply) (l : List StoreReply). x ∷ l) e q
     go false = q
 
-reply-is : (g : Got) (r : Reply) → means (g .answer) ≡ r .outcome → g .room ≡ r .room → meant g ≡ r
+reply-is : (g : Got) (r : StoreReply) → means (g .answer) ≡ r .outcome → g .room ≡ r .room → meant g ≡ r
 reply-is g r e q = λ i. record { outcome = e i; room = q i }
 
 replies : (o : ℕ) (b : List ℕ) (xs : List Call) (gs : List Got) → Called o b xs gs → map meant gs ≡ repliesOn o b xs

@@ -7,7 +7,7 @@ use Rattle.model.specs.Sheet.{distinct}
 use Rattle.model.proofs.Lists.{T-of, of-T, not-of, of-not, both-i, both-l, both-r, either-l, either-r, either-e, keep-i, keep-e, keep-none, Sorted, sorted-keep, sorted-below}
 use Rattle.model.proofs.Counting.{distinct-i, no-more}
 use Rattle.store.specs.Store.{Entry, none, table, isTable, tableIn, Entries, Store, emptyStore, keysOf, Action, put, fetch, remove, Call, call, actionVerdict, callVerdict}
-use Rattle.store.specs.Store.{entryAfter, storeAfter, Reply, replyOf, replyTo, storeEnd, ownerOf, callsOf, repliesTo}
+use Rattle.store.specs.Store.{entryAfter, storeAfter, StoreReply, replyOf, replyTo, storeEnd, ownerOf, callsOf, repliesTo}
 use Rattle.store.specs.Claims.{Isolated, writes, spares, allSpare, Fetches-last, Fetches-none, Four-keys, Refused-same}
 
 -- ---- one call
@@ -38,12 +38,12 @@ replies-alone o s s′ [] e = refl
 replies-alone o s s′ (x ∷ xs) e = go (eqb (ownerOf x) o) refl (λ r r′ f. replies-alone o r r′ xs f)
   where
     go : (b : Bool) → eqb (ownerOf x) o ≡ b → ((r r′ : Store) → r o ≡ r′ o → repliesTo o r xs ≡ repliesTo o r′ (callsOf o xs)) →
-        _≡_ {A = List Reply} (choose b (replyTo s x ∷ repliesTo o (storeAfter s x) xs) (repliesTo o (storeAfter s x) xs))
+        _≡_ {A = List StoreReply} (choose b (replyTo s x ∷ repliesTo o (storeAfter s x) xs) (repliesTo o (storeAfter s x) xs))
         (repliesTo o s′ (elim b [ true ↦ x ∷ callsOf o xs | false ↦ callsOf o xs ]))
     go true q ih =
         let w = eqb-true (ownerOf x) o q in
-        ap₂ (λ (r : Reply) (l : List Reply). r ∷ l) (own-reply s s′ x o w e) (ih (storeAfter s x) (storeAfter s′ x) (own-after s s′ x o w e))
-        ∙ sym (ap {B = List Reply} (λ (b : Bool). choose b (replyTo s′ x ∷ repliesTo o (storeAfter s′ x) (callsOf o xs)) (repliesTo o (storeAfter s′ x) (callsOf o xs))) q)
+        ap₂ (λ (r : StoreReply) (l : List StoreReply). r ∷ l) (own-reply s s′ x o w e) (ih (storeAfter s x) (storeAfter s′ x) (own-after s s′ x o w e))
+        ∙ sym (ap {B = List StoreReply} (λ (b : Bool). choose b (replyTo s′ x ∷ repliesTo o (storeAfter s′ x) (callsOf o xs)) (repliesTo o (storeAfter s′ x) (callsOf o xs))) q)
     go false q ih = ih (storeAfter s x) s′ (other-after s x o q ∙ e)
 
 pub isolated : Isolated

@@ -3,7 +3,7 @@
 use Rattle.model.specs.Kit.{_≡_, _⊎_, Bool, true, false, not, List, [], _∷_, _++_, map, List·Memᴰ, ℕ, _+_, _*_, _≤_, _<_, length, drop, replicate, T, leb, eqb}
 use Rattle.model.specs.{Lists.at, Lists.both, Lists.choose, Lists.below, Verdict.Verdict, Verdict.accepted, Verdict.refused, Verdict.ask, Verdict.isAccepted, Sheet.words}
 use Rattle.model.specs.Sheet.{headerOf, problemOf, symmetriesVerdict, verdictOf}
-use Rattle.store.specs.Store.{none, table, isTable, Store, emptyStore, keysOf, Action, put, fetch, remove, Call, call, callVerdict, storeAfter, Reply, replyOf, replyTo}
+use Rattle.store.specs.Store.{none, table, isTable, Store, emptyStore, keysOf, Action, put, fetch, remove, Call, call, callVerdict, storeAfter, StoreReply, replyOf, replyTo}
 use Rattle.store.specs.{Store.storeEnd, Store.ownerOf, Store.callsOf, Store.repliesTo, Layout.size, Layout.storeOf, Layout.replyOn, Layout.bytesAfter}
 
 -- ---- the store
@@ -83,7 +83,7 @@ unfoldable pub bytesEnd : List ℕ → List Call → List ℕ
 bytesEnd b [] = b
 bytesEnd b (x ∷ xs) = bytesEnd (bytesAfter b x) xs
 
-unfoldable pub repliesOn : ℕ → List ℕ → List Call → List Reply
+unfoldable pub repliesOn : ℕ → List ℕ → List Call → List StoreReply
 repliesOn o b [] = []
 repliesOn o b (x ∷ xs) =
     let later = repliesOn o (bytesAfter b x) xs in

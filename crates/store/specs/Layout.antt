@@ -3,7 +3,7 @@
 use Rattle.model.specs.Kit.{Bool, not, List, _∷_, _++_, ℕ, zero, suc, _+_, _*_, min, length, take, drop, set, ltb, eqb}
 use Rattle.model.specs.{ValueSets.least, Lists.both, Lists.either, Lists.choose, Lists.at, Verdict.Verdict, Verdict.ask, Verdict.isAccepted, Sheet.«word», Bytes.twoBytes}
 use Rattle.model.specs.Written.{placed}
-use Rattle.store.specs.Store.{none, table, Store, put, fetch, remove, Call, call, callVerdict, Reply, replyOf}
+use Rattle.store.specs.Store.{none, table, Store, put, fetch, remove, Call, call, callVerdict, StoreReply, replyOf}
 
 abbrev pub size : ℕ
 size = 32832
@@ -57,7 +57,7 @@ changed b (call owner key remove) = freed b owner key 4
 unfoldable pub verdictOn : List ℕ → Call → Verdict
 verdictOn b x = ask (eqb (length b) size) 255 0 (callVerdict (storeOf b) x)
 
-unfoldable pub replyOn : List ℕ → Call → Reply
+unfoldable pub replyOn : List ℕ → Call → StoreReply
 replyOn b (call owner key a) = replyOf (verdictOn b (call owner key a)) a (storeOf b owner key)
 
 unfoldable pub bytesAfter : List ℕ → Call → List ℕ

@@ -70,7 +70,7 @@ storeAfter s (call owner key a) o k =
     choose (both (both (eqb owner o) (eqb key k)) (isAccepted (callVerdict s (call owner key a)))) (entryAfter a (s o k)) (s o k)
 
 -- what a call gives back: the number of bytes written to the lent room, or a refusal; and the room afterwards. None is lent to put and remove
-pub record Reply : Type 0 where
+pub record StoreReply : Type 0 where
   pub outcome : Outcome
   pub room : List ℕ
 
@@ -84,10 +84,10 @@ roomIn (put t) = []
 roomIn (fetch room) = room
 roomIn remove = []
 
-abbrev pub replyOf : Verdict → Action → Entry → Reply
+abbrev pub replyOf : Verdict → Action → Entry → StoreReply
 replyOf v a e = record { outcome = outcomeOf v (written a e); room = roomAfter v (written a e) (roomIn a) }
 
-unfoldable pub replyTo : Store → Call → Reply
+unfoldable pub replyTo : Store → Call → StoreReply
 replyTo s (call owner key a) = replyOf (callVerdict s (call owner key a)) a (s owner key)
 
 -- ---- calls one after another
@@ -102,7 +102,7 @@ ownerOf (call owner key a) = owner
 unfoldable pub callsOf : ℕ → List Call → List Call
 callsOf o xs = keep (λ x. eqb (ownerOf x) o) xs
 
-unfoldable pub repliesTo : ℕ → Store → List Call → List Reply
+unfoldable pub repliesTo : ℕ → Store → List Call → List StoreReply
 repliesTo o s [] = []
 repliesTo o s (x ∷ xs) =
     let later = repliesTo o (storeAfter s x) xs in
