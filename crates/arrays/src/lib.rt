@@ -74,7 +74,7 @@ pub const LOOSE: usize = 102;
 pub const LOOKS: usize = 104;
 
 // For sets of values below 8, numbers of eight lanes: from here on all of the lanes of each set; for each constraint on three variables the unions of its
-// support sets.
+// support sets. Empty where there are more than eight values or no such constraint.
 pub const SPREAD: usize = 128;
 
 pub const UNIONS: usize = 384;

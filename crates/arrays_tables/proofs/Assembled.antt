@@ -4,11 +4,11 @@ use Rattle.model.specs.Kit.{length-set, ltb-true, ltb-false}
 use lib.Pow.{pow-mono}
 use Rattle.model.specs.{Lists.at, Lists.either, ValueSets.has, Problem.Problem, WellFormed.WellFormed, inner.Filling.Filled}
 use Rattle.model.proofs.{Lists.at-set, Lists.at-set-other, Sets.has-lt, Sets.has-mask, Sets.has-at-lt}
-use Rattle.arrays.specs.inner.Places.{INITIAL, SCOPES, VARIABLES, VALUES, CONSTRAINTS, SYMMETRIES, LINKED, BY-ROWS, OTHERS, LOOSE, LOOKS, SPREAD, NUMBERS}
+use Rattle.arrays.specs.inner.Places.{INITIAL, SCOPES, VARIABLES, VALUES, CONSTRAINTS, SYMMETRIES, LINKED, BY-ROWS, OTHERS, LOOSE, LOOKS, NUMBERS}
 use Rattle.arrays.specs.{inner.Layout.Numbers, inner.Tables.goes, inner.Tables.Rows, inner.Tables.Linked}
-use Rattle.arrays_tables.specs.{inner.Index.Compact, inner.Index.Made, inner.Steps.Spread, inner.Steps.Unions, inner.Steps.SymmetriesStored, inner.Steps.LinkedFirst}
+use Rattle.arrays_tables.specs.{inner.Index.Compact, inner.Index.Made, inner.Steps.Worded, inner.Steps.SymmetriesStored, inner.Steps.LinkedFirst}
 use Rattle.arrays_tables.specs.inner.Steps.{LinkNumbers, RowsSource, LooseTo, LooseSet, LookScopes}
-use Rattle.arrays_tables.proofs.{Initial.initial-is, UnionTables.worded, LookScopes.look-scopes-from, LookScopes.looks-up, ImageTables.imageTables}
+use Rattle.arrays_tables.proofs.{Initial.initial-is, LookScopes.look-scopes-from, LookScopes.looks-up, ImageTables.imageTables}
 
 -- ---- what the numbers before LINKED say, where these stay
 pub numbers-kept : (p : Problem) (old new : List ℕ) → WellFormed p → length (p .constraints) ≤ 32 → ((j : ℕ) → j < LINKED → at new j ≡ at old j) → Numbers p old → Numbers p new
@@ -72,19 +72,15 @@ module _ (p : Problem) (n0 supports images t0 : List ℕ) (c : Compact p n0 supp
 
   module _ (t1 : List ℕ) (rows : (length t1 ≡ length t0) × ((q : Problem) → RowsSource q n1 supports → Rows q t1)) (r : ℕ) (loose : LooseSet n1 t1 (at n1 VARIABLES) r)
       (n2 : List ℕ) (looks : Filled (λ k. LOOKS + k) (LookScopes (set n1 LOOSE r)) 13 (set n1 LOOSE r) n2)
-      (n3 : List ℕ) (spreads : Filled (λ b. SPREAD + b) Spread 256 n2 n3) (n4 : List ℕ) (unions : Unions supports 32 n3 n4) (t2 : List ℕ)
-      (stored : SymmetriesStored n4 images (at n4 VARIABLES) (at n4 SYMMETRIES) t1 t2) where
-    before-spread : (j : ℕ) → j < SPREAD → at n4 j ≡ at n2 j
-    before-spread j h = unions .kept j (omega arith) ∙ spreads .other j (λ v k e. omega arith)
-
+      (n4 : List ℕ) (lanes : Worded supports n2 n4) (t2 : List ℕ) (stored : SymmetriesStored n4 images (at n4 VARIABLES) (at n4 SYMMETRIES) t1 t2) where
     low : (j : ℕ) → j < LOOSE → at n4 j ≡ at n1 j
-    low j h = before-spread j (omega arith) ∙ looks .other j (λ v k e. omega arith) ∙ at-set-other n1 LOOSE r j (λ e. omega arith)
+    low j h = lanes .kept j (omega arith) ∙ looks .other j (λ v k e. omega arith) ∙ at-set-other n1 LOOSE r j (λ e. omega arith)
 
     kept : (j : ℕ) → j < LINKED → at n4 j ≡ at n0 j
     kept j h = low j (omega arith) ∙ l .kept j h
 
     at-loose : at n4 LOOSE ≡ r
-    at-loose = before-spread LOOSE (omega arith) ∙ looks .other LOOSE (λ v k e. omega arith) ∙ at-set n1 LOOSE r (omega (arith, l .size, c .numbers-length))
+    at-loose = lanes .kept LOOSE (omega arith) ∙ looks .other LOOSE (λ v k e. omega arith) ∙ at-set n1 LOOSE r (omega (arith, l .size, c .numbers-length))
 
     numbered : Numbers p n4
     numbered = numbers-kept p n0 n4 (c .wellFormed) (c .constraints) kept (c .compiled .numbered)
@@ -112,14 +108,14 @@ module _ (p : Problem) (n0 supports images t0 : List ℕ) (c : Compact p n0 supp
         supported = c .compiled .supported;
         linked = linked;
         rowed = λ x v y hx hv hy. stored .kept .low (256 * x + 16 * v + y) (omega arith) ∙ rows .1 p rows-source x v y hx hv hy;
-        worded = worded supports n2 n3 n4 spreads unions;
+        worded = lanes .words;
         looks = λ k j h t. looks-up p n1 k (at n2 (LOOKS + k)) numbered-1 (look-scopes-from n1 (set n1 LOOSE r) k (at n2 (LOOKS + k)) (λ i l. at-set-other n1 LOOSE r i (λ e. omega arith))
             (omega (arith, numbered-1 .constraints, c .constraints)) (looks .here k h)) j
-            (subst (λ (z : ℕ). T (has z j)) (before-spread (LOOKS + k) (omega arith)) t);
+            (subst (λ (z : ℕ). T (has z j)) (lanes .kept (LOOKS + k) (omega arith)) t);
         imageTables = imageTables p n4 images t1 t2 (c .wellFormed) numbered (c .compiled .imaged) stored;
       };
       kept = kept;
-      numbers-length = unions .size ∙ spreads .size ∙ looks .size ∙ length-set n1 LOOSE r ∙ l .size;
+      numbers-length = lanes .size ∙ looks .size ∙ length-set n1 LOOSE r ∙ l .size;
       tables-length = stored .kept .size ∙ rows .0;
     }
 
@@ -142,15 +138,11 @@ module _ (p : Problem) (n0 supports images t0 : List ℕ) (c : Compact p n0 supp
       looks-bounds = (omega (arith, link-bounds .1, at-set-other n1 LOOSE r CONSTRAINTS (λ e. omega arith)), length-set n1 LOOSE r ∙ l .size ∙ c .numbers-length)
 
       module _ {P : ℕ → ℕ → Type 0} {n2 : List ℕ} (k : Filled (λ i. LOOKS + i) P 13 (set n1 LOOSE r) n2) where
-        pub spreads-long : length n2 ≡ NUMBERS
-        spreads-long = k .size ∙ looks-bounds .1
+        pub lanes-long : length n2 ≡ NUMBERS
+        lanes-long = k .size ∙ looks-bounds .1
 
-        module _ {Q : ℕ → ℕ → Type 0} {n3 : List ℕ} (s : Filled (λ b. SPREAD + b) Q 256 n2 n3) where
-          pub unions-long : length n3 ≡ NUMBERS
-          unions-long = s .size ∙ spreads-long
-
-          pub unions-bounds : {supports n4 : List ℕ} → Unions supports 32 n3 n4 → (at n4 VARIABLES ≤ 12) × (at n4 SYMMETRIES ≤ 16)
-          unions-bounds {n4 = n4} u = (omega (arith, link-bounds .0, same VARIABLES (omega arith)), omega (arith, link-bounds .2, same SYMMETRIES (omega arith)))
-            where
-              same : (j : ℕ) → j < LOOSE → at n4 j ≡ at n1 j
-              same j h = u .kept j (omega arith) ∙ s .other j (λ v i e. omega arith) ∙ k .other j (λ v i e. omega arith) ∙ at-set-other n1 LOOSE r j (λ e. omega arith)
+        pub lanes-bounds : {supports n4 : List ℕ} → Worded supports n2 n4 → (at n4 VARIABLES ≤ 12) × (at n4 SYMMETRIES ≤ 16)
+        lanes-bounds {n4 = n4} s = (omega (arith, link-bounds .0, same VARIABLES (omega arith)), omega (arith, link-bounds .2, same SYMMETRIES (omega arith)))
+          where
+            same : (j : ℕ) → j < LOOSE → at n4 j ≡ at n1 j
+            same j h = s .kept j (omega arith) ∙ k .other j (λ v i e. omega arith) ∙ at-set-other n1 LOOSE r j (λ e. omega arith)

@@ -1,9 +1,9 @@
 -- Numbers of eight lanes: eight sets in one number, and all of the lanes of a set. Assumes nothing.
-use Rattle.model.specs.Kit.{_≡_, refl, sym, ap, _∙_, subst, List, ℕ, zero, suc, _+_, _-_, _*_, _/_, _%_, _^_, _≤_, _<_, mul-le-mul, arith, bitAnd, eqb, lit<, length, set}
-use Rattle.model.specs.Kit.{length-set, lt-ltb}
+use Rattle.model.specs.Kit.{_≡_, refl, sym, ap, _∙_, subst, List, ℕ, zero, suc, _+_, _-_, _*_, _/_, _%_, _^_, _≤_, _<_, mul-le-mul, arith, bitAnd, eqb, length, set}
+use Rattle.model.specs.Kit.{lt-ltb}
 use lib.Pow.{pow-add, pow-mono, pow-pos}
 use Rattle.model.specs.{Lists.at, ValueSets.has, inner.Filling.Filled}
-use Rattle.model.proofs.{Lists.at-set, Lists.at-set-other, Sets.has-zero, Sets.has-suc, Sets.has-none, Sets.pow2, Masks.has-ones, Masks.byte-has, Masks.byte-lt}
+use Rattle.model.proofs.{Filling.filled-begin, Filling.filled-turn, Filling.filled-end, Sets.has-zero, Sets.has-suc, Sets.has-none, Sets.pow2, Masks.has-ones, Masks.byte-has, Masks.byte-lt}
 use Rattle.arrays.specs.inner.Places.{SPREAD}
 use Rattle.arrays_tables.specs.inner.Steps.{Lanes, Spread}
 use Rattle.arrays_tables.proofs.Bits.{low-bits, high-bits}
@@ -59,7 +59,7 @@ step-fits step t h = let l : 7 - t ≤ 7 = omega arith in mul-le-mul h l
 spread-none : Spread 0 0
 spread-none = record { lanes = λ j w h. has-none (8 * j + w) ∙ sym (has-none j); few = λ k h. pow-pos (8 * k) }
 
-pub spread-turn : (b r : ℕ) → Spread (b / 2) r → Spread b (256 * r + 255 * (b % 2))
+spread-turn : (b r : ℕ) → Spread (b / 2) r → Spread b (256 * r + 255 * (b % 2))
 spread-turn b r s = record { lanes = lane; few = few }
   where
     all-or-none : (d w : ℕ) → d < 2 → w < 8 → has (255 * d) w ≡ eqb d 1
@@ -77,21 +77,46 @@ spread-turn b r s = record { lanes = lane; few = few }
         let e : k + 1 ≡ suc k = omega arith in
         subst (λ (n : ℕ). 256 * r + 255 * (b % 2) < 2 ^ (8 * n)) e (omega (arith, grown k, s .few k (omega (arith, pow2 k))))
 
--- the table's first entry, written before the loop
-pub spreads-begin : (l : List ℕ) → SPREAD < length l → Filled (λ b. SPREAD + b) Spread 1 (set l SPREAD 0) (set l SPREAD 0)
-spreads-begin l h = record { size = refl; here = first; other = λ j n. refl }
-  where
-    first : (b : ℕ) → b < 1 → Spread b (at (set l SPREAD 0) (SPREAD + b))
-    first zero k = subst (Spread 0) (sym (at-set l SPREAD 0 h)) spread-none
-    first (suc b) k = absurd (omega arith)
+spread-even : (h r : ℕ) → Spread h r → Spread (2 * h) (256 * r)
+spread-even h r s =
+    let e : h ≡ 2 * h / 2 = omega arith in
+    let v : 256 * r + 255 * (2 * h % 2) ≡ 256 * r = omega arith in
+    subst (Spread (2 * h)) v (spread-turn (2 * h) r (subst (λ (n : ℕ). Spread n r) e s))
 
-pub spreads-end : (old new : List ℕ) → Filled (λ b. SPREAD + b) Spread 256 (set old SPREAD 0) new → Filled (λ b. SPREAD + b) Spread 256 old new
-spreads-end old new r = record {
-  size = r .size ∙ length-set old SPREAD 0;
+spread-odd : (h r : ℕ) → Spread h r → Spread (2 * h + 1) (256 * r + 255)
+spread-odd h r s =
+    let e : h ≡ (2 * h + 1) / 2 = omega arith in
+    let v : 256 * r + 255 * ((2 * h + 1) % 2) ≡ 256 * r + 255 = omega arith in
+    subst (Spread (2 * h + 1)) v (spread-turn (2 * h + 1) r (subst (λ (n : ℕ). Spread n r) e s))
+
+-- two entries a turn
+abbrev pub Spreading : ℕ → List ℕ → List ℕ → Type 0
+Spreading = Filled (λ b. SPREAD + b) Spread
+
+pub spreads-two : (old new : List ℕ) (h r : ℕ) → Spreading (2 * h) old new → SPREAD + 2 * h + 1 < length old → Spread h r →
+    Spreading (2 * (h + 1)) old (set (set new (SPREAD + 2 * h) (256 * r)) (SPREAD + 2 * h + 1) (256 * r + 255))
+spreads-two old new h r f l s =
+    filled-end _ _ _ _ _ (2 * h + 1 + 1) (omega arith) (omega arith)
+    (filled-turn _ _ _ _ (2 * h + 1) _ _ (filled-turn _ _ _ _ (2 * h) _ _ f refl (omega arith) (λ v k e. omega arith) (spread-even h r s)) (omega arith) l (λ v k e. omega arith)
+    (spread-odd h r s))
+
+-- the first two, written before the loop
+abbrev pub spreads-first : List ℕ → List ℕ
+spreads-first l = set (set l SPREAD 0) (SPREAD + 1) 255
+
+first-two : (l : List ℕ) → SPREAD + 1 < length l → Spreading 2 l (spreads-first l)
+first-two l h = spreads-two l l 0 0 (filled-begin _ _ l) h spread-none
+
+pub spreads-begin : (l : List ℕ) → SPREAD + 1 < length l → Spreading 2 (spreads-first l) (spreads-first l)
+spreads-begin l h = record { size = refl; here = first-two l h .here; other = λ j n. refl }
+
+pub spreads-end : (old new : List ℕ) → SPREAD + 1 < length old → Spreading 256 (spreads-first old) new → Spreading 256 old new
+spreads-end old new h r = record {
+  size = r .size ∙ first-two old h .size;
   here = r .here;
-  other = λ j n. r .other j n ∙ at-set-other old SPREAD 0 j (λ e. n 0 (lit< tt) (sym e));
+  other = λ j n. r .other j n ∙ first-two old h .other j (λ v l e. n v (omega arith) e);
 }
 
 -- the entry of half a set leaves room for a lane
-pub spread-fits : (old new : List ℕ) (b : ℕ) → Filled (λ b. SPREAD + b) Spread b old new → 1 ≤ b → b < 256 → at new (SPREAD + b / 2) < 2 ^ 56
-spread-fits old new b r l h = r .here (b / 2) (omega arith) .few 7 (omega arith)
+pub spread-fits : (old new : List ℕ) (h : ℕ) → Spreading (2 * h) old new → 1 ≤ h → h < 128 → at new (SPREAD + h) < 2 ^ 56
+spread-fits old new h r l k = r .here h (omega arith) .few 7 (omega arith)

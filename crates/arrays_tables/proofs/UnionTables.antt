@@ -1,10 +1,10 @@
 -- Unions of numbers of eight lanes, and what they say of the support sets. Assumes nothing.
 use Rattle.model.specs.Kit.{_≡_, refl, sym, ap, _∙_, subst, subst₂, Bool, true, false, inl, inr, ⊎-elim, List, ℕ, zero, suc, _+_, _*_, _/_, _%_, _≤_, _<_, arith, ℕ-discrete, bitOr}
 use Rattle.model.specs.Kit.{T, lit<, length}
-use Rattle.model.specs.{Lists.at, Lists.both, Lists.choose, ValueSets.has, inner.Filling.Filled}
+use Rattle.model.specs.{Lists.at, Lists.both, Lists.choose, ValueSets.has}
 use Rattle.model.proofs.{Lists.both-i, Lists.both-l, Lists.both-r, Sets.has-none, Members.or-i, Members.or-e}
-use Rattle.arrays.specs.{inner.Places.SCOPES, inner.Places.SPREAD, inner.Places.UNIONS, inner.Tables.UnionOf, inner.Tables.Words}
-use Rattle.arrays_tables.specs.inner.Steps.{Lanes, Word, United, Unioned, Unions, Spread}
+use Rattle.arrays.specs.{inner.Places.SCOPES, inner.Places.VALUES, inner.Places.SPREAD, inner.Places.UNIONS, inner.Tables.UnionOf, inner.Tables.Spreads, inner.Tables.Words}
+use Rattle.arrays_tables.specs.inner.Steps.{Lanes, Word, United, Unioned, Unions, Worded}
 
 -- ---- four numbers from a base on, of which m has some
 picked : (c : Bool) (w b : ℕ) → has (choose c w 0) b ≡ both c (has w b)
@@ -44,15 +44,17 @@ module _ (m : ℕ) (words : List ℕ) (base : ℕ) where
       any (suc (suc (suc (suc i)))) b h t u = absurd (omega arith)
 
 -- ---- one constraint after another
-pub unions-begin : (supports l : List ℕ) → Unions supports 0 l l
-unions-begin supports l = record { size = refl; here = λ k h. absurd (omega arith); kept = λ j h. refl }
+pub unions-begin : (supports l : List ℕ) → Unions supports 0 l l 0
+unions-begin supports l = record { size = refl; here = λ k h. absurd (omega arith); told = λ k h. absurd (omega arith); kept = λ j h. refl }
 
 -- one more, whose unions are stored if it is on three variables
-pub unions-turn : (supports old new new′ : List ℕ) (i : ℕ) → Unions supports i old new → length new′ ≡ length new → ((j : ℕ) → j < UNIONS + 64 * i → at new′ j ≡ at new j) →
-    (at old (SCOPES + i) % 256 ≡ 3 → (c : ℕ) → c < 64 → Unioned supports i (c / 16) (c % 16) (at new′ (UNIONS + 64 * i + c))) → Unions supports (i + 1) old new′
-unions-turn supports old new new′ i r s k u = record {
+pub unions-turn : (supports old new new′ : List ℕ) (i some some′ : ℕ) → Unions supports i old new some → length new′ ≡ length new →
+    ((j : ℕ) → j < UNIONS + 64 * i → at new′ j ≡ at new j) → some ≤ some′ →
+    (at old (SCOPES + i) % 256 ≡ 3 → ((c : ℕ) → c < 64 → Unioned supports i (c / 16) (c % 16) (at new′ (UNIONS + 64 * i + c))) × (0 < some′)) → Unions supports (i + 1) old new′ some′
+unions-turn supports old new new′ i some some′ r s k more u = record {
   size = s ∙ r .size;
   here = λ a l. here a l (ℕ-discrete a i);
+  told = λ a l. told a l (ℕ-discrete a i);
   kept = λ j h. k j (omega arith) ∙ r .kept j h;
 }
   where
@@ -60,11 +62,15 @@ unions-turn supports old new new′ i r s k u = record {
     Here a = at old (SCOPES + a) % 256 ≡ 3 → (c : ℕ) → c < 64 → Unioned supports a (c / 16) (c % 16) (at new′ (UNIONS + 64 * a + c))
 
     here : (a : ℕ) → a < i + 1 → Dec (a ≡ i) → Here a
-    here a l (yes e) = subst Here (sym e) u
+    here a l (yes e) = subst Here (sym e) (λ t. u t .0)
     here a l (no n) = λ t c h. subst (Unioned supports a (c / 16) (c % 16)) (sym (k (UNIONS + 64 * a + c) (omega arith))) (r .here a (omega arith) t c h)
 
-pub unions-end : (supports old new : List ℕ) (i : ℕ) → 32 ≤ i → i ≤ 32 → Unions supports i old new → Unions supports 32 old new
-unions-end supports old new i h l r = let e : i ≡ 32 = omega arith in subst (λ (k : ℕ). Unions supports k old new) e r
+    told : (a : ℕ) → a < i + 1 → Dec (a ≡ i) → at old (SCOPES + a) % 256 ≡ 3 → 0 < some′
+    told a l (yes e) t = u (subst (λ (z : ℕ). at old (SCOPES + z) % 256 ≡ 3) e t) .1
+    told a l (no n) t = let h = r .told a (omega arith) t in omega arith
+
+pub unions-end : (supports old new : List ℕ) (i some : ℕ) → 32 ≤ i → i ≤ 32 → Unions supports i old new some → Unions supports 32 old new some
+unions-end supports old new i some h l r = let e : i ≡ 32 = omega arith in subst (λ (k : ℕ). Unions supports k old new some) e r
 
 -- ---- the lanes of a union
 union-of : (supports : List ℕ) (k h m r : ℕ) (lane : ℕ → ℕ → ℕ) → h < 4 → Unioned supports k h m r → ((i s : ℕ) → i < 4 → Word supports k (4 * h + i) s → Lanes (lane i) s) → UnionOf m lane r
@@ -77,15 +83,29 @@ union-of supports k h m r lane b u l = record {
     lanes i hi = l i (at (u .words) (4 * h + i)) hi (u .made (4 * h + i) (omega arith))
 
 -- ---- both tables
-module _ (supports before old new : List ℕ) (s : Filled (λ b. SPREAD + b) Spread 256 before old) (u : Unions supports 32 old new) where
+-- neither is asked for
+pub worded-none : (supports l : List ℕ) → (at l VALUES < 9 → ⊥) → Worded supports l l
+worded-none supports l n = record { size = refl; kept = λ j h. refl; words = λ h. absurd (n h) }
+
+-- after the unions nothing is changed but the lanes of sets, and these are made if need be
+module _ (supports old mid new : List ℕ) (some : ℕ) (u : Unions supports 32 old mid some) (size : length new ≡ length mid)
+    (other : (j : ℕ) → ((b : ℕ) → b < 256 → SPREAD + b ≡ j → ⊥) → at new j ≡ at mid j) (s : 0 < some → Spreads new) where
+  low : (j : ℕ) → j < SPREAD → at new j ≡ at old j
+  low j h = other j (λ b l e. omega arith) ∙ u .kept j (omega arith)
+
+  -- a scope is as it was
+  three : (k : ℕ) → k < 32 → at new (SCOPES + k) % 256 ≡ 3 → at old (SCOPES + k) % 256 ≡ 3
+  three k l t = ap (λ (n : ℕ). n % 256) (sym (low (SCOPES + k) (omega arith))) ∙ t
+
   union-at : (k c h m j : ℕ) → k < 32 → at new (SCOPES + k) % 256 ≡ 3 → c < 64 → c / 16 ≡ h → c % 16 ≡ m → UNIONS + 64 * k + c ≡ j → Unioned supports k h m (at new j)
   union-at k c h m j l t b e f g =
       subst (λ (j : ℕ). Unioned supports k h m (at new j)) g
-      (subst₂ (λ (h m : ℕ). Unioned supports k h m (at new (UNIONS + 64 * k + c))) e f (u .here k l (ap (λ (n : ℕ). n % 256) (sym (u .kept (SCOPES + k) (omega arith))) ∙ t) c b))
+      (subst₂ (λ (h m : ℕ). Unioned supports k h m (at new (UNIONS + 64 * k + c))) e f
+      (subst (Unioned supports k (c / 16) (c % 16)) (sym (other (UNIONS + 64 * k + c) (λ b l e. omega arith))) (u .here k l (three k l t) c b)))
 
-  pub worded : Words new supports
-  worded = record {
-    spread = λ b j w hb hj hw. ap (λ (n : ℕ). has n (8 * j + w)) (u .kept (SPREAD + b) (omega arith)) ∙ s .here b hb .lanes j w hw;
+  words : Words new supports
+  words = record {
+    spread = λ k l t. s (u .told k l (three k l t));
     by-first = λ k h m hk t hh hm. union-of supports k h m _ _ (omega arith) (union-at k (16 * h + m) h m _ hk t (omega arith) (omega arith) (omega arith) (omega arith)) (first k h hh);
     by-second = λ k h m hk t hh hm. union-of supports k (2 + h) m _ _ (omega arith) (union-at k (32 + 16 * h + m) (2 + h) m _ hk t (omega arith) (omega arith) (omega arith) (omega arith))
         (second k h hh);
@@ -100,3 +120,6 @@ module _ (supports before old new : List ℕ) (s : Filled (λ b. SPREAD + b) Spr
       second k h hh i r l q v w a b =
           let e : 256 * k + (4 * (2 + h) + i) % 8 + 16 * v ≡ 256 * k + 16 * v + (4 * h + i) = omega arith in
           q .second (omega arith) v w a b ∙ ap (λ (n : ℕ). has (at supports n) w) e
+
+  pub worded : Worded supports old new
+  worded = record { size = size ∙ u .size; kept = low; words = λ h. words }

@@ -28,7 +28,6 @@ pub fn index(numbers: &mut Numbers, supports: &Supports, images: &Images, tables
     let set = loose::loose(numbers, tables);
     numbers[LOOSE] = set;
     looks::looks(numbers);
-    spreads::spreads(numbers);
-    unions::unions(supports, numbers);
+    spreads::by_lanes(supports, numbers);
     image_tables::image_tables(numbers, images, tables);
 }

@@ -47,16 +47,19 @@ fn unite(supports: &Supports, numbers: &mut Numbers, k: usize)
     }
 }
 
-// The unions of the constraints on three variables: an arity of 3 is the packed scope's first byte.
-pub fn unions(supports: &Supports, numbers: &mut Numbers)
+// The unions of the constraints on three variables, and how many of these there are: an arity of 3 is the packed scope's first byte.
+pub fn unions(supports: &Supports, numbers: &mut Numbers) -> usize
     requires { ⌜ length (now numbers) ≡ NUMBERS ⌝ }
-    ensures { λ _. ⌜ Unions (now (supports .entry)) 32 (now (numbers .entry)) (now (numbers .exit)) ⌝ }
+    ensures { λ r. ⌜ Unions (now (supports .entry)) 32 (now (numbers .entry)) (now (numbers .exit)) r ⌝ }
 {
+    let mut some = 0;
     let mut k = 0;
     while k < 32 {
         if numbers[SCOPES + k] % 256 == 3 {
             unite(supports, numbers, k);
+            some += 1;
         }
         k += 1;
     }
+    some
 }

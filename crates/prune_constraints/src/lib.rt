@@ -21,7 +21,7 @@ ghost use Rattle.model.specs.Problem.{Problem, Constraint};
 ghost use Rattle.model.specs.inner.Pruning.{Sets};
 ghost use Rattle.arrays.specs.inner.Places.{SCOPES, VALUES, NUMBERS, SUPPORTS};
 ghost use Rattle.model.specs.Problem.{constraintAt};
-ghost use Rattle.arrays.specs.inner.Tables.{Words};
+ghost use Rattle.arrays.specs.inner.Tables.{Spreads, Words};
 ghost use Rattle.prune_constraints.specs.inner.Revised.{Revision, ConstraintsPending, Constrained};
 ghost use Rattle.prune_constraints.specs.inner.Steps.{OneValue, Joined, Together3, Joined3, Scoped, Nonempty, Narrow, ConstraintsHeld, SetCut, Touched};
 ghost use Rattle.prune_constraints.specs.inner.Steps.{Waiting, Round};
@@ -152,7 +152,7 @@ fn heads(w: u64) -> u64
 fn in_lanes(numbers: &Numbers, base: usize, a: ValueSet, b: ValueSet, e: ValueSet) -> u64
     requires { ⌜ base + 32 ≤ NUMBERS ⌝ }
     requires { ⌜ (a .bits < 256) × (b .bits < 256) × (e .bits < 256) ⌝ }
-    requires { ⌜ ((supports : List ℕ) × Words (now numbers) supports) ⌝ }
+    requires { ⌜ Spreads (now numbers) ⌝ }
     ensures { λ r. ⌜ ((lane : ℕ → ℕ → ℕ) → Halves (now (numbers .entry)) base lane → InLanes (a .bits) (b .bits) (e .bits) lane r) ⌝ }
 {
     let lower = numbers[base + ((a.bits & 15) as usize)];
@@ -163,7 +163,7 @@ fn in_lanes(numbers: &Numbers, base: usize, a: ValueSet, b: ValueSet, e: ValueSe
 // Whether the lanes that are not empty are those of b.
 fn fills(numbers: &Numbers, w: u64, b: ValueSet) -> bool
     requires { ⌜ b .bits < 256 ⌝ }
-    requires { ⌜ ((supports : List ℕ) × Words (now numbers) supports) ⌝ }
+    requires { ⌜ Spreads (now numbers) ⌝ }
     ensures { λ r. ⌜ (r ≡ true → FullLanes w (b .bits)) ⌝ }
 {
     heads(w) == (numbers[SPREAD + (b.bits as usize)] & ONES)
@@ -380,7 +380,7 @@ fn revise16(sets: &mut [u16; 16], numbers: &Numbers, supports: &Supports, k: usi
 fn revise8(sets: &mut [u16; 16], numbers: &Numbers, supports: &Supports, k: usize) -> u64
     requires { ⌜ Sets 16 (now sets) ⌝ }
     requires { ⌜ ((p : Problem) × ConstraintsHeld p (now numbers) (now supports) × (k < length (p .constraints)) × Nonempty (constraintAt p k .scope)
-        (now sets) × Narrow (constraintAt p k .scope) (now sets)) ⌝ }
+        (now sets) × Narrow (constraintAt p k .scope) (now sets) × (at (now numbers) VALUES < 9)) ⌝ }
     ensures { λ r. ⌜ ((p : Problem) → ConstraintsHeld p (now (numbers .entry)) (now (supports .entry)) → k < length (p .constraints) → Revision
         (constraintAt p k) (now (sets .entry)) (now (sets .exit)) r) ⌝ }
 {

@@ -3,7 +3,7 @@
 use Rattle.model.specs.Kit.{_≡_, Bool, true, false, not, List, [], _∷_, ℕ, _+_, _*_, _%_, _^_, _<_, length, T, eqb, ltb, leb}
 use Rattle.model.specs.{Lists.any, Lists.at, Lists.keep, Lists.same, Lists.both, Lists.either, ValueSets.has, ValueSets.maskOf, ValueSets.members, ValueSets.least, Problem.Problem}
 use Rattle.model.specs.Problem.{constraintAt, symmetryAt}
-use Rattle.arrays.specs.inner.Places.{SCOPES, LINKED, BY-ROWS, OTHERS, LOOSE, LOOKS, SPREAD, UNIONS, SMALLER, OWN}
+use Rattle.arrays.specs.inner.Places.{SCOPES, VALUES, LINKED, BY-ROWS, OTHERS, LOOSE, LOOKS, SPREAD, UNIONS, SMALLER, OWN}
 use Rattle.arrays.specs.inner.Layout.{imageCode, Numbers, Supports}
 
 -- ---- constraints on two variables, by variable
@@ -46,11 +46,15 @@ pub record UnionOf (m : ℕ) (lane : ℕ → ℕ → ℕ) (r : ℕ) : Type 0 whe
   pub union-i : (i j w : ℕ) → i < 4 → j < 8 → w < 8 → T (has m i) → T (has (lane i j) w) → T (has r (8 * j + w))
   pub union-e : (j w : ℕ) → j < 8 → w < 8 → T (has r (8 * j + w)) → (i : ℕ) × (i < 4) × T (has m i) × T (has (lane i j) w)
 
--- `numbers`: for each set of values below 8 all of its lanes; and for each constraint on three variables (the first byte of its packed scope), each
+-- `numbers`: for each set of values below 8 all of its lanes
+abbrev pub Spreads : List ℕ → Type 0
+Spreads numbers = (b j w : ℕ) → b < 256 → j < 8 → w < 8 → has (at numbers (SPREAD + b)) (8 * j + w) ≡ has b j
+
+-- `numbers`: these where some constraint is on three variables (the first byte of its packed scope); and for each such constraint, each
 -- half of eight values and each set of four the unions of support sets, of the first variable's values in lanes by the second's, and of the second
 -- variable's values in lanes by the first's
 pub record Words (numbers supports : List ℕ) : Type 0 where
-  pub spread : (b j w : ℕ) → b < 256 → j < 8 → w < 8 → has (at numbers (SPREAD + b)) (8 * j + w) ≡ has b j
+  pub spread : (k : ℕ) → k < 32 → at numbers (SCOPES + k) % 256 ≡ 3 → Spreads numbers
   pub by-first : (k h m : ℕ) → k < 32 → at numbers (SCOPES + k) % 256 ≡ 3 → h < 2 → m < 16 →
       UnionOf m (λ i j. at supports (256 * k + 16 * (4 * h + i) + j)) (at numbers (UNIONS + 64 * k + 16 * h + m))
   pub by-second : (k h m : ℕ) → k < 32 → at numbers (SCOPES + k) % 256 ≡ 3 → h < 2 → m < 16 →
@@ -88,6 +92,6 @@ pub record Indexed (p : Problem) (numbers supports tables : List ℕ) : Type 0 w
   pub supported : Supports p supports
   pub linked : Linked p numbers
   pub rowed : Rows p tables
-  pub worded : Words numbers supports
+  pub worded : at numbers VALUES < 9 → Words numbers supports
   pub looks : Looks p numbers
   pub imageTables : ImageTables p tables

@@ -1,6 +1,6 @@
 -- All tables, one kind after another. Assumes nothing.
 use Rattle.model.specs.Kit.{_∙_, needs}
-use Rattle.arrays_tables.proofs.Assembled.{bounds, link-bounds, looks-bounds, spreads-long, unions-long, unions-bounds, made}
+use Rattle.arrays_tables.proofs.Assembled.{bounds, link-bounds, looks-bounds, lanes-long, lanes-bounds, made}
 use Rattle.arrays_tables.proofs.index.Statement.{statement}
 use Rattle.arrays_tables.proofs.index.Tie as tie
 
@@ -17,31 +17,25 @@ looks-requires : tie.Need-looks-requires
 looks-requires c κs = looks-bounds _ _ _ _ _ (c .before .before .before .before .before .before .before .before .before .pre .1) _
     (c .before .before .before .before .before .before .before .linked .ensures) _
 
-spreads-requires : tie.Need-spreads-requires
-spreads-requires c κs = spreads-long _ _ _ _ _ (c .before .before .before .before .before .before .before .before .before .before .before .pre .1) _
+by-lanes-requires : tie.Need-by-lanes-requires
+by-lanes-requires c κs = lanes-long _ _ _ _ _ (c .before .before .before .before .before .before .before .before .before .before .before .pre .1) _
     (c .before .before .before .before .before .before .before .before .before .linked .ensures) _ (c .before .looks .ensures)
-
-unions-requires : tie.Need-unions-requires
-unions-requires c κs =
-    let c10 = c .before .before .before .before .before .before .before .before .before .before in
-    unions-long _ _ _ _ _ (c10 .before .before .before .pre .1) _ (c10 .before .linked .ensures) _ (c .before .before .before .looks .ensures) (c .before .spreads .ensures)
 
 image-tables-requires : tie.Need-image-tables-requires
 image-tables-requires c κs =
-    let c10 = c .before .before .before .before .before .before .before .before .before .before in
-    let q = c10 .before .before .before .before .before .before .pre in let b = unions-bounds _ _ _ _ _ (q .1) _ (c10 .before .before .before .before .linked .ensures) _
-    (c .before .before .before .before .before .before .looks .ensures) (c .before .before .before .before .spreads .ensures) (c .before .before .unions .ensures) in
-    (b .0, b .1, c10 .before .rows .ensures .0 ∙ q .1 .tables-length)
+    let c9 = c .before .before .before .before .before .before .before .before .before in
+    let q = c9 .before .before .before .before .before .pre in
+    let b = lanes-bounds _ _ _ _ _ (q .1) _ (c9 .before .before .before .linked .ensures) _ (c .before .before .before .before .looks .ensures) (c .before .before .by-lanes .ensures) in
+    (b .0, b .1, c9 .rows .ensures .0 ∙ q .1 .tables-length)
 
 returns : tie.Need-returns
 returns c =
     let c10 = c .before .before .before .before .before .before .before .before .before .before in
-    λ p q. made p _ _ _ _ q _ (c10 .before .before .before .before .before .linked .ensures) _ (c10 .before .before .rows .ensures) _
-    (c .before .before .before .before .before .before .before .before .before .loose .ensures) _ (c .before .before .before .before .before .before .before .looks .ensures) _
-    (c .before .before .before .before .before .spreads .ensures) _ (c .before .before .before .unions .ensures) _ (c .image-tables .ensures)
+    λ p q. made p _ _ _ _ q _ (c10 .before .before .before .linked .ensures) _ (c10 .rows .ensures) _ (c .before .before .before .before .before .before .before .loose .ensures) _
+    (c .before .before .before .before .before .looks .ensures) _ (c .before .before .before .by-lanes .ensures) _ (c .image-tables .ensures)
 
 pub index-spec : {M : Type 1} → statement M
 index-spec =
     tie.close
     (tie.spec
-    linked-requires rows-requires loose-requires (λ c. search needs) looks-requires spreads-requires unions-requires image-tables-requires returns)
+    linked-requires rows-requires loose-requires (λ c. search needs) looks-requires by-lanes-requires image-tables-requires returns)

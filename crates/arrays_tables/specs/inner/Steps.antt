@@ -3,8 +3,8 @@
 use Rattle.model.specs.Kit.{_≡_, Bool, true, false, List, [], _∷_, ℕ, _+_, _*_, _/_, _%_, _^_, _≤_, _<_, T, eqb, ltb, leb, length, set}
 use Rattle.model.specs.{Lists.any, Lists.at, Lists.keep, Lists.same, Lists.either, ValueSets.has, ValueSets.maskOf, ValueSets.members, Problem.Problem, Problem.constraintAt}
 use Rattle.model.specs.WellFormed.{WellFormed}
-use Rattle.arrays.specs.inner.Places.{INITIAL, SCOPES, VARIABLES, CONSTRAINTS, LINKED, LOOSE, UNIONS, SMALLER, OWN}
-use Rattle.arrays.specs.{inner.Layout.Numbers, inner.Layout.Supports, inner.Tables.linkOf, inner.Tables.Linked}
+use Rattle.arrays.specs.inner.Places.{INITIAL, SCOPES, VARIABLES, VALUES, CONSTRAINTS, LINKED, LOOSE, SPREAD, UNIONS, SMALLER, OWN}
+use Rattle.arrays.specs.{inner.Layout.Numbers, inner.Layout.Supports, inner.Tables.linkOf, inner.Tables.Linked, inner.Tables.Words}
 
 -- the initial set of variable x
 abbrev pub initialOf : List ℕ → ℕ → ℕ
@@ -31,16 +31,23 @@ pub record Unioned (supports : List ℕ) (k h m r : ℕ) : Type 0 where
   pub made : (n : ℕ) → n < 16 → Word supports k n (at words n)
   pub union : United m (λ i. at words (4 * h + i)) r
 
--- the unions are stored of the first i constraints, where they are on three variables, and the numbers before UNIONS are as they were
-pub record Unions (supports : List ℕ) (i : ℕ) (old new : List ℕ) : Type 0 where
+-- the unions are stored of the first i constraints, where they are on three variables, and `some` is not 0 if one is; the numbers before UNIONS are as they were
+pub record Unions (supports : List ℕ) (i : ℕ) (old new : List ℕ) (some : ℕ) : Type 0 where
   pub size : length new ≡ length old
   pub here : (k : ℕ) → k < i → at old (SCOPES + k) % 256 ≡ 3 → (c : ℕ) → c < 64 → Unioned supports k (c / 16) (c % 16) (at new (UNIONS + 64 * k + c))
+  pub told : (k : ℕ) → k < i → at old (SCOPES + k) % 256 ≡ 3 → 0 < some
   pub kept : (j : ℕ) → j < UNIONS → at new j ≡ at old j
 
 -- all of the lanes of b, in no more bits than it needs
 pub record Spread (b r : ℕ) : Type 0 where
   pub lanes : (j w : ℕ) → w < 8 → has r (8 * j + w) ≡ has b j
   pub few : (k : ℕ) → b < 2 ^ k → r < 2 ^ (8 * k)
+
+-- the numbers of lanes are as Words has them, where there are fewer than nine values, and the numbers before SPREAD are as they were
+pub record Worded (supports old new : List ℕ) : Type 0 where
+  pub size : length new ≡ length old
+  pub kept : (j : ℕ) → j < SPREAD → at new j ≡ at old j
+  pub words : at new VALUES < 9 → Words new supports
 
 -- ---- image tables
 -- the values w of y such that 16 y + w is the image of a smaller value of m

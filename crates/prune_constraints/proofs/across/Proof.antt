@@ -1,13 +1,18 @@
 -- The first two sets each along the lanes by its variable, the third along those by the second. Assumes nothing.
 use Rattle.model.specs.Kit.{refl, subst, List, ℕ, _<_, arith, needs}
 use Rattle.model.specs.Lists.{at}
-use Rattle.arrays.specs.inner.Tables.{Words}
+use Rattle.arrays.specs.inner.Tables.{Spreads, Words}
 use Rattle.prune_constraints.specs.inner.Lanes.{LaneUnion, InLanes}
 use Rattle.prune_constraints.proofs.{Scopes.of-three, Unions.of-first, Unions.of-second, Unions.union-both, Stores.three-same, across.Statement.statement}
 use Rattle.prune_constraints.proofs.across.Tie as tie
 
 inside : (c : tie.Start) → (c .args .x < 16) × (c .args .y < 16) × (c .args .z < 16)
 inside c = of-three refl (c .pre .1 .0 .4 .inside)
+
+-- the lanes of each set
+spread : (c : tie.Start) → Spreads (c .args .numbers .now)
+unfolding at
+spread c = let q = c .pre .1 .0 in q .1 .spread _ (q .4 .room) (q .2)
 
 -- the lanes by the first variable
 first-lanes : (c : tie.After-in-lanes) → let d = c .before .before .before .before .args in (su : List ℕ) → Words (d .numbers .now) su → InLanes (at (d .sets .now) (d .y))
@@ -42,19 +47,19 @@ element-copy-out-t17-3 c = inside (c .before .before) .2
 
 in-lanes-requires : tie.Need-in-lanes-requires
 unfolding at
-in-lanes-requires c κs = let d = c .before .before .before in let h = d .pre .1 .1 .1 in (omega (arith, d .pre .1 .0 .4 .room), ((h .1, h .0, h .2), (_, d .pre .1 .0 .1)))
+in-lanes-requires c κs = let d = c .before .before .before in let h = d .pre .1 .1 .1 in (omega (arith, d .pre .1 .0 .4 .room), ((h .1, h .0, h .2), spread d))
 
 in-lanes-requires-2 : tie.Need-in-lanes-requires-2
 unfolding at
-in-lanes-requires-2 c κs = let d = c .before .before .before .before in (omega (arith, d .pre .1 .0 .4 .room), (d .pre .1 .1 .1, (_, d .pre .1 .0 .1)))
+in-lanes-requires-2 c κs = let d = c .before .before .before .before in (omega (arith, d .pre .1 .0 .4 .room), (d .pre .1 .1 .1, spread d))
 
 fills-requires : tie.Need-fills-requires
 unfolding at
-fills-requires c κs = let d = c .before .before .before .before .before .before in (d .pre .1 .1 .1 .0, (_, d .pre .1 .0 .1))
+fills-requires c κs = let d = c .before .before .before .before .before .before in (d .pre .1 .1 .1 .0, spread d)
 
 fills-requires-2 : tie.Need-fills-requires-2
 unfolding at
-fills-requires-2 c κs = let d = c .before .before .before .before .before .before .before .before in (d .pre .1 .1 .1 .1, (_, d .pre .1 .0 .1))
+fills-requires-2 c κs = let d = c .before .before .before .before .before .before .before .before in (d .pre .1 .1 .1 .1, spread d)
 
 returns : tie.Need-returns
 unfolding at

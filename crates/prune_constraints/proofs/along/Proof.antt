@@ -1,13 +1,18 @@
 -- Both ways along the lanes by the second variable. Assumes nothing.
 use Rattle.model.specs.Kit.{refl, List, ℕ, _<_, arith, needs}
 use Rattle.model.specs.Lists.{at}
-use Rattle.arrays.specs.inner.Tables.{Words}
+use Rattle.arrays.specs.inner.Tables.{Spreads, Words}
 use Rattle.prune_constraints.specs.inner.Lanes.{InLanes}
 use Rattle.prune_constraints.proofs.{Scopes.of-three, Unions.of-first, OneWord.along-dead, OneWord.along-same, OneWord.along-cut, along.Statement.statement}
 use Rattle.prune_constraints.proofs.along.Tie as tie
 
 inside : (c : tie.Start) → (c .args .x < 16) × (c .args .y < 16) × (c .args .z < 16)
 inside c = of-three refl (c .pre .1 .0 .4 .inside)
+
+-- the lanes of each set
+spread : (c : tie.Start) → Spreads (c .args .numbers .now)
+unfolding at
+spread c = let q = c .pre .1 .0 in q .1 .spread _ (q .4 .room) (q .2)
 
 -- the lanes
 lanes : (c : tie.After-in-lanes) → let d = c .before .before .before .before .args in (su : List ℕ) → Words (d .numbers .now) su → InLanes (at (d .sets .now) (d .x)) (at (d .sets .now) (d .y))
@@ -35,7 +40,7 @@ element-copy-out-t16-3 c = inside (c .before .before) .2
 
 in-lanes-requires : tie.Need-in-lanes-requires
 unfolding at
-in-lanes-requires c κs = let d = c .before .before .before in (omega (arith, d .pre .1 .0 .4 .room), (d .pre .1 .1 .1, (_, d .pre .1 .0 .1)))
+in-lanes-requires c κs = let d = c .before .before .before in (omega (arith, d .pre .1 .0 .4 .room), (d .pre .1 .1 .1, spread d))
 
 returns : tie.Need-returns
 unfolding at
@@ -43,7 +48,7 @@ returns c = let d = c .before .before .before .before .before in λ e su w q. al
 
 fills-requires : tie.Need-fills-requires
 unfolding at
-fills-requires c κs = let d = c .before .before .before .before .before .before .before .before .before in (d .pre .1 .1 .1 .1, (_, d .pre .1 .0 .1))
+fills-requires c κs = let d = c .before .before .before .before .before .before .before .before .before in (d .pre .1 .1 .1 .1, spread d)
 
 returns-2 : tie.Need-returns-2
 unfolding at

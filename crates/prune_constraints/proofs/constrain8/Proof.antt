@@ -35,7 +35,7 @@ cast-revise8 c = omega (arith, few (c .before))
 
 revise8-requires : tie.Need-revise8-requires Inv-loop μ-loop
 revise8-requires c κs = let w = c .before .before .before .pre .1 .1 in let i = c .before .before .loop .inv _ w in let o = choice (c .before) in
-    (i .sixteen, (_, i .held, k-lt i o, k-full i o, k-narrow i o w (c .before .before .before .pre .0)))
+    (i .sixteen, (_, i .held, k-lt i o, k-full i o, k-narrow i o w (c .before .before .before .pre .0), c .before .before .before .pre .0))
 
 returns-2 : tie.Need-returns-2 Inv-loop μ-loop
 returns-2 c = let o = choice (c .before .before .before) in λ p w. let i = c .before .before .before .before .loop .inv p w in constrained-dead i o

@@ -6,7 +6,7 @@ use Rattle.prune_constraints.proofs.fills.Tie as tie
 
 returns : tie.Need-returns
 unfolding at
-returns c = let d = c .before .before .before in λ q. lanes-of _ (search needs) (λ j w. d .pre .1 .1 .spread _ j w (search needs)) (c .before .before .heads .ensures) (eqb-true _ _ q)
+returns c = let d = c .before .before .before in λ q. lanes-of _ (search needs) (λ j w. d .pre .1 _ j w (search needs)) (c .before .before .heads .ensures) (eqb-true _ _ q)
 
 pub fills-spec : {M : Type 1} → statement M
 fills-spec =

@@ -24,7 +24,7 @@ element-copy-out-lower c = omega (arith, low (c .before))
 returns : tie.Need-returns
 unfolding at
 returns c = let d = c .before .before .before .before .before .before .before in let h = d .pre .1 .0 in lanes-in (d .args .numbers .now) (d .args .base) _ _ _ _ (h .0) (h .1) (h .2)
-    (λ j w. d .pre .1 .1 .1 .spread _ j w (h .1))
+    (λ j w. d .pre .1 .1 _ j w (h .1))
 
 pub in-lanes-spec : {M : Type 1} → statement M
 in-lanes-spec =

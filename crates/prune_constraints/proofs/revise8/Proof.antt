@@ -58,23 +58,27 @@ along-requires c κs = let d = c .before .before .before .before .before .before
     (c .before .before .before .before .before .before .before .before .before) in (
       d .pre .0,
       (
-        (_, d .pre .1 .1 .worded, c .before .before .before .before .before .before .before .before .before .if1 .left, _, s),
+        (_, d .pre .1 .1 .worded (d .pre .1 .5), c .before .before .before .before .before .before .before .before .before .if1 .left, _, s),
         (one (c .before .before .before .before), of-three (s .is) (d .pre .1 .4)),
       ),
     )
 
 returns-3 : tie.Need-returns-3
 unfolding at
-returns-3 c = λ p g h. c .along .ensures _ _ (g .worded) (scoped-3 g _ h (c .before .before .before .before .before .before .before .before .before .before .if1 .left))
+returns-3 c =
+    let i = c .before .before .before .before .before .before .before .before .before .before in
+    λ p g h. c .along .ensures _ _ (g .worded (i .before .before .pre .1 .5)) (scoped-3 g _ h (i .if1 .left))
 
 across-requires : tie.Need-across-requires
 unfolding at
 across-requires c κs = let d = c .before .before .before .before .before .before .before .before in let s = three (c .before .before .before .before .before .before) in
-    (d .pre .0, ((_, d .pre .1 .1 .worded, c .before .before .before .before .before .before .if1 .left, _, s), (of-three (s .is) (d .pre .1 .3) .2, of-three (s .is) (d .pre .1 .4))))
+    (d .pre .0, ((_, d .pre .1 .1 .worded (d .pre .1 .5), c .before .before .before .before .before .before .if1 .left, _, s), (of-three (s .is) (d .pre .1 .3) .2, of-three (s .is) (d .pre .1 .4))))
 
 returns-4 : tie.Need-returns-4
 unfolding at
-returns-4 c = λ p g h. c .across .ensures _ _ (g .worded) (scoped-3 g _ h (c .before .before .before .before .before .before .before .if1 .left))
+returns-4 c =
+    let i = c .before .before .before .before .before .before .before in
+    λ p g h. c .across .ensures _ _ (g .worded (i .before .before .pre .1 .5)) (scoped-3 g _ h (i .if1 .left))
 
 pub revise8-spec : {M : Type 1} → statement M
 revise8-spec =

@@ -4,7 +4,7 @@ use Rattle.model.specs.Kit.{_≡_, false, not, List, List·Memᴰ, ℕ, _≤_, 
 use Rattle.model.specs.{Lists.both, Lists.at, Lists.tabulate, ValueSets.has, ValueSets.maskOf, ValueSets.Inside, Problem.Problem, Problem.Constraint, Problem.constraintAt}
 use Rattle.model.specs.{Search.supported, inner.Pruning.Sets, WellFormed.WellFormed}
 use Rattle.model.proofs.Sets.{size}
-use Rattle.arrays.specs.{inner.Places.DEAD, inner.Layout.Numbers, inner.Layout.Supports, inner.Tables.Linked, inner.Tables.Words, inner.Tables.byRows, inner.Pruning.Given}
+use Rattle.arrays.specs.{inner.Places.VALUES, inner.Places.DEAD, inner.Layout.Numbers, inner.Layout.Supports, inner.Tables.Linked, inner.Tables.Words, inner.Tables.byRows, inner.Pruning.Given}
 use Rattle.arrays.specs.inner.Pruning.{Lessened, Ended, Fixed, setsOf}
 
 -- for each variable the values of its set that have a row of the constraint inside the sets
@@ -27,7 +27,7 @@ pub record ConstraintsPending (p : Problem) (numbers supports sets : List ℕ) (
   pub numbered : Numbers p numbers
   pub tabled : Supports p supports
   pub linked : Linked p numbers
-  pub worded : Words numbers supports
+  pub worded : at numbers VALUES < 9 → Words numbers supports
   pub constraints : length (p .constraints) ≤ 32
   pub known : (k : ℕ) → T (has todo k) → k < length (p .constraints)
   pub others : (k : ℕ) → k < length (p .constraints) → has todo k ≡ false → byRows p k ≡ false → Fixed (setsOf p sets) (constraintAt p k)
