@@ -5,7 +5,8 @@ use crate::lent::{drawn, Lent};
 use crate::run::{node_limit, room};
 use crate::tally::{code, Guarded, Tally, WRONG_SIZE};
 use oracle::lent::run_lent;
-use oracle::parts::{join, paths, run_part, Range, END, HEAD_BYTES};
+use oracle::parts::{head, join, Range, Tree, END, HEAD_BYTES};
+use oracle::Refusal;
 use planner_sys::{planner_join, planner_run_part};
 use sheets::Rng;
 use std::fs;
@@ -15,7 +16,7 @@ use std::path::Path;
 const JOIN_BYTES: usize = 152;
 /// Room for every plan of the trees that are cut.
 const ROOM: usize = 12 * 4096;
-/// Trees with more trials are not cut: the oracle draws the whole tree for each part.
+/// Trees with more trials are not cut.
 const MOST_TRIALS: usize = 400;
 
 impl Lent {
@@ -33,32 +34,50 @@ impl Lent {
     }
 }
 
+/// What is lent, and the oracle's tree of it.
+pub struct Grown {
+    pub lent: Lent,
+    pub tree: Result<Tree, Refusal>,
+}
+
+impl Grown {
+    pub fn new(lent: Lent) -> Grown {
+        let tree = Tree::new(&lent.sheet, &lent.pairs, &lent.block);
+        Grown { lent, tree }
+    }
+
+    /// The paths of all trials; a sheet that is refused has none.
+    pub fn paths(&self) -> Vec<Vec<u8>> {
+        self.tree.iter().flat_map(|tree| &tree.trials).map(|trial| trial.path.clone()).collect()
+    }
+}
+
 pub fn case(rng: &mut Rng, tally: &mut Tally) {
     let (lent, places) = drawn(rng);
-    let tree = paths(&lent.sheet, &lent.pairs, &lent.block);
-    tally.answer(&tree);
-    let tree = tree.unwrap_or_default();
-    if tree.len() > MOST_TRIALS {
+    let grown = Grown::new(lent);
+    tally.answer(&grown.tree);
+    let paths = grown.paths();
+    if paths.len() > MOST_TRIALS {
         return;
     }
-    let (from, upto) = (path(rng, &tree), path(rng, &tree));
-    let limit = node_limit(rng, tree.len() as u32);
+    let (from, upto) = (path(rng, &paths), path(rng, &paths));
+    let limit = node_limit(rng, paths.len() as u32);
     let room = room(rng, 3 * places);
-    part(&lent, Range { from: &from, upto: &upto, node_limit: limit }, room, rng, tally);
+    part(&grown, Range { from: &from, upto: &upto, node_limit: limit }, room, rng, tally);
     if rng.chance(10) {
-        wrong_size(&lent, rng, tally);
+        wrong_size(&grown.lent, rng, tally);
     }
-    if !tree.is_empty() {
-        let all = cuts(rng, &tree);
-        whole(&lent, &all, rng, tally);
-        let other = cuts(rng, &tree);
-        mixed(&lent, &all, &other, rng, tally);
+    if !paths.is_empty() {
+        let all = cuts(rng, &paths);
+        whole(&grown, &all, rng, tally);
+        let other = cuts(rng, &paths);
+        mixed(&grown, &all, &other, rng, tally);
     }
 }
 
 /// A path: a trial, the front of one, one that goes on behind it, or any bytes; none, or the last.
-fn path(rng: &mut Rng, tree: &[Vec<u8>]) -> Vec<u8> {
-    let trial = if tree.is_empty() { Vec::new() } else { rng.pick(tree) };
+pub fn path(rng: &mut Rng, paths: &[Vec<u8>]) -> Vec<u8> {
+    let trial = if paths.is_empty() { Vec::new() } else { rng.pick(paths) };
     match rng.below(6) {
         0 => Vec::new(),
         1 => END.to_vec(),
@@ -70,38 +89,40 @@ fn path(rng: &mut Rng, tree: &[Vec<u8>]) -> Vec<u8> {
 }
 
 /// Some cuts in order, the last path behind them.
-fn cuts(rng: &mut Rng, tree: &[Vec<u8>]) -> Vec<Vec<u8>> {
-    let mut cuts: Vec<Vec<u8>> = (0..rng.below(5)).map(|_| path(rng, tree)).collect();
+pub fn cuts(rng: &mut Rng, paths: &[Vec<u8>]) -> Vec<Vec<u8>> {
+    let mut cuts: Vec<Vec<u8>> = (0..rng.below(5)).map(|_| path(rng, paths)).collect();
     cuts.sort();
     cuts.push(END.to_vec());
     cuts
 }
 
 /// Compares one part with the oracle: the status, and every byte lent. The head, if there is one.
-fn part(lent: &Lent, range: Range, room: usize, rng: &mut Rng, tally: &mut Tally) -> Option<Vec<u8>> {
+pub fn part(grown: &Grown, range: Range, room: usize, rng: &mut Rng, tally: &mut Tally) -> Option<Vec<u8>> {
+    let lent = &grown.lent;
     let mut list = Guarded::new(room, rng.word() as u8);
     let mut answer = Guarded::new(HEAD_BYTES, rng.word() as u8);
     let (mut expected_list, mut expected_answer) = (list.clone(), answer.clone());
-    let expected = run_part(&lent.sheet, &lent.pairs, &lent.block, range, expected_list.lent());
-    if let Ok(head) = expected {
+    if let Ok(tree) = &grown.tree {
+        let walked = tree.walk(range, expected_list.lent());
+        let head = head(&lent.sheet, &lent.pairs, &lent.block, range, &walked);
         expected_answer.lent().copy_from_slice(&head);
     }
     let (after, ends) = (lent.clone(), [range.from.to_vec(), range.upto.to_vec()]);
     let lent_range = Range { from: &ends[0], upto: &ends[1], node_limit: range.node_limit };
     let status = after.run_part(lent_range, list.lent(), answer.lent());
-    tally.same("status of a part", status, code(&expected), &lent.bytes());
+    tally.same("status of a part", status, code(&grown.tree), &lent.bytes());
     tally.same("head", &answer.bytes, &expected_answer.bytes, &lent.bytes());
     tally.same("list after a part", &list.bytes, &expected_list.bytes, &lent.bytes());
     tally.same("sheet, pairs and block after", &after, lent, &lent.bytes());
     tally.same("paths after", &ends[..], &[range.from.to_vec(), range.upto.to_vec()][..], &lent.bytes());
-    expected.is_ok().then(|| answer.lent().to_vec())
+    grown.tree.is_ok().then(|| answer.lent().to_vec())
 }
 
 /// Cuts a tree, runs each range in one piece or in spent parts, and joins the heads: shuffled and repeated they are the run; with one missing and damaged
 /// as the oracle says.
-fn whole(lent: &Lent, cuts: &[Vec<u8>], rng: &mut Rng, tally: &mut Tally) {
-    let mut heads = of_cuts(lent, cuts, rng, tally);
-    the_run(lent, &heads, rng, tally);
+pub fn whole(grown: &Grown, cuts: &[Vec<u8>], rng: &mut Rng, tally: &mut Tally) {
+    let mut heads = of_cuts(grown, cuts, rng, tally);
+    the_run(&grown.lent, &heads, rng, tally);
     for _ in 0..rng.below(3) {
         heads.push(rng.pick(&heads));
     }
@@ -113,25 +134,25 @@ fn whole(lent: &Lent, cuts: &[Vec<u8>], rng: &mut Rng, tally: &mut Tally) {
 
 /// The heads of two cuts of one tree, shuffled: one whole and the other with a head missing are the run; with a head of each missing they are what the
 /// oracle says.
-fn mixed(lent: &Lent, cuts: &[Vec<u8>], other: &[Vec<u8>], rng: &mut Rng, tally: &mut Tally) {
-    let (whole, other) = (of_cuts(lent, cuts, rng, tally), of_cuts(lent, other, rng, tally));
+fn mixed(grown: &Grown, cuts: &[Vec<u8>], other: &[Vec<u8>], rng: &mut Rng, tally: &mut Tally) {
+    let (whole, other) = (of_cuts(grown, cuts, rng, tally), of_cuts(grown, other, rng, tally));
     let other = without_one(&other, rng);
     let mut heads = [&whole[..], &other].concat();
     shuffle(&mut heads, rng);
-    the_run(lent, &heads, rng, tally);
+    the_run(&grown.lent, &heads, rng, tally);
     let mut heads = [without_one(&whole, rng), other].concat();
     shuffle(&mut heads, rng);
     joined(&heads.concat(), rng, tally);
 }
 
 /// The heads of the ranges between cuts, each range in one piece or in spent parts.
-fn of_cuts(lent: &Lent, cuts: &[Vec<u8>], rng: &mut Rng, tally: &mut Tally) -> Vec<Vec<u8>> {
+fn of_cuts(grown: &Grown, cuts: &[Vec<u8>], rng: &mut Rng, tally: &mut Tally) -> Vec<Vec<u8>> {
     let mut heads = Vec::new();
     let mut from: &[u8] = &[];
     for upto in cuts {
         let some = 1 + rng.below(20) as u32;
         let limit = rng.pick(&[u32::MAX, some]);
-        heads.extend(pieces(lent, from, upto, limit, rng, tally));
+        heads.extend(pieces(grown, from, upto, limit, rng, tally));
         from = upto;
     }
     heads
@@ -161,7 +182,7 @@ fn without_one(heads: &[Vec<u8>], rng: &mut Rng) -> Vec<Vec<u8>> {
 
 /// The heads of a range that is run with a limit, gone on with from where each part stands until it is finished.
 fn pieces(
-    lent: &Lent,
+    grown: &Grown,
     from: &[u8],
     upto: &[u8],
     limit: u32,
@@ -169,7 +190,7 @@ fn pieces(
     tally: &mut Tally,
 ) -> Vec<Vec<u8>> {
     let (mut heads, mut from) = (Vec::new(), from.to_vec());
-    while let Some(head) = part(lent, Range { from: &from, upto, node_limit: limit }, ROOM, rng, tally) {
+    while let Some(head) = part(grown, Range { from: &from, upto, node_limit: limit }, ROOM, rng, tally) {
         let (spent, last) = (head[0] == 2, head[103..103 + usize::from(head[102])].to_vec());
         heads.push(head);
         if !spent {
@@ -243,29 +264,30 @@ pub fn examples(tally: &mut Tally) {
         let sheet = fs::read(folder.join(name)).expect("a stored sheet");
         for pairs in [&[][..], &[1, 0]] {
             let lent = Lent { sheet: sheet.clone(), pairs: pairs.to_vec(), block: Vec::new() };
-            every_cut(&lent, name, tally);
+            every_cut(&Grown::new(lent), name, tally);
         }
-        most_heads(&Lent { sheet, pairs: Vec::new(), block: Vec::new() }, name, tally);
+        most_heads(&Grown::new(Lent { sheet, pairs: Vec::new(), block: Vec::new() }), name, tally);
     }
 }
 
 /// As many heads as are allowed, and one more: copies of one that reaches nothing.
-fn most_heads(lent: &Lent, name: &str, tally: &mut Tally) {
+fn most_heads(grown: &Grown, name: &str, tally: &mut Tally) {
     let mut rng = Rng::new(1);
     tally.case = format!("part parts, {name}, 65,536 heads and one more");
     let range = Range { from: &[], upto: &END, node_limit: 0 };
-    let head = part(lent, range, ROOM, &mut rng, tally).expect("a head");
+    let head = part(grown, range, ROOM, &mut rng, tally).expect("a head");
     joined(&head.repeat(65_536), &mut rng, tally);
     joined(&head.repeat(65_537), &mut rng, tally);
 }
 
-fn every_cut(lent: &Lent, name: &str, tally: &mut Tally) {
-    let tree = paths(&lent.sheet, &lent.pairs, &lent.block).expect("an accepted sheet");
+fn every_cut(grown: &Grown, name: &str, tally: &mut Tally) {
+    let paths = grown.paths();
     let mut rng = Rng::new(1);
-    for (i, first) in tree.iter().enumerate() {
-        for second in tree[i..].iter().step_by(1 + tree.len() / 40) {
-            tally.case = format!("part parts, {name}, pairs {:?}, cuts {first:?} {second:?}", lent.pairs);
-            whole(lent, &[first.clone(), second.clone(), END.to_vec()], &mut rng, tally);
+    for (i, first) in paths.iter().enumerate() {
+        for second in paths[i..].iter().step_by(1 + paths.len() / 40) {
+            tally.case =
+                format!("part parts, {name}, pairs {:?}, cuts {first:?} {second:?}", grown.lent.pairs);
+            whole(grown, &[first.clone(), second.clone(), END.to_vec()], &mut rng, tally);
         }
     }
 }

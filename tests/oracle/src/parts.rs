@@ -1,8 +1,8 @@
 //! A run in parts: the trials of the tree that come after one path and not after another, walked along with a limit and a list of their own,
 //! and the heads of parts joined. Paths are compared as words in a dictionary are: the front of a word comes before it.
 
-use crate::lent::{question_lent, sets_at, trials_below};
-use crate::{Ending, Outcome, Problem, Refusal};
+use crate::lent::{question_lent, sets_at, trials_below, Tallied};
+use crate::{Ending, Outcome, Refusal};
 use std::cmp::Reverse;
 use std::collections::HashSet;
 
@@ -19,72 +19,79 @@ pub struct Range<'a> {
 }
 
 /// A trial, and whether it finds a plan.
-struct Trial {
-    path: Vec<u8>,
-    plan: bool,
+pub struct Trial {
+    pub path: Vec<u8>,
+    pub plan: bool,
 }
 
-/// All trials of the tree in the order in which they are due.
-fn trials(problem: &Problem, order: &[usize]) -> Vec<Trial> {
-    let (mut all, mut due) = (Vec::new(), trials_below(problem, order, &[]));
-    while let Some(prefix) = due.pop() {
-        let settled = prefix.len() == order.len();
-        let plan = settled && sets_at(problem, order, &prefix).is_some();
-        all.push(Trial { path: prefix.iter().map(|&value| value as u8).collect(), plan });
-        if !settled {
-            due.extend(trials_below(problem, order, &prefix));
+/// All trials in the order in which they are due, drawn once for many runs.
+pub struct Tree {
+    order: Vec<usize>,
+    pub trials: Vec<Trial>,
+}
+
+/// A run along the trials of a range, and its last trial or the range's first path.
+pub struct Walked {
+    pub tallied: Tallied,
+    last: Vec<u8>,
+}
+
+impl Tree {
+    pub fn new(sheet: &[u8], pairs: &[u8], block: &[u8]) -> Result<Tree, Refusal> {
+        let (problem, order) = question_lent(sheet, pairs, block)?;
+        let (mut trials, mut due) = (Vec::new(), trials_below(&problem, &order, &[]));
+        while let Some(prefix) = due.pop() {
+            let settled = prefix.len() == order.len();
+            let plan = settled && sets_at(&problem, &order, &prefix).is_some();
+            trials.push(Trial { path: prefix.iter().map(|&value| value as u8).collect(), plan });
+            if !settled {
+                due.extend(trials_below(&problem, &order, &prefix));
+            }
         }
+        Ok(Tree { order, trials })
     }
-    all
-}
 
-/// The paths of all trials.
-pub fn paths(sheet: &[u8], pairs: &[u8], block: &[u8]) -> Result<Vec<Vec<u8>>, Refusal> {
-    let (problem, order) = question_lent(sheet, pairs, block)?;
-    Ok(trials(&problem, &order).into_iter().map(|trial| trial.path).collect())
-}
-
-/// A part: its head.
-pub fn run_part(
-    sheet: &[u8],
-    pairs: &[u8],
-    block: &[u8],
-    range: Range,
-    list: &mut [u8],
-) -> Result<[u8; HEAD_BYTES], Refusal> {
-    let (problem, order) = question_lent(sheet, pairs, block)?;
-    let (mut plans, mut nodes, mut counts, mut last) = (0, 0, [0; 12], range.from.to_vec());
-    let mut ending = Ending::Finished;
-    for trial in trials(&problem, &order)
-        .iter()
-        .filter(|trial| trial.path.as_slice() > range.from && trial.path.as_slice() <= range.upto)
-    {
-        if nodes == range.node_limit {
-            ending = Ending::Spent;
-            break;
+    pub fn walk(&self, range: Range, list: &mut [u8]) -> Walked {
+        let (mut plans, mut nodes, mut counts, mut last) = (0, 0, [0; 12], range.from);
+        let mut ending = Ending::Finished;
+        for trial in self
+            .trials
+            .iter()
+            .filter(|trial| trial.path.as_slice() > range.from && trial.path.as_slice() <= range.upto)
+        {
+            if nodes == range.node_limit {
+                ending = Ending::Spent;
+                break;
+            }
+            nodes += 1;
+            counts[self.order[trial.path.len() - 1]] += 1;
+            last = &trial.path;
+            if !trial.plan {
+                continue;
+            }
+            let Some(row) = list.chunks_exact_mut(self.order.len()).nth(plans as usize) else {
+                ending = Ending::Full;
+                break;
+            };
+            for (&place, &value) in self.order.iter().zip(&trial.path) {
+                row[place] = value;
+            }
+            plans += 1;
         }
-        nodes += 1;
-        counts[order[trial.path.len() - 1]] += 1;
-        last = trial.path.clone();
-        if !trial.plan {
-            continue;
-        }
-        let Some(row) = list.chunks_exact_mut(order.len()).nth(plans as usize) else {
-            ending = Ending::Full;
-            break;
-        };
-        for (&place, &value) in order.iter().zip(&trial.path) {
-            row[place] = value;
-        }
-        plans += 1;
+        Walked { tallied: Tallied { outcome: Outcome { ending, plans, nodes }, counts }, last: last.to_vec() }
     }
+}
+
+/// The head of a part.
+pub fn head(sheet: &[u8], pairs: &[u8], block: &[u8], range: Range, walked: &Walked) -> [u8; HEAD_BYTES] {
+    let Outcome { ending, plans, nodes } = walked.tallied.outcome;
     let name = [digest(sheet, 1000003), digest(sheet, 65599), digest(pairs, 1000003), digest(block, 1000003)];
-    let numbers = [&[kind(ending), plans, nodes][..], &counts, &name].concat();
+    let numbers = [&[kind(ending), plans, nodes][..], &walked.tallied.counts, &name].concat();
     let mut head: Vec<u8> = numbers.into_iter().flat_map(u32::to_le_bytes).collect();
-    for path in [range.from, range.upto, &last] {
+    for path in [range.from, range.upto, &walked.last] {
         head.extend(path_bytes(path));
     }
-    Ok(head.try_into().expect("115 bytes"))
+    head.try_into().expect("115 bytes")
 }
 
 fn kind(ending: Ending) -> u32 {
