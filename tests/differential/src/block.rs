@@ -54,13 +54,13 @@ fn free(places: usize, values: usize) -> Problem {
     Problem { variables: places, values, initial, constraints: Vec::new(), symmetries: Vec::new() }
 }
 
-fn different(places: [usize; 2], values: usize) -> Constraint {
+pub fn different(places: [usize; 2], values: usize) -> Constraint {
     let rows = (0..values * values).map(|number| vec![number / values, number % values]);
     Constraint { scope: places.to_vec(), rows: rows.filter(|row| row[0] != row[1]).collect() }
 }
 
 /// All places different, or the first six of more.
-fn different_hall(places: usize, values: usize) -> Problem {
+pub fn different_hall(places: usize, values: usize) -> Problem {
     let mut hall = free(places, values);
     for second in 1..places.min(6) {
         hall.constraints.extend((0..second).map(|first| different([first, second], values)));
@@ -85,7 +85,7 @@ fn joined(places: usize, block: [u8; 2]) -> Problem {
 
 /// With so many exchanges of its own: by turns of the values 0 and 1 of all places, and of nothing; in a hall that values
 /// aren't alike in, of nothing.
-fn with_exchanges(mut hall: Problem, count: usize) -> Problem {
+pub fn with_exchanges(mut hall: Problem, count: usize) -> Problem {
     let numbers = 0..hall.variables * hall.values;
     let trade = |number: usize| match number % hall.values {
         0 => number + 1,

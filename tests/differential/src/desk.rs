@@ -251,7 +251,7 @@ pub fn case(rng: &mut Rng, tally: &mut Tally) {
     let start = if rng.chance(50) { vec![0; DESK_BYTES] } else { random_bytes(&sheets, rng) };
     sequence(&start, &sheets, rng, tally);
     let percent = if rng.chance(5) { 100 } else { 5 };
-    cuts(percent, rng, tally);
+    cuts(problem(rng), percent, rng, tally);
     rounds(&start, &sheets, rng, tally);
     Visits::new().all(&sheets, rng, tally);
     if rng.chance(10) {
@@ -271,8 +271,7 @@ fn sequence(start: &[u8], sheets: &[Vec<u8>], rng: &mut Rng, tally: &mut Tally) 
 
 /// A run cut behind each of its trials, or behind so many of them, and given a turn; now and then with another path for the last trial, or
 /// with a list that is nearly full.
-fn cuts(percent: usize, rng: &mut Rng, tally: &mut Tally) {
-    let problem = problem(rng);
+pub fn cuts(problem: Problem, percent: usize, rng: &mut Rng, tally: &mut Tally) {
     let (sheet, places) = (encode(&problem), problem.variables);
     let mut hall = Hall::new(problem, u32::MAX);
     let mut pair = Pair::new(&vec![0; DESK_BYTES]);

@@ -72,7 +72,7 @@ fn limits(plans: usize, at: &[usize], last: usize, rng: &mut Rng) -> Vec<u32> {
 }
 
 /// Compares one answer with the oracle's: the status, and every byte lent.
-fn ask(
+pub fn ask(
     lent: &Lent,
     plans: u32,
     limit: u32,

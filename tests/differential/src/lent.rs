@@ -4,8 +4,8 @@
 
 use crate::run::{node_limit, room, words};
 use crate::tally::{code, Guarded, Tally, WRONG_SIZE};
-use oracle::lent::{question_lent, run_lent};
-use oracle::Problem;
+use oracle::lent::{question_lent, run_lent, Tallied};
+use oracle::{Problem, Refusal};
 use planner_sys::{planner_question_lent, planner_run, planner_run_lent};
 use sheets::{alike_problem, block, damaged, encode, pairs, problem, Rng};
 use std::fs;
@@ -75,12 +75,25 @@ pub fn question(lent: &Lent, tally: &mut Tally) {
     tally.same("sheet, pairs and block after", &after, lent, &lent.bytes());
 }
 
-/// Compares one run with the oracle: the status, and every byte lent.
+/// Compares one run with the oracle's.
 pub fn run(lent: &Lent, limit: u32, room: usize, rng: &mut Rng, tally: &mut Tally) {
+    let oracle = |list: &mut [u8]| run_lent(&lent.sheet, &lent.pairs, &lent.block, limit, list);
+    run_beside(oracle, lent, limit, room, rng, tally);
+}
+
+/// Compares one run with what the oracle makes of the list: the status, and every byte lent.
+pub fn run_beside(
+    oracle: impl FnOnce(&mut [u8]) -> Result<Tallied, Refusal>,
+    lent: &Lent,
+    limit: u32,
+    room: usize,
+    rng: &mut Rng,
+    tally: &mut Tally,
+) {
     let mut list = Guarded::new(room, rng.word() as u8);
     let mut answer = Guarded::new(ANSWER_BYTES, rng.word() as u8);
     let (mut expected_list, mut expected_answer) = (list.clone(), answer.clone());
-    let expected = run_lent(&lent.sheet, &lent.pairs, &lent.block, limit, expected_list.lent());
+    let expected = oracle(expected_list.lent());
     if let Ok(tallied) = expected {
         let numbers = [&words(tallied.outcome)[..], &tallied.counts].concat();
         let numbers: Vec<u8> = numbers.into_iter().flat_map(u32::to_le_bytes).collect();

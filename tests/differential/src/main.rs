@@ -15,6 +15,7 @@ mod lent;
 mod merge;
 mod parts;
 mod question;
+mod repeats;
 mod report;
 mod retyped;
 mod run;
@@ -33,7 +34,7 @@ use tally::{Tally, WRONG_SIZE};
 
 const PARTS: &[&str] = &[
     "question", "filter", "run", "lent", "enough", "families", "closed", "retyped", "report", "columns",
-    "merge", "store", "small", "desk", "parts",
+    "merge", "store", "small", "desk", "parts", "repeats",
 ];
 /// The refusal numbers that a part must reach.
 const REFUSALS: &[(&str, RangeInclusive<u32>)] = &[
@@ -150,6 +151,7 @@ fn test(part: &str, seed: usize, cases: usize, tally: &mut Tally) {
             "small" => small::case(&mut rng, tally),
             "desk" => desk::case(&mut rng, tally),
             "parts" => parts::case(&mut rng, tally),
+            "repeats" => repeats::case(&mut rng, tally),
             _ => report::case(seed + number, &mut rng, tally),
         }
     }
@@ -175,6 +177,9 @@ fn test(part: &str, seed: usize, cases: usize, tally: &mut Tally) {
     }
     if part == "parts" {
         parts::examples(tally);
+    }
+    if part == "repeats" {
+        repeats::examples(tally);
     }
     if part == "report" {
         report::many_plans(tally);

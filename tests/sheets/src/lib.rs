@@ -2,6 +2,7 @@
 
 pub mod damage;
 pub mod encode;
+pub mod groups;
 pub mod lists;
 pub mod pairs;
 pub mod random;
@@ -11,6 +12,7 @@ pub mod typed;
 
 pub use damage::damaged;
 pub use encode::encode;
+pub use groups::{crowd, groups};
 pub use lists::{lists, right_lists, Lists};
 pub use pairs::{block, neighbours, pairs, right_pairs};
 pub use random::{alike_problem, large_problem, problem};
