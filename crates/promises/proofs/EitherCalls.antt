@@ -15,7 +15,7 @@ use Rattle.list_merge.specs.{declared.Answer.Answer, declared.Answer.the-varian
 use Rattle.list_merge.proofs.{Asking.union-length, Claimed.holds-by, Claimed.ascends-by}
 use Rattle.run_state.specs.{declared.Tally.Tally, Meaning.endingOf, declared.Ending.Ending, declared.Ending.the-variants.Finished}
 use Rattle.run.specs.{Calls.CallLent, declared.Answer.the-variants.Ended}
-use Rattle.promises.specs.{Demands.plansFrom, EitherCalls.plansOf, EitherCalls.plansBytes, EitherCalls.InMerged, EitherCalls.Either-calls}
+use Rattle.promises.specs.{DemandsLent.plansFrom, EitherCalls.plansOf, EitherCalls.plansBytes, EitherCalls.InMerged, EitherCalls.Either-calls}
 use Rattle.promises.proofs.Demands.{demands-lent}
 use Rattle.order.proofs.Demanded as D
 use Rattle.run_input.proofs.Lent as L

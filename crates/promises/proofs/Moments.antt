@@ -5,12 +5,12 @@ use lib.Seq.{take-take}
 use Rattle.model.specs.{Lists.keep, Problem.Problem, Search.nodes, Search.isPlan, Run.Ending as Told, Run.spent, Run.full, Run.plansIn, Run.nodesIn, Run.Result, Run.search}
 use Rattle.model.specs.Run.{resultOf}
 use Rattle.model.proofs.Runs.{turn, search-turn, walk}
-use Rattle.order.specs.{Reordered.reordered, RunBy.resultBy, RunBy.placeCounts, RunBy.leadersBy, Demanded.Tallied}
+use Rattle.order.specs.{Reordered.reordered, RunBy.resultBy, RunBy.placeCounts, RunBy.leadersBy}
 use Rattle.order.proofs.Demanded.{RanBy, ran-by}
 use Rattle.run_input.specs.Lent.{problemWith, orderLent, lentInput}
 use Rattle.run.specs.{Meaning.means, declared.Answer.the-variants.Ended}
-use Rattle.run_state.specs.{Meaning.tallyIn, Meaning.endingOf, declared.Ending.Ending}
-use Rattle.promises.specs.{Demands.Demands, Demands.TallyHeld, Moments.Each-moment}
+use Rattle.run_state.specs.{Meaning.endingOf, declared.Ending.Ending}
+use Rattle.promises.specs.{Demands.Demands, Demands.Tallied, Demands.TallyHeld, DemandsLent.ofLent, Moments.Each-moment}
 use Rattle.promises.proofs.Demands.{demands-lent}
 
 -- what is said of the two walks
@@ -82,7 +82,7 @@ each-moment b pairs block limit out tally e after tally′ x k h out₂ tally₂
       ∙ ap (take (plansIn (endingOf d))) (sym (demands-lent b pairs block limit out tally (Ended e) after tally′ x .0 .at-end e refl .plans));
 }
   where
-    second : Demands (lentInput b pairs block) k out₂ r₂ after₂ × TallyHeld (lentInput b pairs block) tally₂ r₂ tally₂′
+    second : Demands (ofLent b pairs block) k out₂ r₂ after₂ × TallyHeld (ofLent b pairs block) tally₂ r₂ tally₂′
     second = demands-lent b pairs block k out₂ tally₂ r₂ after₂ tally₂′ y
 
     q : Problem
@@ -105,5 +105,5 @@ each-moment b pairs block limit out tally e after tally′ x k h out₂ tally₂
     n : nodesIn (endingOf (e₂ .0)) ≡ k
     n = made (e₂ .0) (e₂ .1) .0
 
-    t : Tallied (lentInput b pairs block) (endingOf (e₂ .0)) (tallyIn tally₂′)
+    t : Tallied (ofLent b pairs block) (e₂ .0) tally₂′
     t = second .1 .tallied (e₂ .0) (e₂ .1)

@@ -1,16 +1,17 @@
 -- What the reader of a report holds (specs/Reported), from its definition and order's theorems. Assumes nothing.
-use Rattle.model.specs.Kit.{_≡_, refl, sym, ap, ap₂, _∙_, subst, subst₂, Bool, true, false, _↔_, ⊎-elim, List, [], _∷_, _++_, map, List·Memᴰ, List·Memᴰ·head, List·Memᴰ·tail}
+use Rattle.model.specs.Kit.{_≡_, refl, sym, ap, ap₂, _∙_, subst, subst₂, Bool, true, false, ⊎-elim, List, [], _∷_, _++_, map, List·Memᴰ, List·Memᴰ·head, List·Memᴰ·tail}
 use Rattle.model.specs.Kit.{List·Memᴰ·not-nil, Memᴰ·of-map, append-assoc, ℕ, zero, suc, _+_, _*_, _/_, _%_, _<_, arith, T, ltb, ltb→lt, length, take, replicate, length-append}
 use Rattle.model.specs.Kit.{length-map, length-replicate, ne-eqb}
 use mathlib.Core.List.{List·Memᴰ·append-cases}
-use Rattle.model.specs.{Lists.all, Lists.flat, Lists.at, Problem.Problem, Problem.isSolution, Verdict.Verdict, Verdict.accepted, Verdict.refused, Sheet.verdictOf, Sheet.problemOf}
-use Rattle.model.specs.{Run.Ending, Run.finished, Run.spent, Run.full, Run.plansIn, Run.ended, Run.resultOf, Claims.CountsAt, Claims.Chain}
+use Rattle.model.specs.{Lists.all, Lists.flat, Lists.at, Problem.Problem, Verdict.Verdict, Verdict.accepted, Verdict.refused, Sheet.verdictOf, Sheet.problemOf}
+use Rattle.model.specs.{Run.Ending, Run.finished, Run.spent, Run.full, Run.plansIn, Run.ended, Run.resultOf, Claims.CountsAt}
 use Rattle.model.proofs.{Lists.all-e, Room.length-listed}
-use Rattle.order.specs.{Reordered.earlierBy, RunBy.sheetInput, RunBy.answerBy, RunBy.listBy}
+use Rattle.order.specs.RunBy.{sheetInput, answerBy, listBy}
 use Rattle.order.proofs.{RunBy.same-result, Demanded.ran-by, Demanded.held as rows-held, Demanded.sound-sheet, Demanded.demanded-sheet, Demanded.sheet-run}
 use Rattle.families_figure.specs.Figure.{Figure, number, dash, reportFigure}
 use Rattle.report.specs.Report.{digits, decimal, line, planWord, finishedWord, spentWord, fullWord, refusedWord, figureLine, endingLine, resultText, reportFor, reportOf}
 use Rattle.report.specs.Report.{REPORT-LIMIT}
+use Rattle.promises.proofs.Demands.{sheet-leaders, sheet-chains}
 use Rattle.promises.specs.Reported.{onto, linesIn, sheetIn, leadersOf, ReportEnds, ReportFinished, ReportHeld, Reported}
 
 -- ---- a line: characters above the newline, and then it
@@ -176,7 +177,7 @@ module _ (input : List ℕ) where
     listed =
         let s = same-result (problemOf b) (sound-sheet b good .well) REPORT-LIMIT (length room) in (
           ap (λ (k : ℕ). resultOf (problemOf b) REPORT-LIMIT k .rows) (sym long) ∙ sym (s .1) ∙ sym (rows-held (sheetInput b) (sound-sheet b) REPORT-LIMIT room e (ran .1))
-              ∙ demanded-sheet b .first-part REPORT-LIMIT room e (ran .1),
+              ∙ demanded-sheet b .first-part REPORT-LIMIT room e (ran .1) ∙ ap (take (plansIn e)) (sheet-leaders b good),
           ap (λ (k : ℕ). resultOf (problemOf b) REPORT-LIMIT k .ending) (sym long) ∙ sym (s .0) ∙ ran-by (sheetInput b) REPORT-LIMIT room e (ran .1) .so,
         )
 
@@ -205,17 +206,16 @@ module _ (input : List ℕ) where
     whole plans made f ls q =
         let d = demanded-sheet b in
         let a : answerBy (sheetInput b) REPORT-LIMIT room ≡ ended (finished plans made) = ran .1 ∙ ap ended f in
-        let lists = d .lists-leaders REPORT-LIMIT room plans made a in
-        let all : take (plansIn e) (leadersOf b) ≡ leadersOf b = ap (λ (x : Ending). take (plansIn x) (leadersOf b)) f ∙ sym (d .first-part REPORT-LIMIT room (finished plans made) a) ∙ lists in
+        let lists = d .lists-leaders REPORT-LIMIT room plans made a ∙ sheet-leaders b good in
+        let all : take (plansIn e) (leadersOf b) ≡ leadersOf b =
+        ap (λ (x : Ending). take (plansIn x) (leadersOf b)) f ∙ ap (take plans) (sym (sheet-leaders b good)) ∙ sym (d .first-part REPORT-LIMIT room (finished plans made) a) ∙ lists in
         let is : ls ≡ map (line planWord) (leadersOf b) = q ∙ ap (map (line planWord)) all in
         let some : length (leadersOf b) ≡ plans = ap length (sym lists) ∙ length-listed (problemOf b .variables) plans (listBy (sheetInput b) REPORT-LIMIT room) in
         let n = d .nothing-listed REPORT-LIMIT room plans made a in
         record {
           accepts = good;
           all-leaders = is;
-          chains = λ s l.
-              subst (λ (ls : List (List ℕ)). T (isSolution (problemOf b) s) ↔ ∥ ((x : List ℕ) × List·Memᴰ x ls × Chain (earlierBy (sheetInput b .order)) (problemOf b) x s) ∥₁) lists
-              (d .chains REPORT-LIMIT room plans made a s l);
+          chains = sheet-chains b good;
           nothing = (
             λ z. n .0 (sym some ∙ sym (length-map (leadersOf b) (line planWord)) ∙ sym (ap length is) ∙ ap length z),
             λ none. is ∙ empty (map (line planWord) (leadersOf b)) (length-map (leadersOf b) (line planWord) ∙ some ∙ n .1 none),

@@ -7,7 +7,7 @@ use Rattle.run_input.specs.Lent.{problemWith, orderLent}
 use Rattle.list_merge.specs.{Merge.ascends, Calls.CallMerge, declared.Answer.Answer, declared.Answer.the-variants.Written, declared.Answer.the-variants.Refused}
 use Rattle.run_state.specs.{declared.Tally.Tally, Meaning.endingOf, declared.Ending.Ending, declared.Ending.the-variants.Finished}
 use Rattle.run.specs.{Calls.CallLent, declared.Answer.the-variants.Ended}
-use Rattle.promises.specs.Demands.{plansFrom}
+use Rattle.promises.specs.DemandsLent.{plansFrom}
 
 -- how many plans an ending counts
 abbrev pub plansOf : Ending → ℕ

@@ -2,11 +2,10 @@
 -- and at the end. proofs/ExportedLent has the theorems.
 use Rattle.model.specs.Kit.{_≡_, List, ℕ, _+_, _*_, _<_, length}
 use Rattle.model.specs.{Lists.at, Verdict.accepted, Verdict.refused}
-use Rattle.run_input.specs.Lent.{verdictLent, lentInput}
-use Rattle.run_state.specs.{declared.Tally.Tally, Meaning.tallyIn, Meaning.endingOf, declared.Ending.Ending}
-use Rattle.order.specs.Demanded.{Tallied}
+use Rattle.run_input.specs.Lent.{verdictLent}
+use Rattle.run_state.specs.{declared.Tally.Tally, declared.Ending.Ending}
 use Rattle.run.specs.{Calls.CallLent, Calls.noTally, Calls.CallEnough, declared.Enough.Enough, declared.Answer.the-variants.Ended}
-use Rattle.promises.specs.{Demands.AtEnd, Demands.AtFinish, EnoughCalls.EnoughHeld, Exported.Tells}
+use Rattle.promises.specs.{Demands.AtEnd, Demands.AtFinish, Demands.Tallied, DemandsLent.ofLent, EnoughCalls.EnoughHeld, Exported.Tells}
 use Rattle.families_closed.specs.Calls.{CallClosed, ClosedHeld}
 use Rattle.wire.specs.Wire.{wrongLength, fourAt}
 use Rattle.export_lent.specs.Calls.{CallRunBytes}
@@ -30,9 +29,9 @@ pub record RunBytesHeld (b pairs block : List ℕ) (limit : ℕ) (list answer : 
   -- `Demands` holds of it: demand 2 and the counts of every ending, demands 2 and 3 of a finished one
   pub ends : length answer ≡ 60 → verdictLent b pairs block ≡ accepted →
       (code ≡ 0) × ((e : Ending) × (tally : Tally) × Tells answer′ e × TellsCounts answer′ tally × CallLent b pairs block limit list noTally (Ended e) list′ tally
-      × AtEnd (lentInput b pairs block) limit list e list′ × Tallied (lentInput b pairs block) (endingOf e) (tallyIn tally))
+      × AtEnd (ofLent b pairs block) limit list e list′ × Tallied (ofLent b pairs block) e tally)
   -- the first number 1: demands 2 and 3; the second number of plans stands at the front of the list
-  pub at-finish : length answer ≡ 60 → verdictLent b pairs block ≡ accepted → fourAt answer′ 0 ≡ 1 → AtFinish (lentInput b pairs block) (fourAt answer′ 4) list′
+  pub at-finish : length answer ≡ 60 → verdictLent b pairs block ≡ accepted → fourAt answer′ 0 ≡ 1 → AtFinish (ofLent b pairs block) (fourAt answer′ 4) list′
 
 abbrev pub Run-bytes : Type 0
 Run-bytes =

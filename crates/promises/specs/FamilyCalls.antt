@@ -7,7 +7,7 @@ use Rattle.model.specs.{Verdict.accepted, Verdict.refused, Sheet.headerOf, Shee
 use Rattle.run_input.specs.Lent.{verdictLent, problemWith}
 use Rattle.families.specs.Families.{Closed, FamilyCount, familiesOf}
 use Rattle.families_figure.specs.{Figure.bareSheet, FigureClaims.OneListedEach}
-use Rattle.promises.specs.Demands.{plansFrom}
+use Rattle.promises.specs.DemandsLent.{plansFrom}
 use Rattle.run.specs.{Calls.CallLent, declared.Answer.the-variants.Ended}
 use Rattle.run_state.specs.{declared.Tally.Tally, declared.Ending.the-variants.Finished as Done}
 use Rattle.run.specs.declared.Answer as SA

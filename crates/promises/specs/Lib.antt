@@ -1,6 +1,7 @@
 -- What callers hold, as statements.
 pub mod CountedCalls
 pub mod Demands
+pub mod DemandsLent
 pub mod RetypedCalls
 pub mod EnoughCalls
 pub mod Moments

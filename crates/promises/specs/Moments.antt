@@ -6,7 +6,7 @@ use Rattle.order.specs.RunBy.{placeCounts}
 use Rattle.run_input.specs.Lent.{problemWith, orderLent}
 use Rattle.run_state.specs.{declared.Tally.Tally, Meaning.endingOf, declared.Ending.Ending}
 use Rattle.run.specs.{Calls.CallLent, declared.Answer.Answer, declared.Answer.the-variants.Ended}
-use Rattle.promises.specs.Demands.{plansFrom}
+use Rattle.promises.specs.DemandsLent.{plansFrom}
 
 -- the run ended with e and left `after`; stopped after k trials it answers r₂ and leaves after₂ and tally₂
 pub record Moment (b pairs block : List ℕ) (e : Ending) (after : List ℕ) (k : ℕ) (r₂ : Answer) (after₂ : List ℕ) (tally₂ : Tally) : Type 0 where

@@ -1,9 +1,8 @@
 -- The report's text (paper 01, "The report"), of what its reader holds: bytes, by their lines. Demands 2 and 3 of these; `planner_report` leaves this text.
 -- proofs/Reported has the theorem.
 use Rattle.model.specs.Kit.{_≡_, true, false, _↔_, List, [], _∷_, _++_, map, List·Memᴰ, ℕ, _*_, _≤_, length, take, T, eqb}
-use Rattle.model.specs.{Problem.isSolution, Verdict.accepted, Verdict.refused, Sheet.verdictOf, Sheet.problemOf, Run.Ending, Run.plansIn, Run.nodesIn, Claims.CountsAt}
-use Rattle.model.specs.Claims.{Chain}
-use Rattle.order.specs.{Reordered.earlierBy, RunBy.sheetInput, RunBy.leadersBy}
+use Rattle.model.specs.{Lists.earlier, Problem.isSolution, Verdict.accepted, Verdict.refused, Sheet.verdictOf, Sheet.problemOf, Run.Ending, Run.plansIn, Run.nodesIn, Claims.CountsAt}
+use Rattle.model.specs.Claims.{Chain, leaders}
 use Rattle.families_figure.specs.Figure.{reportFigure}
 use Rattle.report.specs.Report.{line, planWord, finishedWord, refusedWord, endingLine, reportOf, REPORT-LIMIT}
 
@@ -22,7 +21,7 @@ sheetIn input = take 65536 input
 
 -- the leaders of a sheet in reading order
 abbrev pub leadersOf : List ℕ → List (List ℕ)
-leadersOf b = leadersBy (sheetInput b .order) (problemOf b)
+leadersOf b = leaders (problemOf b)
 
 -- a report that ended so: a line for each of the first leaders, as many as the ending carries, in reading order; then the ending's line with its figures,
 -- whose counts are those of the tree up to where the run ended, within the allowance of a million
@@ -37,7 +36,7 @@ pub record ReportFinished (b : List ℕ) (before : List (List ℕ)) : Type 0 whe
   pub accepts : verdictOf b ≡ accepted
   pub all-leaders : before ≡ map (line planWord) (leadersOf b)
   pub chains : (s : List ℕ) → length s ≡ problemOf b .variables → T (isSolution (problemOf b) s) ↔ ∥
-      ((l : List ℕ) × List·Memᴰ l (leadersOf b) × Chain (earlierBy (sheetInput b .order)) (problemOf b) l s) ∥₁
+      ((l : List ℕ) × List·Memᴰ l (leadersOf b) × Chain earlier (problemOf b) l s) ∥₁
   pub nothing : (before ≡ []) ↔ ((s : List ℕ) → T (isSolution (problemOf b) s) → ⊥)
 
 pub record ReportHeld (input : List ℕ) : Type 0 where

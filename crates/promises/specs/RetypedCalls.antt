@@ -6,7 +6,7 @@ use Rattle.run_input.specs.Lent.{verdictLent}
 use Rattle.run_retyped.specs.Retyped.{SameButOrder}
 use Rattle.run_state.specs.{Meaning.endingOf, declared.Tally.Tally, declared.Ending.Ending}
 use Rattle.run.specs.{Calls.CallLent, declared.Answer.Answer, declared.Answer.the-variants.Ended}
-use Rattle.promises.specs.Demands.{plansFrom}
+use Rattle.promises.specs.DemandsLent.{plansFrom}
 
 -- the first caller has sheet b, a list that came as out, answer r, list and tally at the end; the second has sheet c, and the others with a 2
 pub record RetypedHeld (b out : List ℕ) (r : Answer) (after : List ℕ) (tally : Tally) (c out₂ : List ℕ) (r₂ : Answer) (after₂ : List ℕ) (tally₂ : Tally) : Type 0 where
