@@ -5,7 +5,7 @@ use Rattle.model.specs.{Lists.at, Problem.Problem, Problem.pair, Problem.isPair
 use Rattle.model.specs.WellFormed.{WellFormed}
 use Rattle.order.specs.{Order.Ordering, Reordered.symmetryIn, Reordered.reordered}
 use Rattle.block.specs.Block.{variableTable, inBlock, orderingTable, blockTables, blockVerdict, tablesLent, blockLent, inLent}
-use Rattle.block.specs.BlockSets.{Reorders, BlockIn}
+use Rattle.block.specs.inner.BlockSets.{Reorders, BlockIn}
 use Rattle.block.proofs.{Tables.Passes, Block.row-passes, BlockReordered.accepted-reordered}
 use Rattle.model.proofs.Accepted.{accepted-is}
 

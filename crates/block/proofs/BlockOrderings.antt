@@ -3,8 +3,8 @@ use Rattle.model.specs.Kit.{_≡_, refl, sym, ap, _∙_, subst, true, false, Li
 use Rattle.model.specs.Kit.{_≤_, _<_, ℕ-discrete, arith, T, eqb, leb, ltb, leb→le, ltb→lt, eq-eqb, ne-eqb, le-leb, lt-ltb}
 use mathlib.Core.List.{List·Memᴰ·append-cases, Memᴰ·append-right}
 use Rattle.model.specs.{Lists.below, Lists.at, Problem.Problem, Problem.pair, Verdict.accepted, WellFormed.WellFormed}
-use Rattle.block.specs.{Block.ordering, Block.factorial, Block.inBlock, Block.imageOf, Block.orderingTable, Block.blockTables, Block.blockVerdict, BlockSets.Reorders}
-use Rattle.block.specs.BlockSets.{Trades, BlockIn}
+use Rattle.block.specs.{Block.ordering, Block.factorial, Block.inBlock, Block.imageOf, Block.orderingTable, Block.blockTables, Block.blockVerdict, inner.BlockSets.Reorders}
+use Rattle.block.specs.inner.BlockSets.{Trades, BlockIn}
 use Rattle.model.proofs.Lists.{T-of, T-dec, not-of, both-i, both-l, both-r, below-i, below-e, at-below, length-below}
 use Rattle.model.proofs.Counting.{distinct-below}
 use Rattle.block.proofs.{Orderings.Few, Orderings.Moves, Orderings.factorial-up, Orderings.ordering-of, Orderings.moves, Orderings.moves-row, Block.image-at}

@@ -7,7 +7,7 @@ use Rattle.model.specs.{Lists.both, Lists.at, ValueSets.has, ValueSets.maskOf, 
 use Rattle.model.specs.{Problem.assignments, Problem.withSymmetries, Nogood.Entry, Nogood.obeys, Nogood.filtered, Search.entriesAt, Search.nogoodsOf, Search.pruned}
 use Rattle.model.specs.{Search.narrowed, Search.setsAt, Search.isLive, Search.isPlan, Claims.Consistent, Claims.Drawn, inner.Pruning.Sets, inner.Pruning.closed, inner.Pruning.Way}
 use Rattle.model.specs.{inner.Pruning.Prunes, WellFormed.WellFormed}
-use Rattle.block.specs.BlockSets.{Reorders, Trades, BlockIn, Ascends, lostAfter, cutAfter}
+use Rattle.block.specs.{inner.BlockSets.Reorders, inner.BlockSets.Trades, inner.BlockSets.BlockIn, BlockClaims.Ascends, inner.BlockSets.lostAfter, inner.BlockSets.cutAfter}
 use Rattle.model.proofs.Lists.{of-not, not-of, T-of, both-i, both-l, both-r, keep-i, keep-e, getD-at, at-out, at-append, at-seam, at-tabulate, length-tabulate, stable}
 use Rattle.model.proofs.{Counting.twice, Sets.members-i, Sets.members-e, Sets.mask-i, Sets.mask-e, Sets.mask-lt, Sets.inside-antisym, Sets.has-at-lt, Sets.has-lt, Sets.member}
 use Rattle.model.proofs.{Sets.empty-i, Masks.has-one, Assignments.drawn-i, Assignments.drawn-e, Assignments.drawn-through, Filter.filtered-i, Filter.filtered-e}

@@ -5,7 +5,7 @@ use Rattle.model.specs.{ValueSets.least, ValueSets.members, ValueSets.anyEmpty,
 use Rattle.model.specs.{Nogood.obeysFrom, Nogood.obeying, Nogood.used, Nogood.filtered, Search.entriesAt, Search.nogoodsOf, Search.rowWith, Search.supported, Search.pruned}
 use Rattle.model.specs.Search.{narrowed, rounds, setsAt}
 use Rattle.block.specs.Block.{orderings, ordering, factorial, variableTable, inBlock, imageOf, orderingTable, blockTables, withBlock}
-use Rattle.block.specs.BlockSets.{cutAfter}
+use Rattle.block.specs.inner.BlockSets.{cutAfter}
 use Rattle.order.specs.Reordered.{position, read, valueOf, scopeIn, rowIn, renamed, symmetryIn, reordered}
 
 opened : ℕ

@@ -1,10 +1,9 @@
 -- What paper 02 asks of a block's orderings (#111), and what #112 needs of them. The proofs are in proofs/Claimed.antt.
 use Rattle.model.specs.Kit.{_≡_, Bool, false, _↔_, List, [], _∷_, List·Memᴰ, ℕ, zero, suc, _-_, _*_, _≤_, _<_, length, take, drop, T, eqb, ltb}
-use Rattle.model.specs.{Lists.all, Lists.both, Lists.at, Lists.flat, Lists.rowsAscend, Sheet.distinct, ValueSets.anyEmpty, Problem.Problem, Verdict.accepted, Search.isPlan}
+use Rattle.model.specs.{Lists.all, Lists.both, Lists.at, Lists.flat, Lists.rowsAscend, Sheet.distinct, ValueSets.has, ValueSets.anyEmpty, Problem.Problem, Verdict.accepted, Search.isPlan}
 use Rattle.model.specs.{Claims.Consistent, WellFormed.WellFormed}
 use Rattle.order.specs.{Order.Ordering, Reordered.reordered}
 use Rattle.block.specs.Block.{orderings, ordering, factorial, inBlock, withBlock, isBlock, blockVerdict, TradePasses}
-use Rattle.block.specs.BlockSets.{Ascends}
 
 -- ---- the table
 -- 120 rows, ascending; each is an ordering, and none is absent
@@ -45,6 +44,10 @@ First-rows = (m row : ℕ) → 2 ≤ m → m ≤ 5 → row < 120 → (row < fact
 -- the m - 1 trades of neighbours (of rows 1, 2, 6, 24 the first m - 1) are enough to ask: where they pass, every row does
 abbrev pub Trades-enough : Type 0
 Trades-enough = (p : Problem) (first m : ℕ) → WellFormed p → T (isBlock p first m) → ((k : ℕ) → 1 ≤ k → k < m → TradePasses p first m k) → blockVerdict p first m ≡ accepted
+
+-- no block variable has a value below that of a block variable of the prefix that is settled before it
+abbrev pub Ascends : (ℕ → Bool) → List ℕ → List ℕ → Type 0
+Ascends block prefix ds = (x y v : ℕ) → T (block x) → T (block y) → x < y → x < length prefix → T (has (at ds y) v) → at prefix x ≤ v
 
 -- ---- the sets at a prefix, the variables settled in any order
 -- sets of which none is empty: consistent with the block's orderings is consistent without them, and ascending along the block

@@ -9,7 +9,7 @@ use Rattle.desk.specs.{Queue.Standing, Queue.Job, Queue.newJob, Queue.Sl
 use Rattle.desk.specs.Places.{PLANS, DEPTH, LAST, COUNTS, SHEET, SHEET-BYTES, LIST, LIST-BYTES, SLOT, NEXT, size}
 use Rattle.desk.specs.Layout.{slotPlace, long, standingBy, standingAt, sheetLength, nodesAt, countsAt, plansAt, widthAt, rowsAt, lastAt, sheetAt, jobAt, slotOf, queueOf}
 use Rattle.desk.specs.Layout.{headBytes, slotBytes}
-use Rattle.sheet.specs.Form.{compilable}
+use Rattle.sheet.specs.Meaning.{compilable}
 use Rattle.sheet.proofs.Compilable.{accepted-compilable}
 use Rattle.desk.proofs.{Sheets.answered-length, Bytes.part-is, Bytes.word-of, Bytes.long-of, Counts.counts-length, Counts.counts-is, Counts.counts-zero, Counts.counts-as}
 use Rattle.desk.proofs.Slots.{slot-in, row-length, taken-at}

@@ -10,7 +10,7 @@ use Rattle.model.proofs.{Lists.T-of, Lists.at-take, Lists.both-l, Lists.keep-e,
 use Rattle.model.proofs.{Tally.count-most, Accepted.no-nodes as empty-nodes}
 use Rattle.run_cut.specs.Parts.{after, nodesAfter, lastOf, goOn, madeIn}
 use Rattle.run_cut.proofs.{Resume.node-values, Resume.last-in, Resume.taken, Counts.length-added, Anywhere.no-fewer}
-use Rattle.sheet.specs.Form.{compilable}
+use Rattle.sheet.specs.Meaning.{compilable}
 use Rattle.sheet.proofs.Compilable.{compilable-fits}
 use Rattle.desk.specs.{Queue.Standing, Queue.running, Queue.over, Queue.Job, Queue.listRoom, Queue.turnLimit, Queue.standingAfter, Queue.jobTurned, Places.LIMIT}
 use Rattle.desk.specs.{Places.DEPTH, Places.LAST, Places.SHEET, Places.LIST, Places.LIST-BYTES, Places.SLOT, Layout.long, Layout.standingBy, Layout.standingAt}

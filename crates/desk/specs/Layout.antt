@@ -3,7 +3,7 @@
 use Rattle.model.specs.Kit.{List, [], _∷_, _++_, map, ℕ, zero, suc, _+_, _-_, _*_, _%_, min, length, take, drop, set, replicate, eqb}
 use Rattle.model.specs.{Lists.at, Lists.choose, Lists.flat, Lists.below, Lists.tabulate, Verdict.Verdict, Verdict.accepted, Verdict.refused, Sheet.«word», Sheet.verdictOf}
 use Rattle.model.specs.{Bytes.twoBytes, Bytes.fourBytes, Written.placed, Run.finished, Run.spent, Run.full, Run.listedPlans}
-use Rattle.sheet.specs.Form.{compilable}
+use Rattle.sheet.specs.Meaning.{compilable}
 use Rattle.desk.specs.Places.{LENGTH, LIMIT, STANDING, NODES, PLANS, DEPTH, LAST, COUNTS, SHEET, SHEET-BYTES, LIST, LIST-PLANS, LIST-BYTES, SLOT, NEXT, size}
 use Rattle.desk.specs.Queue.{Standing, running, over, Job, jobTurned, Slot, free, taken, Queue, slotAt, Found, none-found, slot, lowestFree, toServe, QueueCall, submit, turn}
 use Rattle.desk.specs.Queue.{release, QueueReply, refusal, fits, queueReply, dueAt, given, roundFrom, roundsQueue, statusReply, noCounts, statusCounts, RoundsReply}

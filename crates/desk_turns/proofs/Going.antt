@@ -6,7 +6,7 @@ use borrow.Rule.Slice.PartMut.{putMid}
 use Rattle.model.specs.{Lists.at, Lists.flat, Lists.choose, Problem.Problem, Sheet.problemOf, Written.placed, Run.written, Run.Tally}
 use Rattle.model.proofs.{Lists.of-T, Room.length-listed}
 use Rattle.run_cut.specs.Parts.{Progress}
-use Rattle.sheet.specs.Form.{compilable}
+use Rattle.sheet.specs.Meaning.{compilable}
 use Rattle.desk.specs.{Queue.listRoom, Places.DEPTH, Places.LAST, Places.SHEET, Places.LIST, Places.LIST-BYTES, Places.SLOT, Layout.sheetLength, Layout.plansAt, Layout.widthAt}
 use Rattle.desk.specs.Layout.{rowsAt, lastAt, sheetAt, jobAt}
 use Rattle.desk.proofs.{Bytes.Small, Slots.flat-listed, Turning.Fits, Turning.at-fits, Turning.rawAt, Turning.raw-known}

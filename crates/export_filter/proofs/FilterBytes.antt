@@ -4,7 +4,7 @@ use Rattle.model.specs.Kit.{ltb-false}
 use Rattle.model.specs.{Lists.at, Verdict.Verdict, Nogood.failed, Nogood.entailed, Nogood.consistent, Nogood.FilterAnswer, Nogood.refusal, Nogood.answered, Nogood.entries}
 use Rattle.model.specs.Nogood.{filterEnding, filterVerdict, filterAnswer, setsAfter}
 use Rattle.model.proofs.{Lists.at-out, Demands.reply-refused}
-use Rattle.filter.specs.{Lists.means, FilterCalls.CallFilter, FilterCalls.EntryRight, FilterCalls.ListsRight, declared.Answer.Answer, declared.Answer.the-variants.Failed}
+use Rattle.filter.specs.{Meaning.means, FilterCalls.CallFilter, FilterCalls.EntryRight, FilterCalls.ListsRight, declared.Answer.Answer, declared.Answer.the-variants.Failed}
 use Rattle.filter.specs.declared.Answer.the-variants.{Entailed, Consistent, Refused}
 use Rattle.filter.proofs.FilterCalls.{filter-calls}
 use Rattle.export_filter.specs.{Filter.filterAnswerCode, Filter.setsIn, Filter.bytesOf, Filter.filteredBytes, FilterBytes.codeOf, FilterBytes.Bytes-held}

@@ -8,7 +8,7 @@ ghost use mathlib.Core.Path.{_≡_};
 ghost use Prim.Native.Nat.{_*_};
 ghost use lib.ListN.{length};
 ghost use Rattle.model.specs.Nogood.{filterAnswer};
-ghost use Rattle.filter.specs.Lists.{means};
+ghost use Rattle.filter.specs.Meaning.{means};
 ghost use Rattle.export_filter.specs.Filter.{filterAnswerCode, setsIn, filteredBytes, SmallAnswer};
 ghost use Rattle.export_filter.specs.FilterBytes.{CallBytes};
 

@@ -6,7 +6,7 @@ use Rattle.model.specs.Run.{ended, plansIn, resultOf, answerOf, written, listOf
 use Rattle.model.proofs.Accepted.{passed, well-formed, constraints-are, symmetries-are}
 use Rattle.arrays.specs.inner.Places.{VARIABLES, PLANS, STACK, TABLES, WORK}
 use Rattle.families_figure.specs.Figure.{reportFigure}
-use Rattle.sheet.specs.{Form.Compilation, declared.Answer.the-variants.Accepted}
+use Rattle.sheet.specs.{inner.Form.Compilation, declared.Answer.the-variants.Accepted}
 use Rattle.sheet.proofs.Whole.{zeros}
 use Rattle.run_state.specs.Walk.{stopIn}
 use Rattle.run_search.proofs.{Begun.numbers-kept, Explored.stop-in}

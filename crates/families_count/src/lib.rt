@@ -7,7 +7,7 @@ ghost use lib.ListN.{length, replicate};
 ghost use Rattle.model.specs.Problem.{Problem};
 ghost use Rattle.run_state.specs.Meaning.{tallyIn};
 ghost use Rattle.run_input.specs.inner.Compile.{AskedLent};
-ghost use Rattle.sheet.specs.Form.{Compilation};
+ghost use Rattle.sheet.specs.inner.Form.{Compilation};
 ghost use Rattle.sheet.specs.declared.Answer.the-variants.{Accepted};
 ghost use Rattle.families_figure.specs.Figure.{reportFigure, familiesLent};
 ghost use Rattle.families_count.specs.Told.{countedLent, told, means};

@@ -12,8 +12,8 @@ use Rattle.run_input.proofs.Lent.{well-lent, respected-lent, ordering-lent}
 use Rattle.families.specs.{Families.solutionsOf, Families.familiesOf, inner.Numbered.Listed, inner.Numbered.Counted}
 use Rattle.families.proofs.FewerFamilies.{solutions-same, well-formed-with, families-more, families-none, leaders-without}
 use Rattle.families.proofs.{JoinedBy.families-reordered, Rows.listed-solutions}
-use Rattle.families_figure.specs.{Figure.problemBare, Figure.number, Figure.dash, Figure.figureFor, Figure.familiesLent, FigureClaims.ranWith, FigureClaims.ranBare}
-use Rattle.families_figure.specs.FigureClaims.{Finished}
+use Rattle.families_figure.specs.{Figure.problemBare, Figure.number, Figure.dash, Figure.figureFor, Figure.familiesLent, inner.FigureClaims.ranWith, inner.FigureClaims.ranBare}
+use Rattle.families_figure.specs.inner.FigureClaims.{Finished}
 use Rattle.families_figure.proofs.FamiliesLent.{families-lent}
 
 -- the problem that the bare run walks

@@ -1,4 +1,4 @@
--- The figure of a run that is lent a sheet, pairs and a block, and one of each family (specs/FigureClaims). Assumes nothing.
+-- The figure of a run that is lent a sheet, pairs and a block, and one of each family (specs/inner/FigureClaims). Assumes nothing.
 use Rattle.model.specs.Kit.{_≡_, refl, sym, ap, ap₂, _∙_, subst, _↔_, _⊎_, inl, ⊎-elim, List, [], _∷_, _++_, map, append-nil, List·Memᴰ, List·Memᴰ·not-nil, ℕ, T, length}
 use Rattle.model.specs.{Problem.Problem, Problem.isSolution, Problem.withSymmetries, Verdict.Verdict, Verdict.accepted, Verdict.isAccepted, Verdict.reply, Verdict.kept}
 use Rattle.model.specs.{Claims.Leader, Lists.upFrom, Lists.below, Sheet.headerOf, Sheet.problemOf, Sheet.tableAt, WellFormed.WellFormed, WellFormed.Respected, Run.Ending}
@@ -13,8 +13,9 @@ use Rattle.run_input.proofs.Lent.{lent-passed, well-sheet, well-lent, respected
 use Rattle.families.specs.Families.{Closed, familiesOf}
 use Rattle.families.proofs.{FamilyCount.families, FewerFamilies.well-formed-with, JoinedBy.leader-earliest-by, JoinedBy.earliest-leader-by, JoinedBy.each-by}
 use Rattle.families.proofs.JoinedBy.{leaders-each-by}
-use Rattle.families_figure.specs.{Figure.problemBare, Figure.bareSheet, Figure.number, Figure.dash, Figure.figureFor, Figure.familiesLent, FigureClaims.ranWith}
-use Rattle.families_figure.specs.FigureClaims.{ranBare, Finished, Families-lent, Bare-run, OneListedEach, One-of-each-lent, Block-alone-closed, Block-alone-one-each}
+use Rattle.families_figure.specs.{Figure.problemBare, Figure.bareSheet, Figure.number, Figure.dash, Figure.figureFor, Figure.familiesLent, inner.FigureClaims.ranWith}
+use Rattle.families_figure.specs.{inner.FigureClaims.ranBare, inner.FigureClaims.Finished, inner.FigureClaims.Families-lent, inner.FigureClaims.Bare-run, FigureClaims.OneListedEach}
+use Rattle.families_figure.specs.inner.FigureClaims.{One-of-each-lent, Block-alone-closed, Block-alone-one-each}
 use Rattle.families_figure.proofs.BareSheet.{bare-passed}
 use Rattle.model.proofs.Accepted.{accepted-is, is-accepted}
 

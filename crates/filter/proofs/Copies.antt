@@ -2,7 +2,7 @@
 use Rattle.model.specs.Kit.{_≡_, refl, sym, _∙_, subst, false, List, ℕ, _+_, _^_, _≤_, _<_, decLt, arith, length, set, take, length-map, length-take-le}
 use Rattle.model.specs.{Lists.at, inner.Filling.Filled}
 use Rattle.model.proofs.{Lists.at-ext, Lists.at-take, Sets.at-zeros, Filling.filled-turn}
-use Rattle.filter.specs.Lists.{zeros, Loaded}
+use Rattle.filter.specs.inner.Lists.{zeros, Loaded}
 
 -- ---- stored from the front on
 abbrev pub Front : (ℕ → ℕ → Type 0) → ℕ → List ℕ → List ℕ → Type 0

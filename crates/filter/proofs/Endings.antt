@@ -3,12 +3,13 @@
 use Rattle.model.specs.Kit.{_≡_, refl, sym, ap, _∙_, subst, Bool, true, false, not, List, [], _∷_, List·Memᴰ, ℕ, _≤_, _<_, decLt, arith, T, eqb, length, set, take}
 use lib.Seq.{take-set-lt}
 use Rattle.model.specs.{Lists.at, Lists.same, ValueSets.has, ValueSets.onlyMask, ValueSets.withoutMask, ValueSets.anyEmpty, Problem.assignments, Nogood.Entry, Nogood.equality}
-use Rattle.model.specs.Nogood.{is, obeysFrom, obeys, filtered, failed, entailed, consistent, endingBy, everyObeys, filterEnding, Entails, Fails}
+use Rattle.model.specs.Nogood.{is, obeysFrom, obeys, filtered, failed, entailed, consistent, endingBy, everyObeys, filterEnding}
+use Rattle.model.specs.NogoodClaims.{Entails, Fails}
 use Rattle.model.proofs.Lists.{T-of, of-T, not-of, of-not, T-ext, all-i, all-e, same-eq, same-refl, at-ext, at-set, at-take}
 use Rattle.model.proofs.{Sets.members-i, Sets.members-e, Sets.empty-e, Sets.inside-antisym, Filter.filtered-inside, Obey.obeys-unheld, Assignments.assign-i, Assignments.assign-e, Endings.SameModels}
 use Rattle.model.proofs.Endings.{every-i, every-no, failed-i, entailed-i, ending-by, entailed-exactly, consistent-exactly, entailed-left, same-ending}
 use Rattle.filter.specs.inner.Scan.{stepOf, models, None, Some, Live, Passed, Remainder, Right, Changed}
-use Rattle.filter.specs.{Lists.forced, declared.entry.Step.the-variants.Split}
+use Rattle.filter.specs.{inner.Lists.forced, declared.entry.Step.the-variants.Split}
 use Rattle.filter.proofs.Marks.{for-good-equality}
 use Rattle.filter.proofs.Scan
 use Rattle.filter.proofs.Front

@@ -4,13 +4,14 @@ use Rattle.model.specs.Kit.{leb, ltb, eqb→eq, leb→le, ltb→lt, eqb-refl, l
 use mathlib.Core.Logic.{∥∥₁-elim, ∥∥₁-prop}
 use Rattle.model.specs.{Lists.at, Lists.both, ValueSets.has, Verdict.Verdict, Verdict.accepted, Verdict.refused, Verdict.ask, Verdict.reply, Nogood.Entry, Nogood.equality}
 use Rattle.model.specs.Nogood.{disequality, is, obeysFrom, obeys, filtered, FilterEnding, failed, entailed, consistent, filterEnding, mark, Kind, isEquality, isDisequality}
-use Rattle.model.specs.Nogood.{bothAbsent, bothPresent, kindBy, kindOf, CaseOf, valueOk, entryIn, entryOf, entryOk, entries, firstWrong, filterVerdict, setsAfter, refusal}
-use Rattle.model.specs.{Nogood.answered, Nogood.filterAnswer, Nogood.Fails, Nogood.Entails, Claims.Drawn}
+use Rattle.model.specs.{Nogood.bothAbsent, Nogood.bothPresent, Nogood.kindBy, Nogood.kindOf, NogoodClaims.CaseOf, Nogood.valueOk, Nogood.entryIn, Nogood.entryOf, Nogood.entryOk, Nogood.entries}
+use Rattle.model.specs.Nogood.{firstWrong, filterVerdict, setsAfter, refusal}
+use Rattle.model.specs.{Nogood.answered, Nogood.filterAnswer, NogoodClaims.Fails, NogoodClaims.Entails, Claims.Drawn}
 use Rattle.model.proofs.{Lists.both-i, Lists.both-l, Lists.both-r, Lists.not-of, Lists.getD-at, Assignments.drawn-i, Assignments.drawn-e, Filter.length-filtered}
 use Rattle.model.proofs.{Filter.filtered-sets, EntryKinds.kind-holds, Endings.failed-exactly, Endings.entailed-exactly, Endings.consistent-exactly, Demands.filter-keeps}
 use Rattle.model.proofs.Demands.{filter-empties}
 use Rattle.filter.specs.{declared.Answer.Answer, declared.Answer.the-variants.Failed, declared.Answer.the-variants.Entailed, declared.Answer.the-variants.Consistent}
-use Rattle.filter.specs.{declared.Answer.the-variants.Refused, Lists.means, FilterCalls.CallFilter, FilterCalls.SetsRight, FilterCalls.LengthsRight, FilterCalls.EntryRight}
+use Rattle.filter.specs.{declared.Answer.the-variants.Refused, Meaning.means, FilterCalls.CallFilter, FilterCalls.SetsRight, FilterCalls.LengthsRight, FilterCalls.EntryRight}
 use Rattle.filter.specs.FilterCalls.{ListsRight, Breaks, Obeys, NoneObeys, EveryObeys, Filter-calls}
 use Rattle.filter.proofs.Questions.{wrong-at, wrong-none, wrong-entry, all-right}
 

@@ -9,7 +9,7 @@ use Rattle.model.specs.Nogood.{obeysFrom, obeys, obeying}
 use Rattle.model.proofs.{Lists.T-of, Lists.of-T, Lists.not-of, Lists.of-not, Lists.both-i, Lists.both-l, Lists.both-r, Lists.both-no-r, Lists.keep-ext, Lists.getD-at, Sets.has-none, Sets.has-lt}
 use Rattle.model.proofs.{Sets.mask-i, Obey.obeys-unheld, Assignments.assign-mono, Assignments.drawn-e, EntryKinds.right-kinds, Endings.entailed-left, Endings.entails-mono}
 use Rattle.filter.specs.declared.Kind.the-variants.{Equality, Disequality, BothAbsent, BothPresent}
-use Rattle.filter.specs.{declared.entry.Step.the-variants.Next, declared.entry.Step.the-variants.Obeyed, inner.Scan.Right, inner.Scan.stepOf, Lists.kindAs, Marks.Vacuous}
+use Rattle.filter.specs.{declared.entry.Step.the-variants.Next, declared.entry.Step.the-variants.Obeyed, inner.Scan.Right, inner.Scan.stepOf, inner.Lists.kindAs, Marks.Vacuous}
 use Rattle.filter.specs.Marks.{ObeyedForGood, NamesGone, Skippable, Skipped-here, Skipped-below}
 use Rattle.filter.specs.declared.Kind as code
 use Rattle.filter.proofs.Scan

@@ -4,7 +4,7 @@ use Rattle.model.specs.Kit.{leb-true, not-false}
 use Rattle.model.specs.{Lists.at, Lists.both, Verdict.Verdict, Verdict.accepted, Verdict.refused, Verdict.ask, Verdict.reply, Nogood.entries, Nogood.entryOk, Nogood.firstWrong}
 use Rattle.model.specs.Nogood.{filterVerdict, setsAfter, filterEnding, filterAnswer}
 use Rattle.model.proofs.{Lists.T-of, Lists.both-false, Masks.least-none, Masks.least-at, Masks.least-below}
-use Rattle.filter.specs.{declared.Answer.Answer, declared.Verdict.the-variants.Accepted, declared.Verdict.the-variants.Refused, Lists.Listed, Lists.Applied, Lists.verdictIs}
+use Rattle.filter.specs.{declared.Answer.Answer, declared.Verdict.the-variants.Accepted, declared.Verdict.the-variants.Refused, inner.Lists.Listed, inner.Lists.Applied, inner.Lists.verdictIs}
 use Rattle.filter.specs.FilterCalls.{CallFilter}
 use Rattle.filter.proofs.Marks.{ok-right}
 use Rattle.filter.specs.declared.Answer.the-variants as answer

@@ -4,8 +4,8 @@ use Rattle.model.specs.{Lists.at, Nogood.Entry, Nogood.equality, Nogood.disequa
 use Rattle.model.specs.Nogood.{answered}
 use Rattle.filter.specs.{declared.entry.Step.Step, declared.Reached.Reached, declared.Reached.the-variants.Failed, declared.Reached.the-variants.End}
 use Rattle.filter.specs.{declared.Reached.the-variants.Split, declared.Ending.Ending, inner.Scan.models, inner.Scan.Right, inner.Scan.Stepped, inner.Scan.None}
-use Rattle.filter.specs.{inner.Scan.Some, inner.Scan.Live, inner.Scan.Passed, inner.Scan.Remainder, inner.Scan.Resolved, inner.Scan.Changed, Lists.Listed, Lists.Ready}
-use Rattle.filter.specs.Lists.{AtSplit, SplitReached, PassResult, ScanResult, Loaded, Applied, forced, zeros}
+use Rattle.filter.specs.{inner.Scan.Some, inner.Scan.Live, inner.Scan.Passed, inner.Scan.Remainder, inner.Scan.Resolved, inner.Scan.Changed, inner.Lists.Listed, inner.Lists.Ready}
+use Rattle.filter.specs.inner.Lists.{AtSplit, SplitReached, PassResult, ScanResult, Loaded, Applied, forced, zeros}
 use Rattle.filter.proofs.{Turns.entry-at, Endings.none-failed, Endings.passed-ending, Endings.every-passed, Endings.every-changed, Endings.ended-entailed}
 use Rattle.filter.proofs.Endings.{ended-every, kept-ending, gone-entailed, unchanged, changed-front, by-changed, front-consistent, front-remainder}
 use Rattle.filter.specs.declared.Ending.the-variants as ending

@@ -5,7 +5,7 @@ use Rattle.model.specs.{Lists.at, ValueSets.withoutMask, Nogood.Entry, Nogood.e
 use Rattle.model.specs.Nogood.{bothPresent, kindOf, entryIn, entryOf, entries}
 use Rattle.filter.specs.{declared.entry.Step.Step, declared.entry.Step.the-variants.Next, declared.entry.Step.the-variants.Failed, declared.entry.Step.the-variants.Obeyed}
 use Rattle.filter.specs.{declared.entry.Step.the-variants.Split, inner.Scan.stepOf, inner.Scan.after, inner.Scan.cutStep, inner.Scan.Right, inner.Scan.Stepped}
-use Rattle.filter.specs.{inner.Scan.None, inner.Scan.Passed, Lists.Ready, Lists.SplitReached}
+use Rattle.filter.specs.{inner.Scan.None, inner.Scan.Passed, inner.Lists.Ready, inner.Lists.SplitReached}
 use Rattle.filter.proofs.Marks.{right-mono}
 use Rattle.filter.proofs.Front
 

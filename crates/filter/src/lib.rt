@@ -7,7 +7,7 @@ ghost use lib.ListN.{length, take, drop};
 ghost use Rattle.model.specs.Lists.{at};
 ghost use Rattle.model.specs.Nogood.{kindOf, entries, entryOf, entryOk, firstWrong, filterVerdict};
 ghost use Rattle.filter.specs.inner.Scan.{Stepped, Right, Resolved};
-ghost use Rattle.filter.specs.Lists.{Ready, PassResult, AtSplit, ScanResult, Loaded, Listed, Applied, zeros, kindAs, verdictIs};
+ghost use Rattle.filter.specs.inner.Lists.{Ready, PassResult, AtSplit, ScanResult, Loaded, Listed, Applied, zeros, kindAs, verdictIs};
 ghost use Rattle.filter.specs.FilterCalls.{CallFilter};
 use entry::Step;
 use model::ValueSet;

@@ -1,12 +1,12 @@
 -- What the filter leaves, what question 16 shows and what the sets at a prefix are (specs/Claims), proved of every sheet. Assumes nothing.
-use Rattle.model.specs.Kit.{_≡_, refl, sym, ap, ap₂, _∙_, subst, List, [], _∷_, _++_, List·Memᴰ, List·Memᴰ·head, List·Memᴰ·tail, append-assoc, ℕ, _^_, _<_, arith, T, length}
+use Rattle.model.specs.Kit.{_≡_, refl, sym, ap, ap₂, _∙_, subst, _↔_, List, [], _∷_, _++_, List·Memᴰ, List·Memᴰ·head, List·Memᴰ·tail, append-assoc, ℕ, _^_, _<_, arith, T, length}
 use Rattle.model.specs.Kit.{take, drop, replicate, length-replicate}
 use mathlib.Core.Logic.{∥∥₁-elim}
 use lib.Dec.{T-prop}
 use lib.Seq.{take-at, drop-at}
 use Rattle.model.specs.{Lists.keep, Lists.flat, Lists.at, Lists.earlier, ValueSets.has, Problem.Problem, Problem.assignments, Verdict.Verdict, Verdict.accepted}
 use Rattle.model.specs.{Verdict.refused, Verdict.isAccepted, Verdict.refusal, Verdict.answered, Verdict.reply, Sheet.verdictOf, Sheet.problemOf, Nogood.filtered, Run.written}
-use Rattle.model.specs.{Run.listedPlans, Claims.Filter-keeps, Claims.Filter-empties, Claims.Symmetries-respect, Claims.Sets-largest, Claims.isLeader, Claims.leaders}
+use Rattle.model.specs.{Run.listedPlans, Search.setsAt, Search.isLive, Nogood.Entry, Nogood.obeys, Claims.Drawn, Claims.Symmetries-respect, Claims.Largest, Claims.isLeader, Claims.leaders}
 use Rattle.model.specs.WellFormed.{WellFormed, Respected}
 use Rattle.model.proofs.{Lists.not-of, Lists.keep-ext, Lists.at-ext, Lists.at-replicate, Sets.has-none, Sets.mask-ext, Assignments.drawn-i, Assignments.drawn-e}
 use Rattle.model.proofs.{Filter.length-filtered, Filter.filtered-i, Filter.filtered-e, Filter.filtered-sets, Prune.Sized, Consistent.live-consistent}
@@ -41,13 +41,16 @@ pub of-accepted : (b : List ℕ) → verdictOf b ≡ accepted → Passed b
 of-accepted b h = passed b (subst (λ (v : Verdict). T (isAccepted v)) (sym h) tt)
 
 -- ---- the filter
-pub filter-keeps : Filter-keeps
+-- a value stays exactly if some assignment from the sets uses it and obeys every nogood
+pub filter-keeps : (ds : List ℕ) (es : List Entry) → ((x : ℕ) → at ds x < 2 ^ 16) → (x v : ℕ) → x < length ds →
+    T (has (at (filtered ds es) x) v) ↔ ∥ ((a : List ℕ) × Drawn ds a × T (obeys a es) × (at a x ≡ v)) ∥₁
 filter-keeps ds es s x v l = (
   λ t. let r = filtered-e ds es x v t in ∣ (r .0, drawn-e ds (r .0) (r .1), r .2, r .3) ∣₁,
   λ h. ∥∥₁-elim h (T-prop (has (at (filtered ds es) x) v)) (λ r. filtered-i ds es x v (r .0) l (drawn-i ds (r .0) s (r .1)) (r .2) (r .3)),
 )
 
-pub filter-empties : Filter-empties
+-- without such an assignment every set is empty
+pub filter-empties : (ds : List ℕ) (es : List Entry) → ((x : ℕ) → at ds x < 2 ^ 16) → ((a : List ℕ) → Drawn ds a → T (obeys a es) → ⊥) → filtered ds es ≡ replicate (length ds) 0
 filter-empties ds es s none =
     at-ext (filtered ds es) (replicate (length ds) 0) (length-filtered ds es ∙ sym (length-replicate (length ds) 0))
     (λ x l. mask-ext 16 (at (filtered ds es) x) (at (replicate (length ds) 0) x) (filtered-sets ds es .1 x) (subst (λ (n : ℕ). n < 2 ^ 16) (sym (at-replicate (length ds) x)) (omega arith))
@@ -59,7 +62,7 @@ pub symmetries-respect : Symmetries-respect
 symmetries-respect b h g m = let q = of-accepted b h in (q .well .symmetric g m .permutes, q .respected .respectful g m)
 
 -- ---- the sets at a prefix
-pub sets-largest : Sets-largest
+pub sets-largest : (b : List ℕ) (prefix : List ℕ) → verdictOf b ≡ accepted → Largest (λ x. x) (problemOf b) prefix (isLive (problemOf b) prefix) (setsAt (problemOf b) prefix)
 sets-largest b prefix h = (λ l. (live-consistent (problemOf b) prefix s l, consistent-inside (problemOf b) prefix s l), λ e. (dead-none (problemOf b) prefix s e, dead-empty (problemOf b) prefix s e))
   where
     s : Sized (problemOf b)

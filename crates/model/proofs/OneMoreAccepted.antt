@@ -1,10 +1,10 @@
 -- What a sheet with one exchange more is answered (specs/Claims). Assumes nothing.
-use Rattle.model.specs.Kit.{_≡_, sym, ap, ap₂, _∙_, subst, Bool, true, List, _∷_, _++_, List·Memᴰ, Memᴰ·append-left, ℕ, suc, _+_, _*_, _^_, _<_, arith, T, leb, leb→le}
+use Rattle.model.specs.Kit.{_≡_, sym, ap, ap₂, _∙_, subst, _↔_, Bool, true, List, _∷_, _++_, List·Memᴰ, Memᴰ·append-left, ℕ, suc, _+_, _*_, _^_, _<_, arith, T, leb, leb→le}
 use Rattle.model.specs.Kit.{length, eq-eqb, le-leb}
 use mathlib.Core.List.{Memᴰ·append-right}
 use Rattle.model.specs.{Lists.below, Problem.Problem, Problem.respects, Problem.withSymmetries, Verdict.Verdict, Verdict.accepted, Verdict.ask, Verdict.isAccepted}
 use Rattle.model.specs.Sheet.{Header, word, headerOf, headerVerdict, problemOf, setsVerdict, constraintsVerdict, tablesFit, formVerdict, permutesPairs, symmetriesVerdict}
-use Rattle.model.specs.{Sheet.verdictOf, Claims.sizeWith, Claims.OneMore, Claims.exchangeIn, Claims.One-more-answer, Claims.One-more-accepted}
+use Rattle.model.specs.{Sheet.verdictOf, Claims.sizeWith, Claims.OneMore, Claims.exchangeIn, Claims.One-more-answer}
 use Rattle.model.proofs.{Lists.of-T, Lists.below-e, Accepted.HeaderPassed, Accepted.Passed, Accepted.passed, Accepted.asked, Accepted.at-words, OneMore.word-agree}
 use Rattle.model.proofs.OneMore.{header-more, length-more, below-third, before, after, added, length-before, added-is, longer, old}
 use Rattle.model.proofs.Asked.{tablesHeader, header-but-five, sets-pass, constraints-pass, symmetries-i, symmetries-first, permutes-same, respects-same}
@@ -83,7 +83,9 @@ module _ (b c t : List ℕ) (k : ℕ) (more : OneMore b c k t) (ok : Passed b) w
 pub one-more-answer : One-more-answer
 one-more-answer b c t k more e = answer b c t k more (passed b (subst (λ (v : Verdict). T (isAccepted v)) (sym e) tt))
 
-pub one-more-accepted : One-more-accepted
+-- so c is accepted exactly if it has at most 16 exchanges and the new one passes 15 and 16
+pub one-more-accepted : (b c t : List ℕ) (k : ℕ) → OneMore b c k t → verdictOf b ≡ accepted →
+    (verdictOf c ≡ accepted) ↔ ((headerOf b .symmetries < 16) × T (permutesPairs (problemOf b) (exchangeIn b t)) × T (respects (problemOf b) (exchangeIn b t)))
 one-more-accepted b c t k more e =
     let a = one-more-answer b c t k more e in
     let p = problemOf b in

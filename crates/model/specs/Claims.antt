@@ -1,27 +1,16 @@
--- What the filter leaves, what question 16 shows, what the sets at a prefix are and what a sheet with one exchange more is answered, in the paper's words; and
--- the words of the second and the third demand, which crate order states. The proofs are in proofs/Demands.antt.
-use Rattle.model.specs.Kit.{_≡_, _↔_, Bool, false, not, List, _++_, map, List·Memᴰ, ℕ, suc, _+_, _-_, _*_, _^_, _≤_, _<_, length, take, drop, replicate, T, leb}
+-- What question 16 shows and what a sheet with one exchange more is answered, in the paper's words; and the words of the filter, of the sets at a prefix and of the
+-- second and the third demand, in which filter and promises state them. The proofs are in proofs/Demands.antt and OneMoreAccepted.antt.
+use Rattle.model.specs.Kit.{_≡_, Bool, false, not, List, _++_, map, List·Memᴰ, ℕ, suc, _+_, _-_, _*_, _^_, _≤_, _<_, length, take, drop, replicate, T, leb}
 use Rattle.model.specs.{Lists.any, Lists.at, Lists.keep, Lists.flat, Lists.below, Lists.both, Lists.earlier, Bytes.twoBytes, ValueSets.has, ValueSets.anyEmpty}
 use Rattle.model.specs.{Problem.Problem, Problem.Constraint, Problem.isSolution, Problem.assignments, Problem.takes, Problem.respects, Verdict.accepted, Verdict.ask}
-use Rattle.model.specs.{Sheet.words, Sheet.problemOf, Sheet.headerOf, Sheet.verdictOf, Sheet.permutesPairs, Nogood.Entry, Nogood.obeys, Nogood.filtered, Search.entriesOf}
-use Rattle.model.specs.{Search.rowWith, Search.setsAt, Search.isLive, Search.nodes, Search.isPlan, Run.Ending, Run.finished, Run.spent, Run.full, Run.plansIn, Run.listOf}
+use Rattle.model.specs.{Sheet.words, Sheet.problemOf, Sheet.headerOf, Sheet.verdictOf, Sheet.permutesPairs, Nogood.Entry, Nogood.filtered, Search.entriesOf}
+use Rattle.model.specs.{Search.rowWith, Search.nodes, Search.isPlan, Run.Ending, Run.finished, Run.spent, Run.full, Run.plansIn, Run.listOf}
 use Rattle.model.specs.Run.{listedPlans}
 
 -- ---- the filter
 -- a gives each variable a value of its set
 abbrev pub Drawn : List ℕ → List ℕ → Type 0
 Drawn ds a = (length a ≡ length ds) × ((x : ℕ) → x < length ds → T (has (at ds x) (at a x)))
-
--- a value stays exactly if some assignment from the sets uses it and obeys every nogood
-abbrev pub Filter-keeps : Type 0
-Filter-keeps =
-    (ds : List ℕ) (es : List Entry) → ((x : ℕ) → at ds x < 2 ^ 16) → (x v : ℕ) → x < length ds →
-    T (has (at (filtered ds es) x) v) ↔ ∥ ((a : List ℕ) × Drawn ds a × T (obeys a es) × (at a x ≡ v)) ∥₁
-
--- without such an assignment every set is empty
-abbrev pub Filter-empties : Type 0
-Filter-empties =
-    (ds : List ℕ) (es : List Entry) → ((x : ℕ) → at ds x < 2 ^ 16) → ((a : List ℕ) → Drawn ds a → T (obeys a es) → ⊥) → filtered ds es ≡ replicate (length ds) 0
 
 -- ---- question 16
 -- the exchanges of an accepted sheet permute its pairs and respect it
@@ -50,11 +39,7 @@ Largest name p prefix live ds =
     (T live → Consistent name p prefix ds × ((es : List ℕ) → Consistent name p prefix es → (x v : ℕ) → T (has (at es x) v) → T (has (at ds x) v)))
     × (live ≡ false → (ds ≡ replicate (p .variables) 0) × ((es : List ℕ) → Consistent name p prefix es → T (anyEmpty es)))
 
-abbrev pub Sets-largest : Type 0
-Sets-largest =
-    (b : List ℕ) (prefix : List ℕ) → verdictOf b ≡ accepted → Largest (λ x. x) (problemOf b) prefix (isLive (problemOf b) prefix) (setsAt (problemOf b) prefix)
-
--- ---- demands 2 and 3: the words in which crate order states them (specs/Demanded), of a run in any order of the variables
+-- ---- demands 2 and 3: the words in which they are stated, of a run in any order of the variables
 -- the plans that a caller finds in its list after a run that ended so
 abbrev pub plansHeld : List ℕ → ℕ → List ℕ → Ending → List (List ℕ)
 plansHeld b limit out e = listedPlans (problemOf b .variables) (plansIn e) (listOf b limit out)
@@ -113,9 +98,3 @@ abbrev pub One-more-answer : Type 0
 One-more-answer =
     (b c t : List ℕ) (k : ℕ) → OneMore b c k t → verdictOf b ≡ accepted →
     verdictOf c ≡ ask (leb (headerOf b .symmetries + 1) 16) 5 0 (ask (permutesPairs (problemOf b) (exchangeIn b t)) 15 k (ask (respects (problemOf b) (exchangeIn b t)) 16 k accepted))
-
--- so c is accepted exactly if it has at most 16 exchanges and the new one passes 15 and 16
-abbrev pub One-more-accepted : Type 0
-One-more-accepted =
-    (b c t : List ℕ) (k : ℕ) → OneMore b c k t → verdictOf b ≡ accepted →
-    (verdictOf c ≡ accepted) ↔ ((headerOf b .symmetries < 16) × T (permutesPairs (problemOf b) (exchangeIn b t)) × T (respects (problemOf b) (exchangeIn b t)))

@@ -9,6 +9,7 @@ pub mod Verdict
 pub mod Sheet
 pub mod WellFormed
 pub mod Nogood
+pub mod NogoodClaims
 pub mod Search
 pub mod Run
 pub mod Room

@@ -8,8 +8,8 @@ use Rattle.model.specs.Run.{finished, plansIn, nodesIn, resultOf, Answer, refus
 use Rattle.model.specs.Claims.{Chain}
 use Rattle.model.proofs.{Demands.read-back, Demands.reply-so, Demands.of-accepted, More.FewerIn, OneMore.one-more, Room.length-flat, Tally.made-inside}
 use Rattle.order.specs.{Order.Ordering, Reordered.write, Reordered.earlierBy, Reordered.reordered, RunBy.Input, RunBy.sheetInput, RunBy.resultBy, RunBy.placeTally}
-use Rattle.order.specs.{RunBy.leadersBy, RunBy.answerBy, RunBy.listBy, RunBy.plansBy, RunBy.talliedBy, Demanded.Tallied, Demanded.Demanded, Demanded.Fewer}
-use Rattle.order.specs.Demanded.{Demanded-sheet, Fewer-sheet, Sheet-run}
+use Rattle.order.specs.{RunBy.leadersBy, RunBy.answerBy, RunBy.listBy, RunBy.plansBy, RunBy.talliedBy, inner.Demanded.Tallied, inner.Demanded.Demanded, inner.Demanded.Fewer}
+use Rattle.order.specs.inner.Demanded.{Demanded-sheet, Fewer-sheet, Sheet-run}
 use Rattle.order.proofs.{LeadersBy.ordering-below, LeadersBy.read-below, LeadersBy.reordered-below, SetsBy.largest-by, RunBy.sublist-map, RunBy.leadersBy-ascend}
 use Rattle.order.proofs.RunBy.{leadersBy-hold, chainsBy, rows-sized-by, rows-counted-by, finished-lists, first-lists, none-lists, counts-by, fewer-by, same-result}
 use Rattle.order.proofs.RunBy.{same-leaders, same-counts, places-total, places-none, places-twelve}

@@ -3,5 +3,4 @@ pub mod Order
 pub mod Claims
 pub mod Reordered
 pub mod RunBy
-pub mod Demanded
 pub mod inner

@@ -6,7 +6,7 @@ use Rattle.model.specs.{Sheet.problemOf, Run.ended, Run.refusal, Run.plansIn, R
 use Rattle.model.proofs.{Lists.rowsAscend-take, Lists.rowsAscend-of, Lists.sorted-keep, Lists.keep-i, Lists.keep-e, Lists.map-ext, Assignments.assign-e, Assignments.assignments-sorted}
 use Rattle.model.proofs.{Leaders.sol-drawn, Leaders.leader-i, Leaders.leader-e, Chains.chains, Demands.sets-largest}
 use Rattle.order.specs.{Reordered.read, Reordered.write, Reordered.earlierBy, RunBy.Input, RunBy.sheetInput, RunBy.placeTally, RunBy.leadersBy, RunBy.answerBy, RunBy.listBy}
-use Rattle.order.specs.{RunBy.talliedBy, Demanded.Demanded, Demanded.Fewer}
+use Rattle.order.specs.{RunBy.talliedBy, inner.Demanded.Demanded, inner.Demanded.Fewer}
 use Rattle.order.proofs.{LeadersBy.ordering-below, LeadersBy.write-below, LeadersBy.reordered-below, RunBy.take-map, RunBy.leadersBy-is, RunBy.same-counts, Demanded.Sound, Demanded.ran-by}
 use Rattle.order.proofs.Demanded.{sound-sheet, demanded-sheet, fewer-sheet, sheet-run}
 use Rattle.run_input.specs.Lent.{lentInput}

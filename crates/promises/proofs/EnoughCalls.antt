@@ -5,7 +5,7 @@ use Rattle.model.proofs.Room.{length-listed}
 use Rattle.order.specs.RunBy.{leadersBy}
 use Rattle.order.proofs.Demanded.{ran-by}
 use Rattle.run_input.specs.Lent.{problemWith, orderLent, problemLent, lentInput, listLent}
-use Rattle.run_enough.specs.{AtLeast.enough, AtLeast.tooFew, AtLeast.unknown, Lent.enoughLent, LentClaims.AgreesLent, LentClaims.FiguresLent}
+use Rattle.run_enough.specs.{AtLeast.enough, AtLeast.tooFew, AtLeast.unknown, Lent.enoughLent, inner.LentClaims.AgreesLent, inner.LentClaims.FiguresLent}
 use Rattle.run_enough.proofs.{AtLeast.among-all, AtLeast.among-most, LentEnough.tree-leaders, LentEnough.enough-refused-lent, LentEnough.enough-none-lent}
 use Rattle.run_enough.proofs.LentEnough.{enough-agrees-lent, enough-figures-lent, enough-more-lent}
 use Rattle.run_state.specs.{declared.Tally.Tally, Meaning.endingOf, declared.Ending.Ending}

@@ -5,8 +5,8 @@ use Rattle.model.specs.{Verdict.Verdict, Verdict.accepted, Verdict.refused, Ver
 use Rattle.model.specs.Run.{listedPlans}
 use Rattle.run_input.specs.Lent.{verdictLent, problemWith}
 use Rattle.families.specs.Families.{FamilyCount, familiesOf}
-use Rattle.families_figure.specs.{Figure.Figure, Figure.number, Figure.dash, Figure.figureFor, Figure.bareSheet, Figure.familiesLent, FigureClaims.ranWith, FigureClaims.ranBare}
-use Rattle.families_figure.specs.FigureClaims.{Finished, OneListedEach}
+use Rattle.families_figure.specs.{Figure.Figure, Figure.number, Figure.dash, Figure.figureFor, Figure.bareSheet, Figure.familiesLent, inner.FigureClaims.ranWith, inner.FigureClaims.ranBare}
+use Rattle.families_figure.specs.{inner.FigureClaims.Finished, FigureClaims.OneListedEach}
 use Rattle.families_figure.proofs.FamiliesLent.{families-lent, bare-run, one-of-each-lent, block-alone-one-each}
 use Rattle.run.specs.{Calls.CallLent, declared.Answer.the-variants.Ended}
 use Rattle.promises.proofs.Demands.{is-ended, is-finished}

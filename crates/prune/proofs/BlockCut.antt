@@ -10,7 +10,7 @@ use Rattle.model.proofs.{Masks.has-oneIf, Masks.is-mask, Members.Rest, Members.
 use Rattle.model.proofs.Firsts.{take-at, take-length}
 use Rattle.arrays.specs.inner.Places.{DEAD}
 use Rattle.prune_constraints.proofs.Stores.{Moves, moves-more}
-use Rattle.block.specs.BlockSets.{cutAfter}
+use Rattle.block.specs.inner.BlockSets.{cutAfter}
 use Rattle.block.proofs.BlockSets.{cut-sets}
 use Rattle.prune.specs.inner.Steps.{Differ, cutBelow, CutOr}
 

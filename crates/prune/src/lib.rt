@@ -25,7 +25,7 @@ ghost use Rattle.model.specs.Lists.{both, at};
 ghost use Rattle.model.specs.ValueSets.{has, maskOf};
 ghost use Rattle.model.specs.Problem.{Problem};
 ghost use Rattle.model.specs.inner.Pruning.{Sets};
-ghost use Rattle.block.specs.BlockSets.{cutAfter};
+ghost use Rattle.block.specs.inner.BlockSets.{cutAfter};
 ghost use Rattle.arrays.specs.inner.Places.{INITIAL, SYMMETRIES, STACK, WORK};
 ghost use Rattle.arrays.specs.inner.Pruning.{setsOf};
 ghost use Rattle.prune.specs.inner.Node.{Ready, MarksRight, AtNode, Reached, longer};

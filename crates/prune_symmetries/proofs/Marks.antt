@@ -3,7 +3,7 @@ use Rattle.model.specs.Kit.{_≡_, refl, sym, subst, Bool, true, false, List, [
 use Rattle.model.specs.Kit.{ltb-false}
 use lib.Seq.{take-append-le}
 use Rattle.model.specs.{Lists.flat, Lists.upFrom, Lists.below, ValueSets.anyEmpty, ValueSets.Inside, Problem.Problem, Problem.symmetryAt, Nogood.Entry, Nogood.obeysFrom}
-use Rattle.model.specs.{Nogood.filtered, Nogood.Entails, Search.nogoodsOf, inner.Pruning.Sets}
+use Rattle.model.specs.{Nogood.filtered, NogoodClaims.Entails, Search.nogoodsOf, inner.Pruning.Sets}
 use Rattle.model.proofs.{Tree.nogoods-append, Endings.entails-mono}
 use Rattle.arrays.specs.inner.Places.{ENTAILED, OBEYED}
 use Rattle.filter.specs.Marks.{Vacuous, Skippable}

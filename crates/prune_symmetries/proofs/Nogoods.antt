@@ -4,7 +4,7 @@ use Rattle.model.specs.Kit.{take, length-take-le, ne-eqb}
 use mathlib.Core.List.{Memᴰ·append-right}
 use lib.Seq.{take-take}
 use Rattle.model.specs.{Lists.at, ValueSets.anyEmpty, Problem.Problem, Problem.symmetryAt, Nogood.Entry, Nogood.equality, Nogood.filtered, Nogood.entailed, Nogood.filterEnding}
-use Rattle.model.specs.{Nogood.Entails, Search.nogoodsOf}
+use Rattle.model.specs.{NogoodClaims.Entails, Search.nogoodsOf}
 use Rattle.model.proofs.{Lists.not-of, Lists.of-T, Sets.empty-e, Endings.entailed-exactly}
 use Rattle.arrays.specs.inner.Places.{ENTAILED, OBEYED, FAILED}
 use Rattle.filter.specs.{inner.Scan.None, inner.Scan.Passed, inner.Scan.Remainder, Marks.Vacuous, Marks.NamesGone, Marks.Skippable}

@@ -4,8 +4,8 @@ use Rattle.model.specs.{Problem.Problem, Search.nodes, Verdict.Verdict, Verdict
 use Rattle.model.specs.{Run.full, Run.ended, Run.resultOf, Claims.plansAmong}
 use Rattle.run_input.specs.Lent.{verdictLent, problemLent}
 use Rattle.run_input.proofs.Lent.{well-sheet}
-use Rattle.run_enough.specs.{AtLeast.Enough, AtLeast.enough, AtLeast.tooFew, AtLeast.unknown, AtLeast.enoughOf, AtLeast.nodesTo, AtLeast.says, Lent.answered, Lent.enoughLent}
-use Rattle.run_enough.proofs.AtLeast.{enough-none, enough-run}
+use Rattle.run_enough.specs.{AtLeast.Enough, AtLeast.enough, AtLeast.tooFew, AtLeast.unknown, AtLeast.enoughOf, AtLeast.nodesTo, Lent.answered, Lent.enoughLent}
+use Rattle.run_enough.proofs.AtLeast.{enough-none, says, enough-run}
 use Rattle.run.specs.{Meaning.means, inner.Whole.Wanted, inner.Tasks.enoughNone, inner.Tasks.enoughFor, declared.Answer.Answer}
 use Rattle.model.proofs.Accepted.{is-accepted}
 use Rattle.model.specs.Run as Run

@@ -4,7 +4,7 @@ use Rattle.model.specs.Kit.{_≡_, List, ℕ, replicate}
 use Rattle.model.specs.Run.{answerOf, listOf, tallyOf}
 use Rattle.run_input.specs.Lent.{answerLent, listLent, tallyLent}
 use Rattle.run_enough.specs.Lent.{enoughLent}
-use Rattle.run_state.specs.{Walk.noNodes, Meaning.tallyIn, declared.Tally.Tally}
+use Rattle.run_state.specs.{Meaning.tallyIn, declared.Tally.Tally}
 use Rattle.run.specs.{Meaning.means, Meaning.saidEnough, declared.Answer.Answer, declared.CountedRun.CountedRun, declared.Enough.Enough}
 
 -- `run`: sheet b, node limit, list `out` as it came, answer r, list `after` at the end
@@ -23,14 +23,14 @@ pub record CallLent (b pairs block : List ℕ) (limit : ℕ) (out : List ℕ) (t
   pub leaves : after ≡ listLent b pairs block limit out
   pub counts : tallyIn tally′ ≡ tallyLent b pairs block limit out (tallyIn tally)
 
--- `run_counted`, whose tally begins at nothing and is handed out in r
-abbrev pub CallCounted : List ℕ → List ℕ → List ℕ → ℕ → List ℕ → CountedRun → List ℕ → Type 0
-CallCounted b pairs block limit out r after =
-    (means (r .answer) ≡ answerLent b pairs block limit out) × (after ≡ listLent b pairs block limit out) × (tallyIn (r .tally) ≡ tallyLent b pairs block limit out noNodes)
-
 -- a tally of nothing
 abbrev pub noTally : Tally
 noTally = record { nodes = 0; counts = replicate 12 0 }
+
+-- `run_counted`, whose tally begins at nothing and is handed out in r
+abbrev pub CallCounted : List ℕ → List ℕ → List ℕ → ℕ → List ℕ → CountedRun → List ℕ → Type 0
+CallCounted b pairs block limit out r after =
+    (means (r .answer) ≡ answerLent b pairs block limit out) × (after ≡ listLent b pairs block limit out) × (tallyIn (r .tally) ≡ tallyLent b pairs block limit out (tallyIn noTally))
 
 -- `at_least`: r comes back
 abbrev pub CallEnough : List ℕ → List ℕ → List ℕ → ℕ → ℕ → Enough → Type 0

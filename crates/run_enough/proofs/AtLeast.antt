@@ -4,7 +4,7 @@ use Rattle.model.specs.Kit.{le-of-suc-le-suc, arith, leb, ltb, length, take, ta
 use native.Mathlib.Nat.{le-of-mul-le-mul-right}
 use Rattle.model.specs.{Lists.keep, ValueSets.least, Problem.Problem, Search.nodes, Search.isPlan, Run.Ending, Run.finished, Run.spent, Run.full, Run.plansIn, Run.nodesIn}
 use Rattle.model.specs.{Run.resultOf, Claims.plansAmong, Claims.CountsAt}
-use Rattle.run_enough.specs.AtLeast.{Enough, enough, tooFew, unknown, nodesTo, enoughOf, Enough-none, says, Enough-run, Enough-more}
+use Rattle.run_enough.specs.AtLeast.{Enough, enough, tooFew, unknown, nodesTo, enoughOf}
 use Rattle.model.proofs.{Masks.least-none, Masks.least-at, Masks.least-below, Masks.least-is, Runs.counts, Runs.nodes-allowed, Runs.rows-fit, Runs.rows-counted}
 
 -- ---- plans among the first nodes
@@ -155,7 +155,8 @@ module _ (p : Problem) where
           let g : suc plans ≤ length (keep (isPlan p) (nodes p)) = subst (λ (k : ℕ). k ≤ length (keep (isPlan p) (nodes p))) (c .1) (among-most made) in
           omega (arith, c .0, mul-le-mul-right (p .variables) g))
 
-pub enough-none : Enough-none
+-- m = 0: yes without a node, whatever the limit
+pub enough-none : (p : Problem) (limit : ℕ) → enoughOf p limit 0 ≡ enough 0 0
 enough-none p limit = is-enough p limit 0 (omega arith) ∙ ap (enough 0) (to-at p 0 0 (omega arith) (omega arith) (λ j l. absurd (not-suc-le-zero l)))
 
 times-lt : (a b n : ℕ) → a * n < b * n → a < b
@@ -165,7 +166,13 @@ times-lt a b n l = go (ltb a b) refl
     go true e = ltb-true a b e
     go false e = absurd (let r : b * n ≤ a * n = mul-le-mul-right n (ltb-false a b e) in omega arith)
 
-pub enough-run : Enough-run
+-- else it is what a run with room for m - 1 plans says: full is yes, finished is no, spent is spent
+abbrev pub says : Ending → Enough
+says (full plans made) = enough (suc plans) made
+says (finished plans made) = tooFew plans made
+says (spent plans made) = unknown plans made
+
+pub enough-run : (p : Problem) (limit m : ℕ) → 1 ≤ p .variables → enoughOf p limit (suc m) ≡ says (resultOf p limit (m * p .variables) .ending)
 enough-run p limit m h = go (resultOf p limit room .ending) refl
   where
     room : ℕ
@@ -197,7 +204,8 @@ enough-run p limit m h = go (resultOf p limit room .ending) refl
                 within true e = leb-true k (length (nodes p)) e
                 within false e = absurd (let l = leb-false k (length (nodes p)) e in omega (arith, s, t, among-all p k (omega arith), among-all p (k - 1) (omega arith)))
 
-pub enough-more : Enough-more
+-- a larger limit changes no answer but spent
+pub enough-more : (p : Problem) (limit limit′ m : ℕ) → limit ≤ limit′ → ((plans made : ℕ) → enoughOf p limit m ≡ unknown plans made → ⊥) → enoughOf p limit′ m ≡ enoughOf p limit m
 enough-more p limit limit′ m l h = go (enoughOf p limit m) refl
   where
     go : (e : Enough) → enoughOf p limit m ≡ e → enoughOf p limit′ m ≡ e

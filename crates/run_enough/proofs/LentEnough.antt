@@ -8,7 +8,7 @@ use Rattle.order.proofs.{Reordered.respected-reordered, RunBy.w2, RunBy.leaders
 use Rattle.run_input.specs.Lent.{verdictLent, problemWith, orderLent, problemLent, lentInput, answerLent, plansLent}
 use Rattle.run_input.proofs.Lent.{well-lent, respected-lent, ordering-lent, sound-lent}
 use Rattle.run_enough.specs.{AtLeast.Enough, AtLeast.enough, AtLeast.tooFew, AtLeast.unknown, AtLeast.nodesTo, AtLeast.enoughOf, Lent.answered, Lent.enoughLent}
-use Rattle.run_enough.specs.LentClaims.{Enough-refused-lent, Enough-none-lent, AgreesLent, Enough-agrees-lent, Enough-figures-lent, Enough-more-lent}
+use Rattle.run_enough.specs.inner.LentClaims.{Enough-refused-lent, Enough-none-lent, AgreesLent, Enough-agrees-lent, Enough-figures-lent, Enough-more-lent}
 use Rattle.run_enough.proofs.AtLeast.{Said, said, spends, among-all, among-most, is-enough, to-limit, to-count, to-before, enough-none, enough-more}
 
 of-answer : (b pairs block : List ℕ) (limit m : ℕ) (e : Enough) → enoughLent b pairs block limit m ≡ answered e → (verdictLent b pairs block ≡ accepted) ×

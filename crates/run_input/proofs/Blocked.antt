@@ -4,7 +4,7 @@ use Rattle.model.specs.Kit.{_≡_, refl, sym, ap, _∙_, List, map, ℕ, _<_, T
 use lib.Seq.{take-at}
 use Rattle.model.specs.{Lists.at, ValueSets.has, Problem.pair, Verdict.isAccepted, Sheet.problemOf, inner.Filling.Gathered}
 use Rattle.order.specs.Reordered.{renamed, symmetryIn, reordered}
-use Rattle.block.specs.{Block.tablesLent, Block.inLent, BlockSets.BlockIn}
+use Rattle.block.specs.{Block.tablesLent, Block.inLent, inner.BlockSets.BlockIn}
 use Rattle.run_input.specs.Lent.{verdictLent, orderLent, problemLent}
 use Rattle.model.proofs.{Lists.at-take, Lists.map-append, Filling.gathered-is, Filling.gathered-lt}
 use Rattle.block.proofs.BlockLent.{block-same, lent-reordered}

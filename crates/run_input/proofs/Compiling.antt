@@ -6,7 +6,7 @@ use Rattle.order.specs.{Order.settlingOrder, Order.orderVerdict, Order.Ordering
 use Rattle.order.proofs.{Order.no-pairs, Reordered.well-reordered, LeadersBy.reordered-below}
 use Rattle.arrays.specs.{inner.Layout.Compiled, inner.Places.VARIABLES}
 use Rattle.arrays_order.specs.inner.Reorder.{Movable, Moved}
-use Rattle.sheet.specs.{Form.Sized, Form.Compilation, Meaning.means, Meaning.andThen, declared.Answer.Answer, declared.Answer.the-variants.Accepted}
+use Rattle.sheet.specs.{inner.Form.Sized, inner.Form.Compilation, Meaning.means, Meaning.andThen, declared.Answer.Answer, declared.Answer.the-variants.Accepted}
 use Rattle.sheet.specs.declared.Answer.the-variants.{Refused}
 use Rattle.block.specs.Block.{blockLent}
 use Rattle.arrays_block.specs.inner.Asked.{Held}

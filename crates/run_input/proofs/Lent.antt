@@ -2,16 +2,15 @@
 use Rattle.model.specs.Kit.{_≡_, refl, ap, ap₂, _∙_, ⊎-elim, List, [], _++_, append-nil, List·Memᴰ, Memᴰ·append-left, ℕ, T}
 use mathlib.Core.List.{List·Memᴰ·append-cases, Memᴰ·append-right}
 use Rattle.model.specs.{Problem.Problem, Problem.respects, Problem.withSymmetries, Verdict.Verdict, Verdict.accepted, Verdict.refused, Verdict.isAccepted, Sheet.verdictOf}
-use Rattle.model.specs.{Sheet.problemOf, WellFormed.WellFormed, WellFormed.GoodSymmetry, WellFormed.Respected, Run.Ending, Run.ended}
+use Rattle.model.specs.{Sheet.problemOf, WellFormed.WellFormed, WellFormed.GoodSymmetry, WellFormed.Respected, Run.Ending, Run.ended, Claims.OneMore}
 use Rattle.model.proofs.{Accepted.Passed, Accepted.passed, Accepted.is-accepted, Asked.well-formed-with, Asked.respected-with, OneMore.one-more}
 use Rattle.order.specs.{Order.Ordering, Order.settlingOrder, Order.orderVerdict, Reordered.reordered, RunBy.Input, RunBy.sheetInput, RunBy.answerBy, RunBy.listBy, RunBy.talliedBy}
-use Rattle.order.specs.Claims.{OrderPassed}
+use Rattle.order.specs.{Claims.OrderPassed, inner.Demanded.Demanded, inner.Demanded.Fewer}
 use Rattle.order.proofs.{Order.order-passed, Order.no-pairs, Order.no-pairs-asked, Demanded.Sound, Demanded.ran-by, Demanded.demanded, Demanded.fewer, Demanded.sheet-run}
 use Rattle.sheet.specs.Meaning.{andThen}
 use Rattle.block.specs.Block.{tablesLent, blockLent}
 use Rattle.block.proofs.{Tables.Passes, BlockLent.tables-pass, BlockLent.tables-other}
-use Rattle.run_input.specs.{Lent.verdictLent, Lent.problemWith, Lent.orderLent, Lent.lentInput, Lent.answerLent, LentClaims.Nothing-lent, LentClaims.Demanded-lent}
-use Rattle.run_input.specs.LentClaims.{Fewer-lent}
+use Rattle.run_input.specs.{Lent.verdictLent, Lent.problemWith, Lent.orderLent, Lent.lentInput, Lent.answerLent, LentClaims.Nothing-lent}
 
 -- ---- what the questions show
 pub both-passed : (v u : Verdict) → T (isAccepted (andThen v u)) → T (isAccepted v) × T (isAccepted u)
@@ -62,7 +61,8 @@ sound-lent b pairs block v =
     let good = is-accepted (verdictLent b pairs block) v in
     record { well = well-lent b pairs block good; respected = respected-lent b pairs block good; ordering = ordering-lent b pairs block good }
 
-pub demanded-lent : Demanded-lent
+-- the demands, of a run that is lent a sheet, pairs and a block
+pub demanded-lent : (b pairs block : List ℕ) → Demanded (lentInput b pairs block)
 demanded-lent b pairs block = demanded (lentInput b pairs block) (sound-lent b pairs block)
 
 -- ---- one exchange more, under the same pairs and block
@@ -73,7 +73,8 @@ problem-other b c gs block e =
     ap (λ (q : Problem). withSymmetries q (q .symmetries ++ tablesLent q block)) e
     ∙ ap (λ (ts : List (List ℕ)). withSymmetries (problemOf b) (gs ++ ts)) (tables-other (problemOf b) gs block)
 
-pub fewer-lent : Fewer-lent
+-- one exchange more, both runs lent the same pairs and block
+pub fewer-lent : (b c t pairs block : List ℕ) (k : ℕ) → OneMore b c k t → Fewer (lentInput b pairs block) (lentInput c pairs block)
 unfolding verdictLent
 fewer-lent b c t pairs block k more =
     fewer (lentInput b pairs block) (lentInput c pairs block) (sound-lent b pairs block) (sound-lent c pairs block)

@@ -1,10 +1,8 @@
--- What is claimed of a run that is lent a sheet, pairs and a block (specs/Lent): its questions, an empty lending, and that all holds of it that crate order's
--- `Demanded` says of a run: "reads earlier" is "in the settling order" (paper 02, #108), and leaders and chains read the block's orderings (#111).
+-- What is claimed of a run that is lent a sheet, pairs and a block (specs/Lent): its questions, and an empty lending. Its demands are promises' (`DemandsLent`).
 -- The proofs are in proofs/Lent.antt and LentQuestions.antt.
 use Rattle.model.specs.Kit.{_≡_, _↔_, List, [], _∷_, List·Memᴰ, ℕ, _+_, _%_, _≤_, _<_, length}
 use Rattle.model.specs.{Verdict.accepted, Verdict.refused, Sheet.problemOf, Sheet.symmetriesVerdict, Sheet.verdictOf, Run.answerOf, Run.listOf, Run.Tally, Run.tallyOf}
-use Rattle.model.specs.Claims.{OneMore}
-use Rattle.order.specs.{Order.Circle, RunBy.sheetInput, Demanded.Demanded, Demanded.Fewer}
+use Rattle.order.specs.{Order.Circle, RunBy.sheetInput}
 use Rattle.block.specs.Block.{blockTables}
 use Rattle.run_input.specs.Lent.{verdictLent, lentInput, problemLent, answerLent, listLent, tallyLent}
 
@@ -46,11 +44,3 @@ pub record NothingLent (b : List ℕ) : Type 0 where
 
 abbrev pub Nothing-lent : Type 0
 Nothing-lent = (b : List ℕ) → NothingLent b
-
--- ---- the demands, of a run that is lent a sheet, pairs and a block
-abbrev pub Demanded-lent : Type 0
-Demanded-lent = (b pairs block : List ℕ) → Demanded (lentInput b pairs block)
-
--- one exchange more, both runs lent the same pairs and block
-abbrev pub Fewer-lent : Type 0
-Fewer-lent = (b c t pairs block : List ℕ) (k : ℕ) → OneMore b c k t → Fewer (lentInput b pairs block) (lentInput c pairs block)

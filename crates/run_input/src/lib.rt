@@ -3,7 +3,7 @@ ghost use mathlib.Core.Path.{_≡_};
 ghost use lib.ListN.{length};
 ghost use Rattle.model.specs.Problem.{Problem};
 ghost use Rattle.arrays.specs.inner.Places.{IMAGES, NUMBERS, SUPPORTS};
-ghost use Rattle.sheet.specs.Form.{Zeros};
+ghost use Rattle.sheet.specs.inner.Form.{Zeros};
 ghost use Rattle.arrays_block.specs.inner.Asked.{Held};
 ghost use Rattle.run_input.specs.Calls.{CallQuestionLent};
 ghost use Rattle.run_input.specs.inner.Compile.{Lendings, AskedLent, CompiledLent};

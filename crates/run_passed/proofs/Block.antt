@@ -5,7 +5,7 @@ use Rattle.model.specs.{Lists.at, ValueSets.has, ValueSets.Inside, Problem.Prob
 use Rattle.model.specs.{Search.setsAt, Search.isLive, Claims.Drawn, WellFormed.WellFormed}
 use Rattle.model.proofs.{Lists.at-append, Lists.at-skip, Lists.at-drop, Lists.at-map, Lists.at-out, Sets.has-lt, Sets.has-at-lt, Masks.has-one, Assignments.drawn-i, Prune.Sized, Prune.narrowed-i}
 use Rattle.model.proofs.{Prune.setsAt-sets, Consistent.live-consistent, Tree.well-sized, Child.child-sets}
-use Rattle.block.specs.BlockSets.{Reorders, BlockIn, Ascends}
+use Rattle.block.specs.{inner.BlockSets.Reorders, inner.BlockSets.BlockIn, BlockClaims.Ascends}
 use Rattle.block.proofs.BlockSets.{ascending-obeys, live-ascends}
 use Rattle.run_alike.proofs.Sets.{own-value, own-only}
 use Rattle.run_passed.specs.inner.Block.{Block-carries}

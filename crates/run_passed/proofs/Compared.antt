@@ -6,7 +6,7 @@ use Rattle.arrays.specs.inner.Places.{ENTAILED, OBEYED}
 use Rattle.filter.specs.Marks.{Skippable}
 use Rattle.filter.proofs.Marks.{skipped-below}
 use Rattle.prune_symmetries.specs.inner.Levels.{Resumes, MarkBy, Mark}
-use Rattle.block.specs.BlockSets.{BlockIn}
+use Rattle.block.specs.inner.BlockSets.{BlockIn}
 use Rattle.run_alike.specs.inner.Alike.{Obeyed, Vacuous, SameList, obeyed, same-left, carried, Alike}
 use Rattle.run_alike.proofs.{Kept.kept-left, Law.alike-below}
 use Rattle.run_passed.specs.inner.Compared.{SameKey, Right, Key-below}

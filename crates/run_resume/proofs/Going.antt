@@ -14,7 +14,7 @@ use Rattle.order.proofs.LeadersBy.{ordering-below, write-below, below-at}
 use Rattle.run_cut.specs.Parts.{after, nodesAfter, lastOf, Progress, goOn, madeIn, lastAfter}
 use Rattle.run_cut.proofs.{Resume.node-values, Resume.last-in, Resume.taken, Counts.counts-none, Anywhere.no-fewer}
 use Rattle.arrays.specs.inner.Places.{LIMIT, ROOM, PLANS, LAST, ALL, DEEPER, WORK}
-use Rattle.sheet.specs.Form.{compilable}
+use Rattle.sheet.specs.Meaning.{compilable}
 use Rattle.run_state.specs.{Walk.State, Walk.noNodes, Walk.kept, Walk.walk, Walk.stopIn, Walk.tallyBy, inner.Pair.prefixOf, inner.Pair.orderIn, inner.Pair.ownIn}
 use Rattle.run_state.specs.inner.Pair.{stateOf, AtPrefix, Walked}
 use Rattle.run_state.proofs.{Outcome.kept-none, Outcome.kept-over, Outcome.outcome-on, Prefix.length-prefix, Prefix.prefix-at, Prefix.prefix-ext, Prefix.prefix-zero}

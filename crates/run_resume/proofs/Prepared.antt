@@ -7,7 +7,7 @@ use Rattle.model.proofs.{Accepted.constraints-are, Accepted.symmetries-are, Acc
 use Rattle.run_input.specs.inner.Compile.{WithinLimits}
 use Rattle.arrays.specs.inner.Places.{VARIABLES, LIMIT, ROOM, PLANS, ALL, DEEPER, NUMBERS}
 use Rattle.arrays.specs.inner.Layout.{Compiled}
-use Rattle.sheet.specs.Form.{compilable, Recompilation}
+use Rattle.sheet.specs.{Meaning.compilable, inner.Form.Recompilation}
 use Rattle.sheet.proofs.Compilable.{compilable-fits, compilable-well}
 use Rattle.run_state.specs.inner.Pair.{ListRoom}
 use Rattle.run_tree.proofs.Laws.{dead-below}

@@ -3,7 +3,7 @@ use Rattle.model.specs.Kit.{_≡_, refl, sym, ap, _∙_, subst, List, ℕ, eqb,
 use Rattle.model.specs.{Lists.both, Verdict.Verdict, Verdict.accepted, Verdict.refused, Verdict.ask, Nogood.Entry, Nogood.filtered, Nogood.FilterAnswer, Nogood.refusal}
 use Rattle.model.specs.Nogood.{answered, failed, entailed, consistent, entries, firstWrong, filterVerdict, filterAnswer, setsAfter}
 use Rattle.model.proofs.Filter.{length-filtered}
-use Rattle.filter.specs.{Lists.means, FilterCalls.CallFilter, FilterCalls.ListsRight, declared.Answer.Answer, declared.Answer.the-variants.Failed}
+use Rattle.filter.specs.{Meaning.means, FilterCalls.CallFilter, FilterCalls.ListsRight, declared.Answer.Answer, declared.Answer.the-variants.Failed}
 use Rattle.filter.specs.declared.Answer.the-variants.{Entailed, Consistent, Refused}
 use Rattle.filter.proofs.FilterCalls.{right-accepted}
 use Rattle.run_retyped.specs.{Retyped.Within, Retyped.byTurns, Retyped.Applied, FilterAgain.Twice-calls, FilterAgain.Within-calls, FilterAgain.Turned, FilterAgain.none}

@@ -6,7 +6,8 @@ use Rattle.model.specs.{Lists.all, Lists.both, Lists.at, Lists.below, Lists.asc
 use Rattle.model.specs.{Verdict.accepted, Verdict.ask, Verdict.isAccepted, Sheet.Header, Sheet.word, Sheet.words, Sheet.headerOf, Sheet.scopeAt, Sheet.rowsAt, Sheet.afterAt}
 use Rattle.model.specs.Sheet.{constraintsFrom, tableAt, problemOf, setsVerdict, constraintVerdict, constraintsVerdict, headerVerdict, formVerdict, permutesPairs, symmetriesVerdict}
 use Rattle.model.specs.{Sheet.verdictOf, WellFormed.WellFormed, WellFormed.Respected}
-use Rattle.run_retyped.specs.Retyped.{SameSymmetries, blockSize, blocks, SameButOrder, Retyped-accepted, Retyped-back}
+use Rattle.run_retyped.specs.Retyped.{blockSize, blocks, SameButOrder}
+use Rattle.run_retyped.proofs.SameSearch.{SameSymmetries}
 use Rattle.model.proofs.{Lists.at-take, Lists.below-e, Lists.map-ext, Accepted.Passed, Accepted.passed, Accepted.asked, OneMore.after-low, OneMore.arity, OneMore.count}
 use Rattle.model.proofs.OneMore.{after-agree, scope-agree, rows-agree, Agree, word-same, words-same, word-agree, words-agree, constraints-agree}
 use Rattle.model.proofs.Asked.{symmetries-i, good-other, respects-other}
@@ -212,7 +213,8 @@ tables-pass p q s w r = subst (λ (r : Problem). symmetriesVerdict r 0 gs ≡ ac
     each : (g : List ℕ) → List·Memᴰ g gs → T (permutesPairs (withSymmetries p gs) g) × T (respects (withSymmetries p gs) g)
     each g m = let i = s .symmetries g .1 m in (good-other p gs g (w .symmetric g i) .permutes, respects-other p gs g (r .respectful g i))
 
-pub retyped-accepted : Retyped-accepted
+-- where one is accepted, the other is too; that no run can tell them apart is stated in specs/LentClaims (Retyped-lent), of the run that is lent pairs and a block
+pub retyped-accepted : (b c : List ℕ) → verdictOf b ≡ accepted → SameButOrder b c → verdictOf c ≡ accepted
 retyped-accepted b c hb s =
     verdict-is c ∙ ap (λ (h : Header). questions c h (symmetriesVerdict (problemOf c) 0 (problemOf c .symmetries))) (same-header b c ok s)
     ∙ questions-same b c ok s (symmetriesVerdict (problemOf c) 0 (problemOf c .symmetries))
@@ -223,7 +225,8 @@ retyped-accepted b c hb s =
     ok : Passed b
     ok = passed b (subst (λ (v : Verdict). T (isAccepted v)) (sym hb) tt)
 
-pub retyped-back : Retyped-back
+-- and differs from it only so
+pub retyped-back : (b c : List ℕ) → verdictOf b ≡ accepted → SameButOrder b c → SameButOrder c b
 retyped-back b c hb s =
     let e = same-header b c (passed b (subst (λ (v : Verdict). T (isAccepted v)) (sym hb) tt)) s in
     record {

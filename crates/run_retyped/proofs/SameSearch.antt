@@ -3,8 +3,17 @@ use Rattle.model.specs.Kit.{_≡_, refl, sym, ap, _∙_, subst, Bool, true, fal
 use Rattle.model.specs.{Lists.at, Lists.same, Lists.both, Lists.flat, ValueSets.has, ValueSets.members, ValueSets.anyEmpty, Problem.Problem, Problem.pair, Problem.withSymmetries}
 use Rattle.model.specs.{Nogood.Entry, Nogood.filtered, Search.entriesAt, Search.nogoodsOf, Search.pruned, Search.narrowed, Search.rounds, Search.setsAt, Search.isLive}
 use Rattle.model.specs.{Search.nodesBelow, Search.nodes, Search.isPlan, Run.Result, Run.spent, Run.full, Run.search, Run.resultOf}
-use Rattle.run_retyped.specs.Retyped.{SameSearch, Same-search}
+use Rattle.run_retyped.specs.Retyped.{SameSearch}
 use Rattle.model.proofs.{Lists.map-ext, Sets.inside-antisym, Prune.Kept, Prune.pruned-i, Prune.pruned-e, Prune.pruned-sets}
+
+-- ---- problems that differ only in the order of their symmetries
+-- Neither the order nor the number of times that one is named matters, so each is among the others' is all that is asked.
+pub record SameSymmetries (p q : Problem) : Type 0 where
+  pub variables : q .variables ≡ p .variables
+  pub values : q .values ≡ p .values
+  pub initial : q .initial ≡ p .initial
+  pub constraints : q .constraints ≡ p .constraints
+  pub symmetries : (g : List ℕ) → List·Memᴰ g (p .symmetries) ↔ List·Memᴰ g (q .symmetries)
 
 -- ---- one round
 nogoods-same : (p : Problem) (gs : List (List ℕ)) (g prefix : List ℕ) → nogoodsOf (withSymmetries p gs) g prefix ≡ nogoodsOf p g prefix
@@ -94,7 +103,7 @@ module _ (p : Problem) (gs : List (List ℕ)) (h : (g : List ℕ) → List·Mem�
   unfolding resultOf
   result-same limit room = ap (λ (l : List (List ℕ)). search q limit room l 0 []) nodes-same ∙ search-same limit room (nodes p) 0 []
 
-pub same-search : Same-search
+pub same-search : (p q : Problem) → SameSymmetries p q → SameSearch p q
 same-search p q s = subst (SameSearch p) (sym whole) (record { sets = sets-same p gs h; live = live-same p gs h; plans = plan-same p gs h; tree = nodes-same p gs h; results = result-same p gs h })
   where
     gs : List (List ℕ)

@@ -2,7 +2,6 @@
 use Rattle.model.specs.Kit.{_≡_, refl, sym, ap, _∙_, subst, Bool, true, false, List, ℕ, zero, suc, _*_, _^_, _≤_, _<_, arith, T, ltb, length, ltb-true, ltb-false}
 use Rattle.model.specs.{Lists.at, Lists.same, ValueSets.has, ValueSets.Inside, Nogood.Entry, Nogood.filtered, inner.Pruning.Sets}
 use Rattle.run_retyped.specs.Retyped.{Within, Filter-twice, Filter-within, turns, byTurns, Applied, none, first, second, LargestLeft, Turns-largest, Turns-either, Turns-any}
-use Rattle.run_retyped.specs.Retyped.{Turns-applied}
 use Rattle.model.proofs.{Lists.T-of, Lists.of-not, Lists.same-eq, Lists.same-refl, Sets.inside-refl, Sets.inside-trans, Sets.inside-antisym, Sets.size, Sets.size-le}
 use Rattle.model.proofs.{Sets.size-strict, Filter.length-filtered, Filter.filtered-sets, Filter.filtered-inside, Filter.filtered-mono, Filter.filtered-idem}
 
@@ -133,6 +132,7 @@ turns-any es fs ds rs a e f =
     }
     (turns-largest es fs ds)
 
-pub turns-applied : Turns-applied
+-- such an order is by turns
+pub turns-applied : (es fs : List Entry) (ds : List ℕ) → Applied es fs ds (byTurns es fs ds)
 unfolding byTurns
 turns-applied es fs ds = turns-ind es fs (Applied es fs ds) (λ rs a. second (first a)) (suc (length ds * 16)) ds none

@@ -1,8 +1,8 @@
 -- Paper 02, #109: the filter applied again, to smaller sets, and by turns with another list; and problems and sheets that differ only
 -- in the order of their symmetries (the paper's exchanges). The proofs are in proofs/Turns.antt, proofs/SameSearch.antt and proofs/Retyped.antt.
-use Rattle.model.specs.Kit.{_≡_, true, false, _↔_, List, map, List·Memᴰ, ℕ, zero, suc, _+_, _*_, _^_, _<_, length, take, drop, T}
+use Rattle.model.specs.Kit.{_≡_, true, false, List, map, ℕ, zero, suc, _+_, _*_, _^_, _<_, length, take, drop, T}
 use mathlib.Core.List.{List·Permᴰ}
-use Rattle.model.specs.{Lists.at, Lists.same, Lists.below, ValueSets.has, Problem.Problem, Verdict.accepted, Sheet.Header, Sheet.headerOf, Sheet.verdictOf, Nogood.Entry}
+use Rattle.model.specs.{Lists.at, Lists.same, Lists.below, ValueSets.has, Problem.Problem, Sheet.Header, Sheet.headerOf, Nogood.Entry}
 use Rattle.model.specs.{Nogood.filtered, Search.setsAt, Search.isLive, Search.isPlan, Search.nodes, Run.resultOf}
 
 -- ---- the filter
@@ -54,29 +54,14 @@ Turns-either = (es fs : List Entry) (ds : List ℕ) → byTurns es fs ds ≡ byT
 abbrev pub Turns-any : Type 0
 Turns-any = (es fs : List Entry) (ds rs : List ℕ) → Applied es fs ds rs → filtered rs es ≡ rs → filtered rs fs ≡ rs → rs ≡ byTurns es fs ds
 
--- such an order is by turns
-abbrev pub Turns-applied : Type 0
-Turns-applied = (es fs : List Entry) (ds : List ℕ) → Applied es fs ds (byTurns es fs ds)
-
--- ---- problems that differ only in the order of their symmetries
--- Neither the order nor the number of times that one is named matters, so each is among the others' is all that is asked.
-pub record SameSymmetries (p q : Problem) : Type 0 where
-  pub variables : q .variables ≡ p .variables
-  pub values : q .values ≡ p .values
-  pub initial : q .initial ≡ p .initial
-  pub constraints : q .constraints ≡ p .constraints
-  pub symmetries : (g : List ℕ) → List·Memᴰ g (p .symmetries) ↔ List·Memᴰ g (q .symmetries)
-
--- they have the same sets at every prefix, the same nodes and plans, and under one limit and room the same rows, figures and ending
+-- ---- problems that differ only in the order of their symmetries: the same sets at every prefix, the same nodes and plans, and under one limit and room the same rows,
+-- figures and ending
 pub record SameSearch (p q : Problem) : Type 0 where
   pub sets : (prefix : List ℕ) → setsAt q prefix ≡ setsAt p prefix
   pub live : (prefix : List ℕ) → isLive q prefix ≡ isLive p prefix
   pub plans : (node : List ℕ) → isPlan q node ≡ isPlan p node
   pub tree : nodes q ≡ nodes p
   pub results : (limit room : ℕ) → resultOf q limit room ≡ resultOf p limit room
-
-abbrev pub Same-search : Type 0
-Same-search = (p q : Problem) → SameSymmetries p q → SameSearch p q
 
 -- ---- sheets
 -- the exchanges of a sheet as blocks of bytes, by a header
@@ -92,11 +77,3 @@ pub record SameButOrder (b c : List ℕ) : Type 0 where
   pub long : length c ≡ length b
   pub front : take (headerOf b .third) c ≡ take (headerOf b .third) b
   pub permuted : List·Permᴰ (blocks (headerOf b) b) (blocks (headerOf b) c)
-
--- where one is accepted, the other is too; that no run can tell them apart is stated in specs/LentClaims (Retyped-lent), of the run that is lent pairs and a block
-abbrev pub Retyped-accepted : Type 0
-Retyped-accepted = (b c : List ℕ) → verdictOf b ≡ accepted → SameButOrder b c → verdictOf c ≡ accepted
-
--- and differs from it only so
-abbrev pub Retyped-back : Type 0
-Retyped-back = (b c : List ℕ) → verdictOf b ≡ accepted → SameButOrder b c → SameButOrder c b

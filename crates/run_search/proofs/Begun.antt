@@ -6,7 +6,7 @@ use Rattle.model.specs.{Lists.at, Lists.below, ValueSets.has, Problem.Problem, 
 use Rattle.model.proofs.{Lists.T-of, Lists.at-set, Lists.at-set-other, Lists.at-ext, Lists.at-take, Members.has-0}
 use Rattle.order.specs.Order.{Ordering}
 use Rattle.order.proofs.LeadersBy.{ordering-below, below-at}
-use Rattle.block.specs.BlockSets.{BlockIn}
+use Rattle.block.specs.inner.BlockSets.{BlockIn}
 use Rattle.run_input.specs.inner.Compile.{WithinLimits}
 use Rattle.arrays.specs.inner.Places.{VARIABLES, VALUES, CONSTRAINTS, SYMMETRIES, LIMIT, ROOM, ORDER, BLOCK, PLANS, ALL, DEEPER, NUMBERS, STACK, TABLES, WORK}
 use Rattle.arrays.specs.inner.Layout.{Numbers, Compiled}

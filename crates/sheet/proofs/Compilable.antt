@@ -4,7 +4,7 @@ use Rattle.model.specs.{Lists.all, Lists.both, Lists.below, Lists.ascending, Li
 use Rattle.model.specs.Sheet.{word, headerOf, headerVerdict, offsetsFit, setsVerdict, scopeAt, rowsAt, afterAt, constraintVerdict, constraintsVerdict, tableAt, problemOf}
 use Rattle.model.specs.{Sheet.permutesPairs, Sheet.tablesFit, Sheet.formVerdict, Sheet.symmetriesVerdict, Sheet.verdictOf, WellFormed.WellFormed}
 use Rattle.model.proofs.{Lists.all-e, Lists.all-i, Accepted.length-words, Accepted.symmetries-e}
-use Rattle.sheet.specs.{inner.Parts.Fit, inner.Decoding.permuting, Form.compilable}
+use Rattle.sheet.specs.{inner.Parts.Fit, inner.Decoding.permuting, Meaning.compilable}
 use Rattle.sheet.proofs.Stating.{FormPassed, form-e}
 
 -- ---- what is asked after questions 1 to 14 does not matter to them

@@ -4,8 +4,8 @@ use Rattle.model.specs.{Verdict.Verdict, Verdict.accepted, Verdict.ask, Sheet.H
 use Rattle.model.specs.Sheet.{formVerdict}
 use Rattle.arrays.specs.{inner.Layout.Numbers, inner.Layout.Supports, inner.Places.SUPPORTS, inner.Places.NUMBERS}
 use Rattle.sheet.specs.{Meaning.means, Meaning.andThen, Meaning.Answers, inner.Parts.headerAsked, inner.Parts.setsAsked, inner.Parts.Fit, inner.Parts.AllSets}
-use Rattle.sheet.specs.{inner.Parts.SetsAsked, inner.Steps.constraintsAsked, inner.Steps.ConstraintsAsked, inner.Steps.numbersTo, Form.Zeros, Form.counted, Form.FormAsked}
-use Rattle.sheet.specs.{Form.FormRead, declared.Answer.Answer, declared.Answer.the-variants.Accepted, declared.Answer.the-variants.Refused}
+use Rattle.sheet.specs.{inner.Parts.SetsAsked, inner.Steps.constraintsAsked, inner.Steps.ConstraintsAsked, inner.Steps.numbersTo, inner.Form.Zeros, inner.Form.counted, inner.Form.FormAsked}
+use Rattle.sheet.specs.{inner.Form.FormRead, declared.Answer.Answer, declared.Answer.the-variants.Accepted, declared.Answer.the-variants.Refused}
 use Rattle.sheet.specs.declared.form.Form.the-variants.{Passed, Refused as NotPassed}
 use Rattle.reader.specs.{inner.Read.stated, declared.Header.Header}
 use Rattle.sheet.proofs.{Asking.stop, Passed.fit, Passed.good, Numbered.numbered, Numbered.numbered-length, Numbered.supports-length, Numbered.supports-hold}

@@ -4,7 +4,7 @@ use Rattle.model.specs.{Lists.at, Lists.both, Lists.either, Lists.any, Lists.be
 use Rattle.model.specs.Sheet.{headerOf, word, scopeAt, rowsAt, problemOf, tableAt}
 use Rattle.model.proofs.{Lists.length-below, Lists.at-set, Lists.at-set-other, Sets.has-none, Accepted.length-words, Accepted.at-words, Accepted.length-constraints}
 use Rattle.arrays.specs.{inner.Layout.Numbers, inner.Layout.Supports, inner.Layout.place, inner.Places.SUPPORTS, inner.Places.NUMBERS}
-use Rattle.sheet.specs.{inner.Parts.Fit, inner.Parts.AllSets, inner.Steps.offsetAt, inner.Steps.numbersTo, inner.Steps.supportsTo, Form.counted}
+use Rattle.sheet.specs.{inner.Parts.Fit, inner.Parts.AllSets, inner.Steps.offsetAt, inner.Steps.numbersTo, inner.Steps.supportsTo, inner.Form.counted}
 use Rattle.sheet.proofs.{Touch.Good, Touch.Held, Touch.held, Touch.packed-arity, Touch.packed-at, Backing.Backed, Backing.backed, Backing.set-of-rows, Passed.constraint-at}
 
 -- ---- the four counts

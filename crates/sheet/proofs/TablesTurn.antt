@@ -4,7 +4,7 @@ use Rattle.model.specs.{Lists.upFrom, Lists.below, Verdict.Verdict, Verdict.acc
 use Rattle.model.specs.Sheet.{problemOf, permutesPairs, formVerdict, symmetriesVerdict}
 use Rattle.arrays.specs.inner.Layout.{Numbers}
 use Rattle.sheet_symmetries.specs.inner.Table.{TableAt, Asked, tableOf, answerOf, tableAnswer}
-use Rattle.sheet.specs.{Meaning.means, Form.Formed, declared.Answer.the-variants.Accepted, declared.Answer.the-variants.Refused}
+use Rattle.sheet.specs.{Meaning.means, inner.Form.Formed, declared.Answer.the-variants.Accepted, declared.Answer.the-variants.Refused}
 use Rattle.sheet.proofs.Stating.{form-passed}
 
 -- the offset of a table

@@ -6,8 +6,9 @@ use Rattle.model.specs.Sheet.{verdictOf}
 use Rattle.model.proofs.{Lists.at-replicate, Lists.all-i, Lists.of-T, Accepted.symmetries-e, Accepted.is-accepted}
 use Rattle.arrays.specs.inner.Layout.{Compiled}
 use Rattle.reader.specs.declared.Header.{Header}
-use Rattle.sheet.specs.{Meaning.means, Meaning.andThen, inner.Decoding.permuting, inner.Decoding.Tabled, inner.Decoding.TablesDecoded, Form.Zeros, Form.Formed, Form.answer}
-use Rattle.sheet.specs.{Form.FormRead, Form.Sized, Form.Compilation, Form.compilable, Form.Recompilation, declared.Answer.Answer, declared.Answer.the-variants.Accepted}
+use Rattle.sheet.specs.{Meaning.means, Meaning.andThen, inner.Decoding.permuting, inner.Decoding.Tabled, inner.Decoding.TablesDecoded, inner.Form.Zeros, inner.Form.Formed, inner.Form.answer}
+use Rattle.sheet.specs.{inner.Form.FormRead, inner.Form.Sized, inner.Form.Compilation, Meaning.compilable, inner.Form.Recompilation, declared.Answer.Answer}
+use Rattle.sheet.specs.declared.Answer.the-variants.{Accepted}
 use Rattle.sheet.specs.{declared.Answer.the-variants.Refused, declared.form.Form.Form, declared.form.Form.the-variants.Passed}
 use Rattle.sheet.specs.declared.form.Form.the-variants.{Refused as NotPassed}
 use Rattle.sheet.proofs.Compilable.{asked-last}

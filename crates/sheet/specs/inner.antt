@@ -3,3 +3,4 @@ pub mod Parts
 pub mod Fill
 pub mod Steps
 pub mod Decoding
+pub mod Form

@@ -17,7 +17,7 @@ ghost use lib.ListN.{length};
 ghost use Rattle.model.specs.Sheet.{headerOf, tablesFit};
 ghost use Rattle.arrays.specs.inner.Places.{SUPPORTS, NUMBERS};
 ghost use Rattle.reader.specs.inner.Read.{stated};
-ghost use Rattle.sheet.specs.Form.{Zeros, counted, FormAsked, FormRead};
+ghost use Rattle.sheet.specs.inner.Form.{Zeros, counted, FormAsked, FormRead};
 
 // The answer to questions 1 to 14: the header as read, or the first "no".
 pub enum Form {

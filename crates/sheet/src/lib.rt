@@ -2,7 +2,7 @@
 ghost use mathlib.Core.Path.{_≡_};
 ghost use lib.ListN.{length};
 ghost use Rattle.sheet.specs.Calls.{CallQuestion};
-ghost use Rattle.sheet.specs.Form.{Zeros, Compilation, Recompilation};
+ghost use Rattle.sheet.specs.inner.Form.{Zeros, Compilation, Recompilation};
 ghost use Rattle.arrays.specs.inner.Places.{IMAGES, NUMBERS, SUPPORTS};
 
 mod constraints; // questions 9 to 13

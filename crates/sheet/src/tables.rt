@@ -13,7 +13,7 @@ ghost use Rattle.model.specs.Sheet.{headerOf, problemOf, permutesPairs, symmetr
 ghost use Rattle.arrays.specs.inner.Places.{IMAGES};
 ghost use Rattle.sheet_symmetries.specs.inner.Table.{TableAt, tableOf};
 ghost use Rattle.sheet.specs.Meaning.{means};
-ghost use Rattle.sheet.specs.Form.{Formed};
+ghost use Rattle.sheet.specs.inner.Form.{Formed};
 ghost use Rattle.sheet.specs.inner.Decoding.{Decodable, Decoded, Tabled, TablesDecoded};
 ghost use Rattle.reader.specs.inner.Read.{stated};
 

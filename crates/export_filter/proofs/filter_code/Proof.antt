@@ -1,6 +1,6 @@
 -- `filter_code`: the number of each case. Assumes nothing.
 use Rattle.model.specs.Kit.{sym, ap, _∙_, subst, needs}
-use Rattle.filter.specs.{declared.Answer.Answer, Lists.means}
+use Rattle.filter.specs.{declared.Answer.Answer, Meaning.means}
 use Rattle.export_filter.specs.Filter.{filterAnswerCode, SmallAnswer}
 use Rattle.export_filter.proofs.filter_code.Statement.{statement}
 use Rattle.export_filter.proofs.filter_code.Tie as tie

@@ -1,7 +1,7 @@
 -- `filter_words`: the sets are read, filtered and written. Assumes nothing.
 use Rattle.model.specs.Kit.{_≡_, sym, ap, _∙_, subst, List, ℕ, needs}
 use Rattle.model.specs.Nogood.{entries, filterVerdict, filterAnswer, setsAfter}
-use Rattle.filter.specs.Lists.{means}
+use Rattle.filter.specs.Meaning.{means}
 use Rattle.export_filter.specs.Filter.{filterAnswerCode, setsIn, bytesOf, filteredBytes, SmallAnswer}
 use Rattle.export_filter.proofs.{Filtered.answer-small, filter_words.Statement.statement}
 use Rattle.export_filter.proofs.filter_words.Tie as tie

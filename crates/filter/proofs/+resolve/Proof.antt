@@ -3,7 +3,7 @@ use Rattle.model.specs.Kit.{ℕ, _+_, _-_, _<_, arith, length, now, needs}
 use borrow.Fn.Kinds.{In}
 use borrow.Fn.PlainCycle.{Measures, is, falls, and}
 use Rattle.model.specs.Lists.{at}
-use Rattle.filter.specs.Lists.{AtSplit, PassResult}
+use Rattle.filter.specs.inner.Lists.{AtSplit, PassResult}
 use Rattle.filter.proofs.Splits.{split-asks, split-ready, resolved-gone, resolved-end, next-split, next-later, resolved-changed, resolved-consistent, resolved-again}
 use Rattle.filter.proofs.{+resolve.statement, +resolve.Tie.close}
 use Rattle.filter.proofs.resolve.Kinds as resolve-kinds

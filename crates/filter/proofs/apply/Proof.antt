@@ -1,7 +1,7 @@
 -- `filter::apply` meets its contract. Assumes nothing.
 use Rattle.model.specs.Kit.{refl, length, needs}
 use Rattle.model.specs.Nogood.{entries}
-use Rattle.filter.specs.Lists.{ScanResult}
+use Rattle.filter.specs.inner.Lists.{ScanResult}
 use Rattle.filter.proofs.Splits.{ones-small, empty-applied, load-ready, none-applied, entailed-sixteen, entailed-applied, consistent-sixteen, consistent-applied}
 use Rattle.filter.proofs.apply.Statement.{statement}
 use Rattle.filter.proofs.apply.Tie as tie

@@ -5,7 +5,7 @@
 use Rattle.model.specs.Kit.{_≡_, Bool, false, not, List, [], _∷_, _++_, ℕ, _+_, _*_, _≤_, _<_, T, length, take}
 use Rattle.model.specs.{Lists.at, ValueSets.has, Problem.Problem, Problem.withSymmetries, Search.setsAt, Search.isLive, WellFormed.WellFormed}
 use Rattle.arrays.specs.{inner.Places.BLOCK, inner.Places.MARKS, inner.Places.STACK, inner.Places.WORK, inner.Tables.Indexed}
-use Rattle.block.specs.BlockSets.{BlockIn}
+use Rattle.block.specs.inner.BlockSets.{BlockIn}
 use Rattle.prune_symmetries.specs.inner.Levels.{Mark}
 
 -- depth k of the stack holds the sets ds of p's variables, and {0} for every other of sixteen

@@ -6,7 +6,7 @@ use Rattle.model.specs.{Problem.constraintAt, Nogood.filtered, Search.nogoodsOf
 use Rattle.model.specs.WellFormed.{WellFormed}
 use Rattle.arrays.specs.{inner.Places.MARKS, inner.Places.DEAD, inner.Places.WORK, inner.Tables.Indexed, inner.Tables.byRows, inner.Pruning.Given, inner.Pruning.Ended}
 use Rattle.arrays.specs.inner.Pruning.{Fixed, Arc, setsOf}
-use Rattle.block.specs.BlockSets.{BlockIn, Ascends}
+use Rattle.block.specs.{inner.BlockSets.BlockIn, BlockClaims.Ascends}
 use Rattle.prune.specs.inner.Node.{MarksRight, blockOf}
 
 -- the arrays hold p

@@ -3,7 +3,7 @@ use Rattle.model.specs.Kit.{_≡_, List, ℕ, _≤_, length, take}
 use Rattle.model.specs.{Problem.Problem, Sheet.problemOf, WellFormed.WellFormed}
 use Rattle.order.specs.{Order.settlingOrder, Order.orderVerdict, Order.Ordering, Reordered.reordered}
 use Rattle.arrays.specs.inner.Layout.{Compiled}
-use Rattle.sheet.specs.{Form.Sized, Meaning.means, declared.Answer.Answer, declared.Answer.the-variants.Accepted}
+use Rattle.sheet.specs.{inner.Form.Sized, Meaning.means, declared.Answer.Answer, declared.Answer.the-variants.Accepted}
 use Rattle.block.specs.Block.{blockLent}
 use Rattle.run_input.specs.Lent.{verdictLent, orderLent}
 

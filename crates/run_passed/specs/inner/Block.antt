@@ -2,7 +2,7 @@
 -- whatever values of the block either has settled.
 use Rattle.model.specs.Kit.{_≡_, Bool, List, ℕ, T, length, drop}
 use Rattle.model.specs.{Problem.Problem, Problem.withSymmetries, Search.setsAt, Search.isLive, WellFormed.WellFormed}
-use Rattle.block.specs.BlockSets.{Reorders, BlockIn}
+use Rattle.block.specs.inner.BlockSets.{Reorders, BlockIn}
 use Rattle.run_alike.specs.inner.Alike.{Carries}
 
 abbrev pub Block-carries : Type 0

@@ -4,7 +4,7 @@ use Rattle.model.specs.Kit.{_≡_, Bool, _⊎_, List, ℕ, _+_, _%_, _≤_, _<_
 use Rattle.model.specs.{Lists.at, Problem.Problem, Problem.withSymmetries, Search.setsAt, Search.isLive, WellFormed.WellFormed, WellFormed.Respected}
 use Rattle.arrays.specs.inner.Places.{ENTAILED, OBEYED}
 use Rattle.prune_symmetries.specs.inner.Levels.{Mark}
-use Rattle.block.specs.BlockSets.{BlockIn}
+use Rattle.block.specs.inner.BlockSets.{BlockIn}
 use Rattle.run_alike.specs.{inner.Alike.SameSettled, inner.Claims.SameBelow}
 
 -- both marks say OBEYED, or neither, and both say that the levels up to `low` say nothing more

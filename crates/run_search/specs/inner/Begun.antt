@@ -2,7 +2,7 @@
 use Rattle.model.specs.Kit.{_≡_, false, List, [], ℕ, _*_, _^_, _<_, T, length, take}
 use Rattle.model.specs.{Lists.at, ValueSets.has, Problem.Problem, Problem.withSymmetries, Search.isLive, Run.Tally}
 use Rattle.order.specs.Order.{Ordering}
-use Rattle.block.specs.BlockSets.{BlockIn}
+use Rattle.block.specs.inner.BlockSets.{BlockIn}
 use Rattle.run_input.specs.inner.Compile.{WithinLimits}
 use Rattle.arrays.specs.inner.Places.{LIMIT, ROOM, ORDER, PLANS, ALL, DEEPER, NUMBERS, STACK, TABLES, WORK, DIAGONAL}
 use Rattle.arrays.specs.inner.Layout.{Compiled}

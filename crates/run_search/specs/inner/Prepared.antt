@@ -3,7 +3,7 @@ use Rattle.model.specs.Kit.{_≡_, false, List, [], ℕ, _-_, _*_, _^_, _<_, eq
 use Rattle.model.specs.{Lists.at, Lists.choose, Search.isLive, Verdict.accepted, Verdict.refused, Sheet.problemOf}
 use Rattle.run_input.specs.Lent.{verdictLent, orderLent, problemLent}
 use Rattle.arrays.specs.inner.Places.{LIMIT, ROOM, PLANS, NUMBER, ITEM, ALL, DEEPER, REFUSED, NUMBERS, STACK, SUPPORTS, TABLES, WORK, WANTED}
-use Rattle.sheet.specs.Form.{Zeros}
+use Rattle.sheet.specs.inner.Form.{Zeros}
 use Rattle.run_state.specs.{Walk.noNodes, inner.Pair.orderIn, inner.Pair.AtPrefix}
 use Rattle.run_task.specs.inner.Task.{roomFor}
 

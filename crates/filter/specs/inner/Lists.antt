@@ -1,26 +1,17 @@
--- What the answer of the filter means, and what the functions that read the three lists say to each other.
+-- What the functions that read the three lists say to each other.
 use Rattle.model.specs.Kit.{_≡_, Bool, true, false, List, [], map, ℕ, _≤_, _<_, length, set, take, drop}
-use Rattle.model.specs.{Lists.at, ValueSets.onlyMask, Verdict.Verdict, Verdict.accepted, Verdict.refused, Nogood.Entry, Nogood.equality, Nogood.filtered, Nogood.failed}
-use Rattle.model.specs.Nogood.{entailed, consistent, filterEnding, FilterAnswer, refusal, answered, Kind, isEquality, isDisequality, bothAbsent, bothPresent, entryOf, entries}
-use Rattle.filter.specs.{declared.Answer.Answer, declared.Ending.Ending, declared.Kind.the-variants.Equality, declared.Kind.the-variants.Disequality}
+use Rattle.model.specs.{Lists.at, ValueSets.onlyMask, Verdict.Verdict, Verdict.accepted, Verdict.refused, Nogood.Entry, Nogood.equality, Nogood.filtered}
+use Rattle.model.specs.Nogood.{filterEnding, answered, Kind, isEquality, isDisequality, bothAbsent, bothPresent, entryOf, entries}
+use Rattle.filter.specs.{Meaning.means, declared.Answer.Answer, declared.Ending.Ending, declared.Kind.the-variants.Equality, declared.Kind.the-variants.Disequality}
 use Rattle.filter.specs.{declared.Kind.the-variants.BothAbsent, declared.Kind.the-variants.BothPresent, declared.Reached.Reached, declared.Reached.the-variants.Failed}
 use Rattle.filter.specs.{declared.Reached.the-variants.End, declared.Reached.the-variants.Split, inner.Scan.Right, inner.Scan.stepOf, inner.Scan.None, inner.Scan.Live}
 use Rattle.filter.specs.inner.Scan.{Passed, Resolved}
-use Rattle.filter.specs.declared.Answer.the-variants as answer
 use Rattle.filter.specs.declared.Verdict as code
 use Rattle.filter.specs.declared.Verdict.the-variants as verdict
 use Rattle.filter.specs.declared.Ending.the-variants as ending
 use Rattle.filter.specs.declared.Kind as kind
 use Rattle.filter.specs.declared.entry.Step.the-variants as step
 
--- the ending of paper 02, #102, or the number and the item of paper 01 for each answer
-abbrev pub means : Answer → FilterAnswer
-means answer.Failed = answered failed
-means answer.Entailed = answered entailed
-means answer.Consistent = answered consistent
-means (answer.Refused number item) = refusal number item
-
--- ---- between the functions of the crate: no reader has to believe what follows
 abbrev pub verdictIs : code.Verdict → Verdict
 verdictIs verdict.Accepted = accepted
 verdictIs (verdict.Refused number item) = refused number item

@@ -1,6 +1,6 @@
 -- What the orderings of a block of variables say at a prefix (paper 02, #111): a block variable settled later has no smaller value than one settled earlier.
 -- A block is a test of variables; its symmetries are any that reorder its variables, the trade of any two among them.
-use Rattle.model.specs.Kit.{_≡_, Bool, not, List, List·Memᴰ, _⊎_, ℕ, _≤_, _<_, T, ltb, length}
+use Rattle.model.specs.Kit.{_≡_, Bool, not, List, List·Memᴰ, _⊎_, ℕ, _<_, T, ltb, length}
 use Rattle.model.specs.{Lists.both, Lists.at, Lists.tabulate, ValueSets.has, ValueSets.maskOf, Problem.Problem, Problem.pair}
 
 -- ---- the symmetries of a block
@@ -23,11 +23,6 @@ pub record BlockIn (p : Problem) (block : ℕ → Bool) (gs : List (List ℕ)) :
   pub own : (g : List ℕ) → List·Memᴰ g (p .symmetries) → List·Memᴰ g gs
   pub each : (g : List ℕ) → List·Memᴰ g gs → List·Memᴰ g (p .symmetries) ⊎ Reorders p block g
   pub trade : (x y : ℕ) → x < p .variables → y < p .variables → (x ≡ y → ⊥) → T (block x) → T (block y) → (g : List ℕ) × List·Memᴰ g gs × Trades p x y g
-
--- ---- the condition
--- no block variable has a value below that of a block variable of the prefix that is settled before it
-abbrev pub Ascends : (ℕ → Bool) → List ℕ → List ℕ → Type 0
-Ascends block prefix ds = (x y v : ℕ) → T (block x) → T (block y) → x < y → x < length prefix → T (has (at ds y) v) → at prefix x ≤ v
 
 -- variable x has been settled to v: where it is a block variable, the later block variables lose the values below v
 abbrev pub lostAfter : (ℕ → Bool) → ℕ → ℕ → ℕ → ℕ → Bool

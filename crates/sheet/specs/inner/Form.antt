@@ -1,11 +1,11 @@
 -- What questions 1 to 14 leave in the arrays.
 use Rattle.model.specs.Kit.{_≡_, Bool, true, List, ℕ, length, set}
-use Rattle.model.specs.{Lists.at, Lists.all, Verdict.accepted, Verdict.ask, Verdict.isAccepted, Sheet.headerOf, Sheet.problemOf, Sheet.formVerdict, Sheet.permutesPairs}
+use Rattle.model.specs.{Lists.at, Verdict.accepted, Sheet.headerOf, Sheet.problemOf, Sheet.formVerdict}
 use Rattle.model.specs.Sheet.{verdictOf}
 use Rattle.arrays.specs.inner.Places.{VARIABLES, VALUES, CONSTRAINTS, SYMMETRIES, IMAGES, NUMBERS, SUPPORTS}
 use Rattle.arrays.specs.inner.Layout.{Numbers, Supports, Compiled}
 use Rattle.reader.specs.{inner.Read.stated, declared.Header.Header}
-use Rattle.sheet.specs.{Meaning.means, Meaning.Answers, declared.Answer.Answer, declared.Answer.the-variants.Accepted, declared.Answer.the-variants.Refused}
+use Rattle.sheet.specs.{Meaning.means, Meaning.Answers, Meaning.compilable, declared.Answer.Answer, declared.Answer.the-variants.Accepted, declared.Answer.the-variants.Refused}
 use Rattle.sheet.specs.{declared.form.Form.Form, declared.form.Form.the-variants.Passed, declared.form.Form.the-variants.Refused as NotPassed}
 
 -- an array of n zeros
@@ -49,10 +49,6 @@ pub record Compilation (b : List ℕ) (numbers supports images : List ℕ) (r : 
   pub answers : means r ≡ verdictOf b
   pub compiled : r ≡ Accepted → Compiled (problemOf b) numbers supports images
   pub sizes : r ≡ Accepted → Sized numbers supports images
-
--- whether bytes pass questions 1 to 15: what compiling them needs
-unfoldable pub compilable : List ℕ → Bool
-compilable b = isAccepted (formVerdict b (ask (all (permutesPairs (problemOf b)) (problemOf b .symmetries)) 15 0 accepted))
 
 -- whether they do, and then the compiled problem
 pub record Recompilation (b : List ℕ) (numbers supports images : List ℕ) (r : Bool) : Type 0 where
