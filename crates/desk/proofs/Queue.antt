@@ -17,13 +17,9 @@ use Rattle.desk.specs.Queue.{idle, served, released, servedAs, submitRep
 use Rattle.desk.specs.{Queue.queueAfter, Queue.queueEnd, Queue.queueReplies, Queue.countsOf, Claims.serves, Claims.turnsIn, Claims.timesServed, Claims.Throughout}
 use Rattle.desk.specs.Claims.{Remains, Waits, Fair, alone, HoldsAs, Holds, As-alone, Same-as-run, Turn-of-64, Sixty-four-each, Turn-answers, Refused-same, Idle-exactly}
 use Rattle.desk.specs.Claims.{Past-eighth, By-own-turns, Others-nothing, Releases, Lowest-slot, Slots-taken, Keeps-slot}
-use Rattle.model.proofs.{Lists.T-of, Lists.of-T, Lists.of-not, Lists.any-cons, Lists.either-l, Lists.either-r, Lists.below-i, Lists.below-e, Room.length-flat, Runs.Ended}
+use Rattle.model.proofs.{Lists.T-of, Lists.of-T, Lists.of-not, Lists.any-cons, Lists.either-l, Lists.either-r, Lists.below-i, Lists.below-e, Room.length-flat, Runs.Ended, Lists.never}
 use Rattle.model.proofs.Runs.{walk, rows-counted, rows-fit, rows-sized}
 use Rattle.run_cut.proofs.{Resume.stands, Resume.from-start, Resume.from-cut, Resume.in-parts, Resume.last-moves, Anywhere.no-fewer, Anywhere.counts-move}
-
--- constructors that differ
-never : _≡_ {A = ℕ} 0 1 → ⊥
-never z = omega arith
 
 -- ---- the first that passes a test
 none-not : (k : ℕ) → none-found ≡ slot k → ⊥
@@ -482,8 +478,8 @@ keeps-slot d xs k h q r =
     (turned m h, by-own-turns d xs k h q r, t .0, t .1)
 
 submits : (f : Found) (v : Verdict) (k : ℕ) → submitReply f v ≡ answered (queued k) → (f ≡ slot k) × (v ≡ accepted)
-submits none-found v k e = absurd (never (cc))
-submits (slot j) (refused number item) k e = absurd (never (cc))
+submits none-found v k e = never (cc)
+submits (slot j) (refused number item) k e = never (cc)
 submits (slot j) accepted k e = ((cc), refl)
 
 pub lowest-slot : Lowest-slot
@@ -511,7 +507,7 @@ ask-range true number item later a b r = r
 ask-range false number item later a b r = record { within = λ n i e. let z : number ≡ n = cc in (omega arith, omega arith) }
 
 accepted-range : Range accepted
-accepted-range = record { within = λ n i e. absurd (never (cc)) }
+accepted-range = record { within = λ n i e. never (cc) }
 
 sets-range : (b : List ℕ) (h : Header) (xs : List ℕ) (later : Verdict) → Range later → Range (setsVerdict b h xs later)
 unfolding setsVerdict
@@ -559,7 +555,7 @@ verdict-range b =
 submit-refused : (f : Found) (v : Verdict) (number item : ℕ) → Range v → submitReply f v ≡ refusal number item → ((number ≡ 37) × (f ≡ none-found)) ⊎
     ((1 ≤ number) × (number ≤ 16) × (v ≡ refused number item))
 submit-refused none-found v number item r e = let n : number ≡ 37 = cc in inl (n, refl)
-submit-refused (slot k) accepted number item r e = absurd (never (cc))
+submit-refused (slot k) accepted number item r e = never (cc)
 submit-refused (slot k) (refused a b) number item r e =
     let x : a ≡ number = cc in
     let y : b ≡ item = cc in
@@ -636,7 +632,7 @@ sixty-four-each d xs k b limit g q r e s =
 -- ---- what a turn answers
 served-so : (f : Found) (d : Queue) (k : ℕ) (s : Standing) (plans made : ℕ) → turnReply f d ≡ answered (served k s plans made) →
     (f ≡ slot k) × (servedAs k (slotTurned (slotAt d k)) ≡ answered (served k s plans made))
-served-so none-found d k s plans made e = absurd (never (cc))
+served-so none-found d k s plans made e = never (cc)
 served-so (slot j) d k s plans made e = let z : j ≡ k = cc in (ap slot z, rw z at e)
 
 pub job-of : (s : Slot) → T (waits s) → (h : Job) × (s ≡ taken h)
@@ -662,7 +658,7 @@ turn-answers d k s plans made e =
 submit-denied : (f : Found) (v : Verdict) (d : Queue) (h : Job) (number item : ℕ) → submitReply f v ≡ refusal number item → submitQueue f v d h ≡ d
 submit-denied none-found v d h number item e = refl
 submit-denied (slot k) (refused n i) d h number item e = refl
-submit-denied (slot k) accepted d h number item e = absurd (never (cc))
+submit-denied (slot k) accepted d h number item e = never (cc)
 
 turn-denied : (f : Found) (d : Queue) (number item : ℕ) → turnReply f d ≡ refusal number item → ⊥
 turn-denied none-found d number item e = never (cc)
@@ -673,7 +669,7 @@ release-denied free room number item e = refl
 release-denied (taken h) room number item e = go (fits h room) e
   where
     go : (b : Bool) → releaseFor b h room ≡ refusal number item → _≡_ {A = Slot} (elim b [ true ↦ free | false ↦ taken h ]) (taken h)
-    go true e = absurd (never (cc))
+    go true e = never (cc)
     go false e = refl
 
 pub refused-same : Refused-same
@@ -685,7 +681,7 @@ refused-same d (release k room) number item e =
 
 idle-none : (f : Found) (d : Queue) → turnReply f d ≡ answered idle → f ≡ none-found
 idle-none none-found d e = refl
-idle-none (slot k) d e = absurd (never (cc))
+idle-none (slot k) d e = never (cc)
 
 pub idle-exactly : Idle-exactly
 idle-exactly d = (all-done, λ f. let z = none-waits f in (ap (λ (x : Found). turnReply x d) z, ap (λ (x : Found). turnQueue x d) z))

@@ -2,7 +2,7 @@
 use Rattle.model.specs.Kit.{_≡_, refl, sym, ap, ap₂, _∙_, subst, Bool, true, false, List, [], _++_, Memᴰ·of-map, ℕ, zero, suc, _+_, _*_, _%_, _≤_, _<_, min, mul-le-mul, arith, eqb}
 use Rattle.model.specs.Kit.{ltb, length, length-append, eq-eqb, ne-eqb, eqb-true, eqb-false, ltb-true, ltb-false}
 use Rattle.model.specs.{Lists.at, Lists.choose, Lists.below, Verdict.Verdict, Verdict.accepted, Verdict.refused, Sheet.verdictOf, Bytes.fourBytes, Written.Written}
-use Rattle.model.proofs.{Lists.below-e, Lists.at-replicate, Room.length-flat, Written.written-then}
+use Rattle.model.proofs.{Lists.below-e, Lists.at-replicate, Room.length-flat, Written.written-then, Lists.never}
 use Rattle.wire.specs.Wire.{wrongLength, threeNumbers}
 use Rattle.wire.proofs.{Codes.Small, Codes.verdict-small, Numbers.whole}
 use Rattle.desk.specs.Queue.{Job, jobTurned, Slot, free, taken, isFree, waits, slotTurned, slotAt, Found, none-found, slot, lowestFree, roundFrom, toServe, QueueCall, submit, turn}
@@ -238,7 +238,7 @@ unfolding roundsOn
 refused-item b r number item e = go (eqb (length b) size) e
   where
     go : (t : Bool) → refusal number item ≡ choose t (roundsReply (queueOf b) r) (refusal 255 0) → item < 256
-    go true f = absurd (let z : _≡_ {A = ℕ} 0 1 = cc in omega arith)
+    go true f = never (cc)
     go false f = let z : item ≡ 0 = cc in omega arith
 
 module _ (b : List ℕ) (r : ℕ) (answer : List ℕ) where

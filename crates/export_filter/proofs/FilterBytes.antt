@@ -3,7 +3,7 @@ use Rattle.model.specs.Kit.{_≡_, refl, sym, ap, ap₂, _∙_, Bool, true, fal
 use Rattle.model.specs.Kit.{ltb-false}
 use Rattle.model.specs.{Lists.at, Verdict.Verdict, Nogood.failed, Nogood.entailed, Nogood.consistent, Nogood.FilterAnswer, Nogood.refusal, Nogood.answered, Nogood.entries}
 use Rattle.model.specs.Nogood.{filterEnding, filterVerdict, filterAnswer, setsAfter}
-use Rattle.model.proofs.{Lists.at-out, Demands.reply-refused}
+use Rattle.model.proofs.{Lists.at-out, Demands.reply-refused, Lists.never}
 use Rattle.filter.specs.{Meaning.means, FilterCalls.CallFilter, FilterCalls.EntryRight, FilterCalls.ListsRight, declared.Answer.Answer, declared.Answer.the-variants.Failed}
 use Rattle.filter.specs.declared.Answer.the-variants.{Entailed, Consistent, Refused}
 use Rattle.filter.proofs.FilterCalls.{filter-calls}
@@ -33,9 +33,9 @@ told-code (refusal number item) = refl
 
 told-refused : (x : FilterAnswer) (number item : ℕ) → told x ≡ Refused number item → x ≡ refusal number item
 unfolding told
-told-refused (answered failed) number item e = absurd (let z : _≡_ {A = ℕ} 0 1 = cc in omega arith)
-told-refused (answered entailed) number item e = absurd (let z : _≡_ {A = ℕ} 0 1 = cc in omega arith)
-told-refused (answered consistent) number item e = absurd (let z : _≡_ {A = ℕ} 0 1 = cc in omega arith)
+told-refused (answered failed) number item e = never (cc)
+told-refused (answered entailed) number item e = never (cc)
+told-refused (answered consistent) number item e = never (cc)
 told-refused (refusal n i) number item e = cc
 
 -- sets written and read again

@@ -1,7 +1,7 @@
 -- What a caller of `closed` holds (specs/Calls). Assumes nothing.
 use Rattle.model.specs.Kit.{_≡_, refl, sym, ap, _∙_, _↔_, _⊎_, inl, inr, List, ℕ, _<_, ℕ-discrete, decLt, arith}
 use Rattle.model.specs.{Problem.Problem, Verdict.Verdict, Verdict.accepted, Verdict.refused, Verdict.reply}
-use Rattle.model.proofs.Lists.{of-not}
+use Rattle.model.proofs.Lists.{of-not, never}
 use Rattle.run_input.specs.Lent.{verdictLent, problemWith}
 use Rattle.families.specs.Families.{Closed}
 use Rattle.families_closed.specs.{Open.Open, Open.none, Open.two, Open.made, Open.firstOpen, Open.FirstOpen, Lent.means, Lent.refusal, Lent.told, Lent.closedLent}
@@ -11,19 +11,19 @@ use Rattle.families_closed.specs.declared.Answer.the-variants as A
 
 -- an answer is known by what it means
 is-refused : (r : Answer) (number item : ℕ) → means r ≡ refusal number item → r ≡ A.Refused number item
-is-refused A.Closed number item e = absurd (let z : _≡_ {A = ℕ} 0 1 = cc in omega arith)
-is-refused (A.Missing a b) number item e = absurd (let z : _≡_ {A = ℕ} 0 1 = cc in omega arith)
+is-refused A.Closed number item e = never (cc)
+is-refused (A.Missing a b) number item e = never (cc)
 is-refused (A.Refused n i) number item e = cc
 
 is-closed : (r : Answer) → means r ≡ told none → r ≡ A.Closed
 is-closed A.Closed e = refl
-is-closed (A.Missing a b) e = absurd (let z : _≡_ {A = ℕ} 0 1 = cc in omega arith)
-is-closed (A.Refused n i) e = absurd (let z : _≡_ {A = ℕ} 0 1 = cc in omega arith)
+is-closed (A.Missing a b) e = never (cc)
+is-closed (A.Refused n i) e = never (cc)
 
 is-missing : (r : Answer) (a b : ℕ) → means r ≡ told (two a b) → r ≡ A.Missing a b
-is-missing A.Closed a b e = absurd (let z : _≡_ {A = ℕ} 0 1 = cc in omega arith)
+is-missing A.Closed a b e = never (cc)
 is-missing (A.Missing c d) a b e = let o : two c d ≡ two a b = cc in let f : c ≡ a = cc in let g : d ≡ b = cc in cc
-is-missing (A.Refused n i) a b e = absurd (let z : _≡_ {A = ℕ} 0 1 = cc in omega arith)
+is-missing (A.Refused n i) a b e = never (cc)
 
 -- there is only one first
 first-one : (p : Problem) (a b c d : ℕ) → FirstOpen p a b → FirstOpen p c d → (a ≡ c) × (b ≡ d)
@@ -59,7 +59,7 @@ module _ (b pairs block : List ℕ) (r : Answer) (call : CallClosed b pairs bloc
   refuses number item = (λ e. go (verdictLent b pairs block) refl (ap means e), λ e. is-refused r number item (so (refused number item) e))
     where
       go : (v : Verdict) → verdictLent b pairs block ≡ v → means r ≡ refusal number item → verdictLent b pairs block ≡ refused number item
-      go accepted q e = absurd (let z : told (firstOpen (problemWith b block)) ≡ refusal number item = sym (so accepted q) ∙ e in let y : _≡_ {A = ℕ} 0 1 = cc in omega arith)
+      go accepted q e = absurd (let z : told (firstOpen (problemWith b block)) ≡ refusal number item = sym (so accepted q) ∙ e in never (cc))
       go (refused n i) q e = let z : refusal n i ≡ refusal number item = sym (so (refused n i) q) ∙ e in let f : n ≡ number = cc in let g : i ≡ item = cc in cc
 
   held : ClosedHeld b pairs block r

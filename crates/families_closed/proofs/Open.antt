@@ -5,7 +5,7 @@ use native.Mathlib.Nat.{mul-add-div-right, mul-add-mod-self-right, div-eq-of-lt,
 use Rattle.model.specs.{Lists.any, Problem.Problem, Problem.symmetryAt}
 use Rattle.families.specs.Families.{Makes, MovesNothing, Closed, makes, movesNothing}
 use Rattle.families.proofs.Closed.{makes-i, makes-e, nothing-i, nothing-e}
-use Rattle.model.proofs.{Lists.of-T, Lists.T-of, Lists.either-e, Lists.either-l, Lists.either-r, Lists.any-e, Lists.any-i, Lists.mem-getD, Lists.place-of, Masks.least-none}
+use Rattle.model.proofs.{Lists.of-T, Lists.T-of, Lists.either-e, Lists.either-l, Lists.either-r, Lists.any-e, Lists.any-i, Lists.mem-getD, Lists.place-of, Masks.least-none, Lists.never}
 use Rattle.model.proofs.Masks.{least-at, least-below, least-is}
 use Rattle.families_closed.specs.Open.{made, firstMissing, none, two, firstOpen, Open-none, FirstOpen, Open-first}
 
@@ -131,7 +131,7 @@ open-none p = (
     n = length (p .symmetries)
 
     go : (b : Bool) → ltb (firstMissing p) (n * n) ≡ b → elim b [ true ↦ two (firstMissing p / n) (firstMissing p % n) | false ↦ none ] ≡ none → n * n ≤ firstMissing p
-    go true q e = absurd (let z : _≡_ {A = ℕ} 0 1 = cc in omega arith)
+    go true q e = never (cc)
     go false q e = ltb-false (firstMissing p) (n * n) q
 
 pub open-first : Open-first
@@ -143,4 +143,4 @@ open-first p a b e = go (ltb (firstMissing p) (n * n)) refl e
 
     go : (t : Bool) → ltb (firstMissing p) (n * n) ≡ t → elim t [ true ↦ two (firstMissing p / n) (firstMissing p % n) | false ↦ none ] ≡ two a b → FirstOpen p a b
     go true q e = subst₂ (FirstOpen p) (let z : firstMissing p / n ≡ a = cc in z) (let z : firstMissing p % n ≡ b = cc in z) (first-open p (ltb-true (firstMissing p) (n * n) q))
-    go false q e = absurd (let z : _≡_ {A = ℕ} 0 1 = cc in omega arith)
+    go false q e = never (cc)

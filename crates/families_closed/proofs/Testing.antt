@@ -2,7 +2,7 @@
 use Rattle.model.specs.Kit.{_≡_, refl, sym, ap, ap₂, _∙_, subst₂, Bool, true, false, List, [], _∷_, ℕ, _*_, _/_, _%_, _≤_, _<_, arith, T, length, getD, length-append, lt-ltb}
 use Rattle.model.specs.Kit.{le-ltb}
 use Rattle.model.specs.{Lists.at, Problem.Problem, Verdict.Verdict, Verdict.accepted, Verdict.refused, Verdict.isAccepted, Verdict.reply, Sheet.problemOf, WellFormed.WellFormed}
-use Rattle.model.proofs.{Lists.length-below, Accepted.constraints-are, Accepted.symmetries-are, Accepted.accepted-is, Accepted.is-accepted}
+use Rattle.model.proofs.{Lists.length-below, Accepted.constraints-are, Accepted.symmetries-are, Accepted.accepted-is, Accepted.is-accepted, Lists.never}
 use Rattle.sheet.specs.{declared.Answer.Answer, declared.Answer.the-variants.Accepted}
 use Rattle.block.specs.Block.{factorial, orderingTable, blockTables, tablesLent, blockLent, withLent}
 use Rattle.block.proofs.{Orderings.factorial-le, Block.block-e}
@@ -98,4 +98,4 @@ told-few b pairs block first second e = go (verdictLent b pairs block) refl e
         let g = x .sheet .header .symmetries in
         let n = tables-few (problemOf b) (well-sheet b pairs block good) block (accepted-is (blockLent (problemOf b) block) (x .blocked)) in
         (omega (arith, o .first), omega (arith, o .second))
-    go (refused number item) q t = absurd (let z : _≡_ {A = ℕ} 0 1 = cc in omega arith)
+    go (refused number item) q t = never (cc)

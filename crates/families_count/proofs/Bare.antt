@@ -5,7 +5,7 @@ use types.Run.{OneOf}
 use denote.Enum.Declared.{tagOf}
 use Rattle.model.specs.{Lists.at, Problem.Problem, WellFormed.WellFormed, Verdict.Verdict, Verdict.accepted, Verdict.refused, Verdict.isAccepted, Verdict.reply, Sheet.problemOf}
 use Rattle.model.specs.{Sheet.verdictOf, Run.Ending, Run.finished, Run.spent, Run.full, Run.plansIn, Run.nodesIn, Run.resultOf, Run.Tally}
-use Rattle.model.proofs.{Accepted.passed, Accepted.constraints-are, Accepted.symmetries-are, Accepted.is-accepted, Asked.well-formed-with, Lists.at-set}
+use Rattle.model.proofs.{Accepted.passed, Accepted.constraints-are, Accepted.symmetries-are, Accepted.is-accepted, Asked.well-formed-with, Lists.at-set, Lists.never}
 use Rattle.order.specs.{Reordered.constraintIn, RunBy.Input, RunBy.resultBy}
 use Rattle.order.proofs.Reordered.{well-reordered}
 use Rattle.arrays.specs.inner.Places.{VARIABLES, SYMMETRIES, PLANS, ALL, SPENT, FULL, STACK, TABLES, WORK}
@@ -120,8 +120,8 @@ counted-refused b pairs block limit i j v = ap (λ (u : Verdict). reply u (famil
 -- an ending whose tag is that of the second or the third case is not a finished run
 pub stopped : (e : S.Ending) → OneOf (1 ∷ 2 ∷ []) (tagOf the-type e) → (plans nodes : ℕ) → endingOf e ≡ finished plans nodes → ⊥
 stopped (Finished plans nodes) k p m q = ⊎-elim {C = ⊥} (λ z. omega arith) (λ z. omega arith) k
-stopped (Spent plans nodes) k p m q = let z : _≡_ {A = ℕ} 0 1 = cc in omega arith
-stopped (Full plans nodes) k p m q = let z : _≡_ {A = ℕ} 0 1 = cc in omega arith
+stopped (Spent plans nodes) k p m q = never (cc)
+stopped (Full plans nodes) k p m q = never (cc)
 
 -- ---- the figure of a report
 module _ (b : List ℕ) (limit : ℕ) (verdict : verdictOf b ≡ accepted) where
@@ -185,4 +185,4 @@ told-few b pairs block limit k e = go (verdictLent b pairs block) refl e
   where
     go : (v : Verdict) → verdictLent b pairs block ≡ v → told (number k) ≡ reply v (familiesLent b pairs block limit (4096 * problemOf b .variables)) → k ≤ 4096
     go accepted q t = figure-few b pairs block limit (4096 * problemOf b .variables) q k (omega arith) (let z : familiesLent b pairs block limit (4096 * problemOf b .variables) ≡ number k = cc in z)
-    go (refused i j) q t = absurd (let z : _≡_ {A = ℕ} 0 1 = cc in omega arith)
+    go (refused i j) q t = never (cc)

@@ -4,6 +4,7 @@ use lib.Seq.{take-at}
 use Rattle.model.specs.{Lists.at, Verdict.Verdict, Verdict.accepted, Verdict.refused, Verdict.isAccepted, Verdict.reply, Verdict.kept, Sheet.verdictOf, Sheet.problemOf, Run.Ending}
 use Rattle.model.specs.Run.{ended, plansIn, resultOf, answerOf, written, listOf, Tally}
 use Rattle.model.proofs.Accepted.{passed, well-formed, constraints-are, symmetries-are}
+use Rattle.model.proofs.Lists.{never}
 use Rattle.arrays.specs.inner.Places.{VARIABLES, PLANS, STACK, TABLES, WORK}
 use Rattle.families_figure.specs.Figure.{reportFigure}
 use Rattle.sheet.specs.{inner.Form.Compilation, declared.Answer.the-variants.Accepted}
@@ -100,13 +101,13 @@ pub report-refused : (b : List ℕ) (limit : ℕ) (list : List ℕ) (number item
     (record { answer = Refused number item; figure = f; variables = 0 }) list
 unfolding answerOf listOf
 report-refused b limit list number item f v = record {
-  sized = record { most = omega arith; true-of = λ z. absurd (never z) };
+  sized = record { most = omega arith; true-of = λ z. absurd (never-so z) };
   call = record {
     answers = ap (λ (u : Verdict). reply u (resultOf (problemOf b) limit (length (take 0 list)) .ending)) v;
     leaves = ap (λ (u : Verdict). kept u (take 0 list) (written (resultOf (problemOf b) limit (length (take 0 list)) .rows) (take 0 list))) v;
   };
-  figure = λ z. absurd (never z);
+  figure = λ z. absurd (never-so z);
 }
   where
-    never : verdictOf b ≡ accepted → ⊥
-    never z = let y : refused number item ≡ accepted = v ∙ z in let x : _≡_ {A = ℕ} 0 1 = cc in omega arith
+    never-so : verdictOf b ≡ accepted → ⊥
+    never-so z = let y : refused number item ≡ accepted = v ∙ z in never (cc)

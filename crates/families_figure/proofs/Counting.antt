@@ -3,7 +3,7 @@ use Rattle.model.specs.Kit.{_≡_, refl, sym, ap, _∙_, subst, inr, List, [], 
 use native.Mathlib.Nat.{le-of-mul-le-mul-right}
 use Rattle.model.specs.{Lists.flat, Problem.Problem, Problem.withSymmetries, Verdict.accepted, Verdict.isAccepted, Sheet.problemOf, WellFormed.WellFormed, WellFormed.Respected}
 use Rattle.model.specs.Run.{Ending, finished, spent, full, resultOf, written}
-use Rattle.model.proofs.{Tree.plans-of-tree, Runs.finished-rows, Runs.finished-fits, Demands.same-test, Accepted.is-accepted}
+use Rattle.model.proofs.{Tree.plans-of-tree, Runs.finished-rows, Runs.finished-fits, Demands.same-test, Accepted.is-accepted, Lists.never}
 use Rattle.arrays.specs.inner.Layout.{Images}
 use Rattle.order.specs.{Order.Ordering, Reordered.symmetryIn, RunBy.resultBy}
 use Rattle.order.proofs.Reordered.{well-reordered, respected-reordered}
@@ -120,7 +120,7 @@ module _ (b pairs block : List ℕ) (limit room : ℕ) (h : verdictLent b pairs 
           let n = families-reordered (problemWith b block) v s order o in
           let t : familiesOf (problemWith b block) ≡ k = cc in
           omega arith
-      go (finished plans made) (spent plans′ made′) q z = absurd (let z : _≡_ {A = ℕ} 0 1 = cc in omega arith)
-      go (finished plans made) (full plans′ made′) q z = absurd (let z : _≡_ {A = ℕ} 0 1 = cc in omega arith)
-      go (spent plans made) f q z = absurd (let z : _≡_ {A = ℕ} 0 1 = cc in omega arith)
-      go (full plans made) f q z = absurd (let z : _≡_ {A = ℕ} 0 1 = cc in omega arith)
+      go (finished plans made) (spent plans′ made′) q z = never (cc)
+      go (finished plans made) (full plans′ made′) q z = never (cc)
+      go (spent plans made) f q z = never (cc)
+      go (full plans made) f q z = never (cc)

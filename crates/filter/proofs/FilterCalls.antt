@@ -7,7 +7,7 @@ use Rattle.model.specs.Nogood.{disequality, is, obeysFrom, obeys, filtered, Fil
 use Rattle.model.specs.{Nogood.bothAbsent, Nogood.bothPresent, Nogood.kindBy, Nogood.kindOf, NogoodClaims.CaseOf, Nogood.valueOk, Nogood.entryIn, Nogood.entryOf, Nogood.entryOk, Nogood.entries}
 use Rattle.model.specs.Nogood.{firstWrong, filterVerdict, setsAfter, refusal}
 use Rattle.model.specs.{Nogood.answered, Nogood.filterAnswer, NogoodClaims.Fails, NogoodClaims.Entails, Claims.Drawn}
-use Rattle.model.proofs.{Lists.both-i, Lists.both-l, Lists.both-r, Lists.not-of, Lists.getD-at, Assignments.drawn-i, Assignments.drawn-e, Filter.length-filtered}
+use Rattle.model.proofs.{Lists.both-i, Lists.both-l, Lists.both-r, Lists.not-of, Lists.getD-at, Assignments.drawn-i, Assignments.drawn-e, Filter.length-filtered, Lists.never}
 use Rattle.model.proofs.{Filter.filtered-sets, EntryKinds.kind-holds, Endings.failed-exactly, Endings.entailed-exactly, Endings.consistent-exactly, Demands.filter-keeps}
 use Rattle.model.proofs.Demands.{filter-empties}
 use Rattle.filter.specs.{declared.Answer.Answer, declared.Answer.the-variants.Failed, declared.Answer.the-variants.Entailed, declared.Answer.the-variants.Consistent}
@@ -127,26 +127,26 @@ module _ (a : List ℕ) where
 -- an answer is known by what it means
 is-failed : (r : Answer) → means r ≡ answered failed → r ≡ Failed
 is-failed Failed e = refl
-is-failed Entailed e = absurd (let z : _≡_ {A = ℕ} 0 1 = cc in omega arith)
-is-failed Consistent e = absurd (let z : _≡_ {A = ℕ} 0 1 = cc in omega arith)
-is-failed (Refused n i) e = absurd (let z : _≡_ {A = ℕ} 0 1 = cc in omega arith)
+is-failed Entailed e = never (cc)
+is-failed Consistent e = never (cc)
+is-failed (Refused n i) e = never (cc)
 
 is-entailed : (r : Answer) → means r ≡ answered entailed → r ≡ Entailed
-is-entailed Failed e = absurd (let z : _≡_ {A = ℕ} 0 1 = cc in omega arith)
+is-entailed Failed e = never (cc)
 is-entailed Entailed e = refl
-is-entailed Consistent e = absurd (let z : _≡_ {A = ℕ} 0 1 = cc in omega arith)
-is-entailed (Refused n i) e = absurd (let z : _≡_ {A = ℕ} 0 1 = cc in omega arith)
+is-entailed Consistent e = never (cc)
+is-entailed (Refused n i) e = never (cc)
 
 is-consistent : (r : Answer) → means r ≡ answered consistent → r ≡ Consistent
-is-consistent Failed e = absurd (let z : _≡_ {A = ℕ} 0 1 = cc in omega arith)
-is-consistent Entailed e = absurd (let z : _≡_ {A = ℕ} 0 1 = cc in omega arith)
+is-consistent Failed e = never (cc)
+is-consistent Entailed e = never (cc)
 is-consistent Consistent e = refl
-is-consistent (Refused n i) e = absurd (let z : _≡_ {A = ℕ} 0 1 = cc in omega arith)
+is-consistent (Refused n i) e = never (cc)
 
 is-refused : (r : Answer) (n i : ℕ) → means r ≡ refusal n i → r ≡ Refused n i
-is-refused Failed n i e = absurd (let z : _≡_ {A = ℕ} 0 1 = cc in omega arith)
-is-refused Entailed n i e = absurd (let z : _≡_ {A = ℕ} 0 1 = cc in omega arith)
-is-refused Consistent n i e = absurd (let z : _≡_ {A = ℕ} 0 1 = cc in omega arith)
+is-refused Failed n i e = never (cc)
+is-refused Entailed n i e = never (cc)
+is-refused Consistent n i e = never (cc)
 is-refused (Refused m j) n i e = cc
 
 -- a question that is answered "no"

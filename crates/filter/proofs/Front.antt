@@ -4,42 +4,42 @@ use Rattle.model.specs.Kit.{length-take-le, eqb-true, eqb-false}
 use lib.Seq.{take-set-lt}
 use Rattle.model.specs.{Lists.at, ValueSets.withoutMask, ValueSets.onlyMask, ValueSets.anyEmpty, ValueSets.Inside, Nogood.Entry, Nogood.equality, Nogood.disequality}
 use Rattle.model.specs.Nogood.{obeysFrom, filtered}
-use Rattle.model.proofs.{Lists.either-l, Lists.at-out, Lists.at-set-other, Lists.set-each, Sets.at-zeros, Sets.empty-i, Sets.inside-refl, Sets.inside-trans}
+use Rattle.model.proofs.{Lists.either-l, Lists.at-out, Lists.at-set-other, Lists.set-each, Sets.at-zeros, Sets.empty-i, Sets.inside-refl, Sets.inside-trans, Lists.never}
 use Rattle.filter.specs.declared.entry.Step.the-variants.{Next, Failed, Obeyed, Split}
 use Rattle.filter.specs.inner.Scan.{stepOf, after, cutStep, keepStep, models, None, Some, Live, Passed, Remainder, Right}
 use Rattle.filter.proofs.Scan
 
 -- ---- what each step says
 next-cut : (b : Bool) → cutStep b ≡ Next → b ≡ false
-next-cut true e = let z : _≡_ {A = ℕ} 0 1 = cc in absurd (omega arith)
+next-cut true e = never (cc)
 next-cut false e = refl
 
 failed-cut : (b : Bool) → cutStep b ≡ Failed → b ≡ true
 failed-cut true e = refl
-failed-cut false e = let z : _≡_ {A = ℕ} 0 1 = cc in absurd (omega arith)
+failed-cut false e = never (cc)
 
 pub never-obeyed : (b : Bool) → cutStep b ≡ Obeyed → ⊥
-never-obeyed true e = let z : _≡_ {A = ℕ} 0 1 = cc in omega arith
-never-obeyed false e = let z : _≡_ {A = ℕ} 0 1 = cc in omega arith
+never-obeyed true e = never (cc)
+never-obeyed false e = never (cc)
 
 never-failed : (b c : Bool) → keepStep b c ≡ Failed → ⊥
-never-failed true c e = let z : _≡_ {A = ℕ} 0 1 = cc in omega arith
-never-failed false true e = let z : _≡_ {A = ℕ} 0 1 = cc in omega arith
-never-failed false false e = let z : _≡_ {A = ℕ} 0 1 = cc in omega arith
+never-failed true c e = never (cc)
+never-failed false true e = never (cc)
+never-failed false false e = never (cc)
 
 pub next-keep : (b c : Bool) → keepStep b c ≡ Next → b ≡ true
 next-keep true c e = refl
-next-keep false true e = let z : _≡_ {A = ℕ} 0 1 = cc in absurd (omega arith)
-next-keep false false e = let z : _≡_ {A = ℕ} 0 1 = cc in absurd (omega arith)
+next-keep false true e = never (cc)
+next-keep false false e = never (cc)
 
 pub obeyed-keep : (b c : Bool) → keepStep b c ≡ Obeyed → c ≡ true
-obeyed-keep true c e = let z : _≡_ {A = ℕ} 0 1 = cc in absurd (omega arith)
+obeyed-keep true c e = never (cc)
 obeyed-keep false true e = refl
-obeyed-keep false false e = let z : _≡_ {A = ℕ} 0 1 = cc in absurd (omega arith)
+obeyed-keep false false e = never (cc)
 
 split-keep : (b c : Bool) → keepStep b c ≡ Split → (b ≡ false) × (c ≡ false)
-split-keep true c e = let z : _≡_ {A = ℕ} 0 1 = cc in absurd (omega arith)
-split-keep false true e = let z : _≡_ {A = ℕ} 0 1 = cc in absurd (omega arith)
+split-keep true c e = never (cc)
+split-keep false true e = never (cc)
 split-keep false false e = (refl, refl)
 
 -- ---- the first n sets

@@ -7,7 +7,7 @@ use Rattle.model.specs.{Lists.at, Lists.both, ValueSets.has, ValueSets.maskOf, 
 use Rattle.model.specs.Nogood.{equality, disequality, Kind, isEquality, isDisequality, bothAbsent, bothPresent, mark, kindBy, kindOf, entryIn, entryOf, valueOk, entryOk, is}
 use Rattle.model.specs.Nogood.{obeysFrom, obeys, obeying}
 use Rattle.model.proofs.{Lists.T-of, Lists.of-T, Lists.not-of, Lists.of-not, Lists.both-i, Lists.both-l, Lists.both-r, Lists.both-no-r, Lists.keep-ext, Lists.getD-at, Sets.has-none, Sets.has-lt}
-use Rattle.model.proofs.{Sets.mask-i, Obey.obeys-unheld, Assignments.assign-mono, Assignments.drawn-e, EntryKinds.right-kinds, Endings.entailed-left, Endings.entails-mono}
+use Rattle.model.proofs.{Sets.mask-i, Obey.obeys-unheld, Assignments.assign-mono, Assignments.drawn-e, EntryKinds.right-kinds, Endings.entailed-left, Endings.entails-mono, Lists.never}
 use Rattle.filter.specs.declared.Kind.the-variants.{Equality, Disequality, BothAbsent, BothPresent}
 use Rattle.filter.specs.{declared.entry.Step.the-variants.Next, declared.entry.Step.the-variants.Obeyed, inner.Scan.Right, inner.Scan.stepOf, inner.Lists.kindAs, Marks.Vacuous}
 use Rattle.filter.specs.Marks.{ObeyedForGood, NamesGone, Skippable, Skipped-here, Skipped-below}
@@ -36,17 +36,17 @@ module _ (x e u : ℕ) (r : Right 16 (entryOf x e u)) where
     where
       go : (k : Kind) → Right 16 (entryIn k x e u) → Equality v ≡ kindAs k e u → entryIn k x e u ≡ equality x (v % 16)
       go isEquality r q = let z : v ≡ e = cc in ap (equality x) (sym (ap (λ (n : ℕ). n % 16) z ∙ mod-eq-of-lt (r .1)))
-      go isDisequality r q = absurd (let z : _≡_ {A = ℕ} 0 1 = cc in omega arith)
-      go bothAbsent r q = absurd (let z : _≡_ {A = ℕ} 0 1 = cc in omega arith)
-      go bothPresent r q = absurd (let z : _≡_ {A = ℕ} 0 1 = cc in omega arith)
+      go isDisequality r q = never (cc)
+      go bothAbsent r q = never (cc)
+      go bothPresent r q = never (cc)
 
   pub reads-present : BothPresent ≡ kindAs (kindOf e u) e u → entryOf x e u ≡ equality x (e % 16)
   reads-present q = go (kindOf e u) r q
     where
       go : (k : Kind) → Right 16 (entryIn k x e u) → BothPresent ≡ kindAs k e u → entryIn k x e u ≡ equality x (e % 16)
-      go isEquality r q = absurd (let z : _≡_ {A = ℕ} 0 1 = cc in omega arith)
-      go isDisequality r q = absurd (let z : _≡_ {A = ℕ} 0 1 = cc in omega arith)
-      go bothAbsent r q = absurd (let z : _≡_ {A = ℕ} 0 1 = cc in omega arith)
+      go isEquality r q = never (cc)
+      go isDisequality r q = never (cc)
+      go bothAbsent r q = never (cc)
       go bothPresent r q = ap (equality x) (sym (mod-eq-of-lt (r .1)))
 
   -- a disequality, or two marks
@@ -54,19 +54,19 @@ module _ (x e u : ℕ) (r : Right 16 (entryOf x e u)) where
   reads-disequality v q = go (kindOf e u) r q
     where
       go : (k : Kind) → Right 16 (entryIn k x e u) → Disequality v ≡ kindAs k e u → entryIn k x e u ≡ disequality x (v % 16)
-      go isEquality r q = absurd (let z : _≡_ {A = ℕ} 0 1 = cc in omega arith)
+      go isEquality r q = never (cc)
       go isDisequality r q = let z : v ≡ u = cc in ap (disequality x) (sym (ap (λ (n : ℕ). n % 16) z ∙ mod-eq-of-lt (r .1)))
-      go bothAbsent r q = absurd (let z : _≡_ {A = ℕ} 0 1 = cc in omega arith)
-      go bothPresent r q = absurd (let z : _≡_ {A = ℕ} 0 1 = cc in omega arith)
+      go bothAbsent r q = never (cc)
+      go bothPresent r q = never (cc)
 
   pub reads-absent : BothAbsent ≡ kindAs (kindOf e u) e u → entryOf x e u ≡ disequality x (u % 16)
   reads-absent q = go (kindOf e u) r q
     where
       go : (k : Kind) → Right 16 (entryIn k x e u) → BothAbsent ≡ kindAs k e u → entryIn k x e u ≡ disequality x (u % 16)
-      go isEquality r q = absurd (let z : _≡_ {A = ℕ} 0 1 = cc in omega arith)
-      go isDisequality r q = absurd (let z : _≡_ {A = ℕ} 0 1 = cc in omega arith)
+      go isEquality r q = never (cc)
+      go isDisequality r q = never (cc)
       go bothAbsent r q = ap (disequality x) (sym (mod-eq-of-lt (r .1)))
-      go bothPresent r q = absurd (let z : _≡_ {A = ℕ} 0 1 = cc in omega arith)
+      go bothPresent r q = never (cc)
 
 pub right-mono : (m n : ℕ) (e : Entry) → m ≤ n → Right m e → Right n e
 right-mono m n (equality x v) h r = (omega (arith, r .0), r .1)

@@ -3,7 +3,7 @@ use Rattle.model.specs.Kit.{_≡_, refl, sym, ap, _∙_, subst, Bool, true, fal
 use Rattle.model.specs.Kit.{leb-true, not-false}
 use Rattle.model.specs.{Lists.at, Lists.both, Verdict.Verdict, Verdict.accepted, Verdict.refused, Verdict.ask, Verdict.reply, Nogood.entries, Nogood.entryOk, Nogood.firstWrong}
 use Rattle.model.specs.Nogood.{filterVerdict, setsAfter, filterEnding, filterAnswer}
-use Rattle.model.proofs.{Lists.T-of, Lists.both-false, Masks.least-none, Masks.least-at, Masks.least-below}
+use Rattle.model.proofs.{Lists.T-of, Lists.both-false, Masks.least-none, Masks.least-at, Masks.least-below, Lists.never}
 use Rattle.filter.specs.{declared.Answer.Answer, declared.Verdict.the-variants.Accepted, declared.Verdict.the-variants.Refused, inner.Lists.Listed, inner.Lists.Applied, inner.Lists.verdictIs}
 use Rattle.filter.specs.FilterCalls.{CallFilter}
 use Rattle.filter.proofs.Marks.{ok-right}
@@ -82,7 +82,7 @@ module _ (ds xs es us : List ℕ) where
 -- a question that was passed
 passed : (b : Bool) (number item : ℕ) (later : Verdict) → accepted ≡ ask b number item later → (b ≡ true) × (accepted ≡ later)
 passed true number item later e = (refl, e)
-passed false number item later e = absurd (let z : _≡_ {A = ℕ} 0 1 = cc in omega arith)
+passed false number item later e = never (cc)
 
 both-true : (a b : Bool) → both a b ≡ true → (a ≡ true) × (b ≡ true)
 both-true true b e = (refl, e)

@@ -3,6 +3,7 @@ use Rattle.model.specs.Kit.{_≡_, refl, sym, ap, _∙_, subst, Bool, true, fal
 use Rattle.model.specs.Kit.{length, drop}
 use Rattle.model.specs.{Lists.at, ValueSets.withoutMask, Nogood.Entry, Nogood.equality, Nogood.disequality, Nogood.Kind, Nogood.isEquality, Nogood.isDisequality, Nogood.bothAbsent}
 use Rattle.model.specs.Nogood.{bothPresent, kindOf, entryIn, entryOf, entries}
+use Rattle.model.proofs.Lists.{never}
 use Rattle.filter.specs.{declared.entry.Step.Step, declared.entry.Step.the-variants.Next, declared.entry.Step.the-variants.Failed, declared.entry.Step.the-variants.Obeyed}
 use Rattle.filter.specs.{declared.entry.Step.the-variants.Split, inner.Scan.stepOf, inner.Scan.after, inner.Scan.cutStep, inner.Scan.Right, inner.Scan.Stepped}
 use Rattle.filter.specs.{inner.Scan.None, inner.Scan.Passed, inner.Lists.Ready, inner.Lists.SplitReached}
@@ -32,8 +33,8 @@ entries-end (x ∷ xs) (e ∷ es) (u ∷ us) (suc k) h = entries-end xs es us k 
 
 -- ---- entries that leave the sets as they are
 never-split : (b : Bool) → cutStep b ≡ Split → ⊥
-never-split true e = let z : _≡_ {A = ℕ} 0 1 = cc in omega arith
-never-split false e = let z : _≡_ {A = ℕ} 0 1 = cc in omega arith
+never-split true e = never (cc)
+never-split false e = never (cc)
 
 obeyed-after : (rs : List ℕ) (e : Entry) → stepOf rs e ≡ Obeyed → after rs e ≡ rs
 obeyed-after rs (equality x v) h = refl

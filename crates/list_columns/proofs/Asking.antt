@@ -3,7 +3,7 @@ use Rattle.model.specs.Kit.{_≡_, sym, ap, ap₂, _∙_, subst, Bool, true, fa
 use Rattle.model.specs.Kit.{eqb, ltb→lt, lt→ltb, below-more, leb-true, eqb-true, lt-leb, le-leb, eq-eqb}
 use native.Mathlib.Nat.{div-add-mod'}
 use Rattle.model.specs.{Lists.both, Lists.all, Sheet.«word», Verdict.Verdict, Verdict.accepted, Verdict.refused, Verdict.ask, Verdict.isAccepted}
-use Rattle.model.proofs.Lists.{all-i, all-e, of-T, T-of, T-ext, not-of, mem-getD, place-of, both-i, both-l, both-r}
+use Rattle.model.proofs.Lists.{all-i, all-e, of-T, T-of, T-ext, not-of, mem-getD, place-of, both-i, both-l, both-r, never}
 use Rattle.model.proofs.Accepted.{asked}
 use Rattle.list_columns.specs.Columns.{variables, plans, body, wholeRows, smallValues, bytesVerdict, isStore, rowsVerdict}
 use Rattle.list_columns.specs.Claims.{Store}
@@ -95,7 +95,7 @@ refusal-is n b size room number item e = go (wholeRows n b) (smallValues b) (leb
     go false y z q = same q (omega arith)
     go true false z q = same q (omega arith)
     go true true false q = same q (omega arith)
-    go true true true q = absurd (let z : _≡_ {A = ℕ} 0 1 = cc in omega arith)
+    go true true true q = never (cc)
 
 -- what an accepted answer says
 pub record Passed (n : ℕ) (b : List ℕ) (size room : ℕ) : Type 0 where

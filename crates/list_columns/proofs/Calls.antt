@@ -1,7 +1,8 @@
 -- What callers of `to_columns` and `to_rows` hold (specs/Calls). Assumes nothing.
-use Rattle.model.specs.Kit.{_≡_, refl, ap, ap₂, _∙_, subst, List, _++_, ℕ, arith, length, take, drop}
+use Rattle.model.specs.Kit.{_≡_, refl, ap, ap₂, _∙_, subst, List, _++_, ℕ, length, take, drop}
 use lib.Seq.{take-append-seam, drop-append-seam}
 use Rattle.model.specs.{Verdict.Verdict, Verdict.accepted, Verdict.refused, Room.wrote, Room.outcomeOf, Room.roomAfter}
+use Rattle.model.proofs.Lists.{never}
 use Rattle.list_columns.specs.{Columns.columnsOf, Columns.rowsOf, Columns.variables, Columns.columnsVerdict, Columns.rowsVerdict, Meaning.means, declared.Answer.Answer}
 use Rattle.list_columns.specs.{declared.Answer.the-variants.Written, declared.Answer.the-variants.Refused, Calls.CallColumns, Calls.CallRows, Calls.Wrote}
 use Rattle.list_columns.specs.Calls.{Rows-back-calls, Store-back-calls}
@@ -9,7 +10,7 @@ use Rattle.list_columns.proofs.Back.{rows-back, store-back}
 
 is-written : (r : Answer) (k : ℕ) → means r ≡ wrote k → r ≡ Written k
 is-written (Written j) k e = cc
-is-written (Refused number item) k e = absurd (let z : _≡_ {A = ℕ} 0 1 = cc in omega arith)
+is-written (Refused number item) k e = never (cc)
 
 -- an answer with a number of bytes: nothing was refused, and the text stands at the front
 text-front : (v : Verdict) (text room : List ℕ) (k : ℕ) (after : List ℕ) → wrote k ≡ outcomeOf v text → after ≡ roomAfter v text room → (v ≡ accepted) × (take k after ≡ text)
@@ -17,7 +18,7 @@ text-front accepted text room k after e w = (
   refl,
   ap₂ take (let n : k ≡ length text = cc in n) w ∙ take-append-seam text (drop (length text) room),
 )
-text-front (refused number item) text room k after e w = absurd (let z : _≡_ {A = ℕ} 0 1 = cc in omega arith)
+text-front (refused number item) text room k after e w = never (cc)
 
 -- an accepted call wrote its text
 accepted-wrote : (v : Verdict) (text text′ room : List ℕ) (r : Answer) (after : List ℕ) → means r ≡ outcomeOf v text → after ≡ roomAfter v text room → v ≡ accepted → text ≡ text′

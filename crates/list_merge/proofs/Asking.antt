@@ -4,7 +4,7 @@ use Rattle.model.specs.Kit.{take, length-append, lt-leb, ne-eqb, le-leb, eq-eqb
 use native.Mathlib.Nat.{div-add-mod'}
 use Rattle.model.specs.{Lists.both, Lists.all, Lists.flat, Lists.same, Verdict.Verdict, Verdict.accepted, Verdict.refused, Verdict.ask, Room.Outcome, Room.rowsIn, Room.wrote}
 use Rattle.model.specs.Room.{refusal, outcomeOf, roomAfter}
-use Rattle.model.proofs.{Lists.T-of, Lists.both-l, Lists.both-r, Lists.both-no-l, Lists.both-no-r, Lists.both-yes, Room.flat-cut, Room.refused-out, Room.wrote-out, Written.fronted}
+use Rattle.model.proofs.{Lists.T-of, Lists.both-l, Lists.both-r, Lists.both-no-l, Lists.both-no-r, Lists.both-yes, Room.flat-cut, Room.refused-out, Room.wrote-out, Written.fronted, Lists.never}
 use Rattle.order.specs.{Order.settlingOrder, Order.settlesAll, Order.orderVerdict, inner.Settled.Ordered, Reordered.earlierBy}
 use Rattle.order.proofs.Placing.{settling-of}
 use Rattle.list_merge.specs.Merge.{ascends, insert, union, mergedBy, merged, wholeLists, orderedVerdict, mergeVerdict}
@@ -82,13 +82,13 @@ module _ (writes : Bool) (d text after : List ℕ) (o : Outcome) (w : Walked wri
     where
       go : (t : Bool) → leb (length text) (length d) ≡ t → true ≡ t
       go true q = refl
-      go false q = let k : o ≡ refusal 27 0 = w .short (leb-false (length text) (length d) q) in let z : _≡_ {A = ℕ} 0 1 = cc in absurd (omega arith)
+      go false q = let k : o ≡ refusal 27 0 = w .short (leb-false (length text) (length d) q) in never (cc)
 
   pub told-no : (x y : ℕ) → o ≡ refusal x y → false ≡ leb (length text) (length d)
   told-no x y e = go (leb (length text) (length d)) refl
     where
       go : (t : Bool) → leb (length text) (length d) ≡ t → false ≡ t
-      go true q = let k : o ≡ wrote (length text) = w .fits (leb-true (length text) (length d) q) in let z : _≡_ {A = ℕ} 0 1 = cc in absurd (omega arith)
+      go true q = let k : o ≡ wrote (length text) = w .fits (leb-true (length text) (length d) q) in never (cc)
       go false q = refl
 
 -- ---- 24

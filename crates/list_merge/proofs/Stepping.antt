@@ -5,7 +5,7 @@ use Rattle.model.specs.Kit.{eqb-false, eq-eqb, ne-eqb, leb-true, leb-false, ltb
 use native.Mathlib.Nat.{mod-eq-sub-mod}
 use lib.Seq.{take-nil}
 use Rattle.model.specs.{Lists.choose, Lists.both, Lists.either, Lists.flat, Lists.same, Room.rowsIn}
-use Rattle.model.proofs.Lists.{T-of, of-T, not-of, of-not, same-eq, same-refl, earlier-asym, earlier-trans, Sorted, length-none}
+use Rattle.model.proofs.Lists.{T-of, of-T, not-of, of-not, same-eq, same-refl, earlier-asym, earlier-trans, Sorted, length-none, never}
 use Rattle.model.proofs.Room.{Wide, wide-tail, rows-wide, rows-none, rows-cons}
 use Rattle.list_merge.specs.{Merge.ascends, Merge.union, Merge.mergedBy, Merge.fromFirst, Merge.nextRow, inner.Inner.Places, inner.Inner.wayOf, inner.Inner.Rests}
 use Rattle.list_merge.specs.{inner.Inner.Sorts, inner.Inner.ofFirst, inner.Inner.taken, declared.Way.Way, declared.Way.the-variants.Before, declared.Way.the-variants.Same}
@@ -43,16 +43,16 @@ chosen-rest w q x y = sym (ap (λ (v : Way). choose (ofFirst v) x y) q)
 -- and back
 pub before-way : (p q : Bool) → Before ≡ wayOf p q → p ≡ true
 before-way true q e = refl
-before-way false true e = let z : _≡_ {A = ℕ} 0 1 = cc in absurd (omega arith)
-before-way false false e = let z : _≡_ {A = ℕ} 0 1 = cc in absurd (omega arith)
+before-way false true e = never (cc)
+before-way false false e = never (cc)
 
 pub after-way : (p q : Bool) → After ≡ wayOf p q → p ≡ false
-after-way true q e = let z : _≡_ {A = ℕ} 0 1 = cc in absurd (omega arith)
+after-way true q e = never (cc)
 after-way false q e = refl
 
 pub same-way : (p q : Bool) → Same ≡ wayOf p q → (p ≡ false) × (q ≡ false)
-same-way true q e = let z : _≡_ {A = ℕ} 0 1 = cc in absurd (omega arith)
-same-way false true e = let z : _≡_ {A = ℕ} 0 1 = cc in absurd (omega arith)
+same-way true q e = never (cc)
+same-way false true e = never (cc)
 same-way false false e = (refl, refl)
 
 -- ---- whole rows

@@ -8,7 +8,7 @@ use Rattle.model.specs.{Lists.keep, Lists.flat, Lists.at, Lists.earlier,
 use Rattle.model.specs.{Verdict.refused, Verdict.isAccepted, Verdict.refusal, Verdict.answered, Verdict.reply, Sheet.verdictOf, Sheet.problemOf, Nogood.filtered, Run.written}
 use Rattle.model.specs.{Run.listedPlans, Search.setsAt, Search.isLive, Nogood.Entry, Nogood.obeys, Claims.Drawn, Claims.Symmetries-respect, Claims.Largest, Claims.isLeader, Claims.leaders}
 use Rattle.model.specs.WellFormed.{WellFormed, Respected}
-use Rattle.model.proofs.{Lists.not-of, Lists.keep-ext, Lists.at-ext, Lists.at-replicate, Sets.has-none, Sets.mask-ext, Assignments.drawn-i, Assignments.drawn-e}
+use Rattle.model.proofs.{Lists.not-of, Lists.keep-ext, Lists.at-ext, Lists.at-replicate, Sets.has-none, Sets.mask-ext, Assignments.drawn-i, Assignments.drawn-e, Lists.never}
 use Rattle.model.proofs.{Filter.length-filtered, Filter.filtered-i, Filter.filtered-e, Filter.filtered-sets, Prune.Sized, Consistent.live-consistent}
 use Rattle.model.proofs.{Consistent.consistent-inside, Consistent.dead-none, Consistent.dead-empty, Tree.planTest, Tree.well-sized, Accepted.Passed, Accepted.passed}
 use Rattle.model.proofs.Leaders.{leader-is}
@@ -30,10 +30,10 @@ read-back n rows out k e h = ap (λ (j : ℕ). listedPlans n j (written rows out
 -- a reply is by the verdict: an answer where nothing is refused, else the refusal
 pub reply-so : {A : Type 0} (v : Verdict) (x a : A) → reply v x ≡ answered a → (v ≡ accepted) × (x ≡ a)
 reply-so accepted x a h = (refl, cc)
-reply-so (refused number item) x a h = absurd (let z : _≡_ {A = ℕ} 0 1 = cc in omega arith)
+reply-so (refused number item) x a h = never (cc)
 
 pub reply-refused : {A : Type 0} (v : Verdict) (x : A) (number item : ℕ) → reply v x ≡ refusal number item → v ≡ refused number item
-reply-refused accepted x number item h = absurd (let z : _≡_ {A = ℕ} 0 1 = cc in omega arith)
+reply-refused accepted x number item h = never (cc)
 reply-refused (refused n i) x number item h = cc
 
 -- an accepted sheet states a well-formed problem

@@ -1,10 +1,10 @@
 -- How the filter ends, in words; and lists that every assignment obeys. Assumes nothing.
-use Rattle.model.specs.Kit.{_≡_, refl, sym, ap, ap₂, _∙_, subst, Bool, true, false, _↔_, List, List·Memᴰ, ℕ, _^_, _<_, arith, T, length}
+use Rattle.model.specs.Kit.{_≡_, refl, sym, ap, ap₂, _∙_, subst, Bool, true, false, _↔_, List, List·Memᴰ, ℕ, _^_, _<_, T, length}
 use Rattle.model.specs.{Lists.at, ValueSets.has, ValueSets.anyEmpty, ValueSets.Inside, Problem.assignments, Nogood.Entry, Nogood.obeysFrom, Nogood.obeys, Nogood.obeying}
 use Rattle.model.specs.Nogood.{used, filtered, failed, entailed, consistent, endingBy, someObeys, everyObeys, filterEnding}
 use Rattle.model.specs.NogoodClaims.{Entails, Fails, Failed-exactly, Entailed-exactly}
 use Rattle.model.specs.NogoodClaims.{Consistent-exactly}
-use Rattle.model.proofs.Lists.{T-of, of-T, not-of, of-not, T-ext, all-i, all-e, any-i, any-e, keep-ext}
+use Rattle.model.proofs.Lists.{T-of, of-T, not-of, of-not, T-ext, all-i, all-e, any-i, any-e, keep-ext, never}
 use Rattle.model.proofs.{Sets.inside-antisym, Sets.has-at-lt, Assignments.assign-mono, Filter.length-filtered, Filter.filtered-sets, Filter.filtered-i, Filter.filtered-e}
 use Rattle.model.proofs.Filter.{filtered-inside, filtered-none}
 
@@ -31,17 +31,17 @@ module _ (ds : List ℕ) (es : List Entry) where
 -- ---- the endings apart
 by-failed : (b c : Bool) → endingBy b c ≡ failed → b ≡ false
 by-failed false c e = refl
-by-failed true true e = absurd (let z : _≡_ {A = ℕ} 0 1 = cc in omega arith)
-by-failed true false e = absurd (let z : _≡_ {A = ℕ} 0 1 = cc in omega arith)
+by-failed true true e = never (cc)
+by-failed true false e = never (cc)
 
 by-entailed : (b c : Bool) → endingBy b c ≡ entailed → (b ≡ true) × (c ≡ true)
-by-entailed false c e = absurd (let z : _≡_ {A = ℕ} 0 1 = cc in omega arith)
+by-entailed false c e = never (cc)
 by-entailed true true e = (refl, refl)
-by-entailed true false e = absurd (let z : _≡_ {A = ℕ} 0 1 = cc in omega arith)
+by-entailed true false e = never (cc)
 
 by-consistent : (b c : Bool) → endingBy b c ≡ consistent → (b ≡ true) × (c ≡ false)
-by-consistent false c e = absurd (let z : _≡_ {A = ℕ} 0 1 = cc in omega arith)
-by-consistent true true e = absurd (let z : _≡_ {A = ℕ} 0 1 = cc in omega arith)
+by-consistent false c e = never (cc)
+by-consistent true true e = never (cc)
 by-consistent true false e = (refl, refl)
 
 some-of : (b : Bool) → (b ≡ false → ⊥) → b ≡ true

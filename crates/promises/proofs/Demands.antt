@@ -1,9 +1,9 @@
 -- The demands, of what `run`, `run_with` and `run_lent` answer, write and count: from their contracts and order's theorems about the definitions. Assumes nothing.
-use Rattle.model.specs.Kit.{_≡_, refl, sym, ap, _∙_, subst, subst₂, _↔_, List, [], _∷_, map, List·Memᴰ, ℕ, _*_, arith, T, length, take, drop}
+use Rattle.model.specs.Kit.{_≡_, refl, sym, ap, _∙_, subst, subst₂, _↔_, List, [], _∷_, map, List·Memᴰ, ℕ, _*_, T, length, take, drop}
 use mathlib.Core.List.{Sublistᴰ}
 use Rattle.model.specs.{Lists.at, Lists.below, Lists.total, Lists.earlier, Lists.rowsAscend, Problem.Problem, Problem.isSolution, Problem.assignments, Verdict.accepted, Sheet.verdictOf}
 use Rattle.model.specs.{Sheet.problemOf, Run.ended, Run.refusal, Run.plansIn, Run.nodesIn, Run.listedPlans, Run.tallyAt, Claims.Leader, Claims.isLeader, Claims.leaders, Claims.Chain, Claims.CountsAt}
-use Rattle.model.proofs.{Lists.rowsAscend-take, Lists.rowsAscend-of, Lists.sorted-keep, Lists.keep-i, Lists.keep-e, Lists.map-ext, Assignments.assign-e, Assignments.assignments-sorted}
+use Rattle.model.proofs.{Lists.rowsAscend-take, Lists.rowsAscend-of, Lists.sorted-keep, Lists.keep-i, Lists.keep-e, Lists.map-ext, Assignments.assign-e, Assignments.assignments-sorted, Lists.never}
 use Rattle.model.proofs.{Leaders.sol-drawn, Leaders.leader-i, Leaders.leader-e, Chains.chains, Demands.sets-largest}
 use Rattle.order.specs.{Reordered.read, Reordered.write, Reordered.earlierBy, RunBy.Input, RunBy.sheetInput, RunBy.placeTally, RunBy.leadersBy, RunBy.answerBy, RunBy.listBy}
 use Rattle.order.specs.{RunBy.talliedBy, inner.Demanded.Demanded, inner.Demanded.Fewer}
@@ -21,16 +21,16 @@ use Rattle.model.specs.Run as Run
 -- ---- an answer is known by what it means
 pub is-refused : (r : Answer) (number item : ℕ) → means r ≡ refusal number item → r ≡ Refused number item
 is-refused (Refused a b) number item e = cc
-is-refused (Ended x) number item e = absurd (let z : _≡_ {A = ℕ} 0 1 = cc in omega arith)
+is-refused (Ended x) number item e = never (cc)
 
 pub is-ended : (r : Answer) (x : Run.Ending) → means r ≡ ended x → (e : Ending) × (r ≡ Ended e)
-is-ended (Refused a b) x e = absurd (let z : _≡_ {A = ℕ} 0 1 = cc in omega arith)
+is-ended (Refused a b) x e = never (cc)
 is-ended (Ended y) x e = (y, refl)
 
 pub is-finished : (e : Ending) (plans nodes : ℕ) → endingOf e ≡ Run.finished plans nodes → e ≡ Finished plans nodes
 is-finished (Finished a b) plans nodes h = cc
-is-finished (Spent a b) plans nodes h = absurd (let z : _≡_ {A = ℕ} 0 1 = cc in omega arith)
-is-finished (Full a b) plans nodes h = absurd (let z : _≡_ {A = ℕ} 0 1 = cc in omega arith)
+is-finished (Spent a b) plans nodes h = never (cc)
+is-finished (Full a b) plans nodes h = never (cc)
 
 -- ---- a run that was given i
 -- an answer that refuses leaves the tally

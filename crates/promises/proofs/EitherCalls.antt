@@ -5,7 +5,7 @@ use native.Mathlib.Nat.{mul-mod-left}
 use lib.Seq.{take-at, drop-at}
 use Rattle.model.specs.{Lists.both, Lists.all, Lists.flat, Sheet.problemOf, Sheet.verdictOf, Verdict.Verdict, Verdict.accepted, Verdict.ask, Verdict.isAccepted, Room.wrote}
 use Rattle.model.specs.{Room.refusal, Room.outcomeOf, Room.roomAfter, Room.rowsIn, Run.written, Claims.Leader}
-use Rattle.model.proofs.{Lists.of-T, Accepted.asked, Accepted.is-accepted, Demands.read-back, Room.Wide, Room.length-flat, Room.length-listed, Room.rows-back, Room.rows-wide}
+use Rattle.model.proofs.{Lists.of-T, Accepted.asked, Accepted.is-accepted, Demands.read-back, Room.Wide, Room.length-flat, Room.length-listed, Room.rows-back, Room.rows-wide, Lists.never}
 use Rattle.order.specs.{Order.settlingOrder, Order.settlesAll, Order.orderVerdict, Order.Ordering, Reordered.earlierBy, RunBy.resultBy, RunBy.leadersBy}
 use Rattle.order.proofs.Demanded.{RanBy, ran-by}
 use Rattle.block.specs.Block.{blockLent}
@@ -111,7 +111,7 @@ module _ (b pairs block : List ℕ) (limit : ℕ) (out : List ℕ) (tally : Tall
 -- ---- the merge of two such lists
 is-wrote : (r : Answer) (k : ℕ) → means r ≡ wrote k → r ≡ Written k
 is-wrote (Written j) k h = cc
-is-wrote (Refused a b) k h = absurd (let z : _≡_ {A = ℕ} 0 1 = cc in omega arith)
+is-wrote (Refused a b) k h = never (cc)
 
 module _ (n : ℕ) (pairs a b : List ℕ) (xs ys : List (List ℕ)) (i j : ℕ) (some : 1 ≤ n) (few : n ≤ 12) (o : Ordering n (settlingOrder n pairs)) (passes : (w : Verdict) → orderVerdict n pairs w ≡ w)
     (f : Front n pairs a xs i) (g : Front n pairs b ys j) where
@@ -167,7 +167,7 @@ module _ (n : ℕ) (pairs a b : List ℕ) (xs ys : List (List ℕ)) (i j : ℕ) 
     only-27 number item e = go (leb (length text) (length room)) refl
       where
         go : (t : Bool) → leb (length (merged n pairs a b)) (length room) ≡ t → (number ≡ 27) × (item ≡ 0) × (room′ ≡ room)
-        go true q = let s = said true q .0 in let m = ap means e in absurd (let z : _≡_ {A = ℕ} 0 1 = cc in omega arith)
+        go true q = let s = said true q .0 in let m = ap means e in never (cc)
         go false q = let s = said false q in let h : refusal number item ≡ refusal 27 0 = sym (ap means e) ∙ s .0 in let x : number ≡ 27 = cc in let y : item ≡ 0 = cc in (x, y, s .1)
 
     roomy : i * n + j * n ≤ length room → (k : ℕ) × (r ≡ Written k)
@@ -182,7 +182,7 @@ module _ (n : ℕ) (pairs a b : List ℕ) (xs ys : List (List ℕ)) (i j : ℕ) 
             let h : wrote k ≡ wrote (length text) = sym (ap means e) ∙ s .0 in
             let l : length text ≡ k = cc in
             (ap (take k) (s .1) ∙ take-at text (drop (length text) room) k l, ap (drop k) (s .1) ∙ drop-at text (drop (length text) room) k l ∙ ap (λ (m : ℕ). drop m room) l)
-        go false q = let s = said false q .0 in let m = ap means e in absurd (let z : _≡_ {A = ℕ} 0 1 = cc in omega arith)
+        go false q = let s = said false q .0 in let m = ap means e in never (cc)
 
 pub either-calls : Either-calls
 either-calls b c pairs block width limit out tally e after tally′ x limit₂ out₂ tally₂ e₂ after₂ tally₂′ y room r room′ m = record {

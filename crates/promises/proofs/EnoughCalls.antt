@@ -2,6 +2,7 @@
 use Rattle.model.specs.Kit.{_≡_, refl, sym, ap, _∙_, subst, List, ℕ, suc, _≤_, _<_, mul-le-mul-right, decLt, arith, length}
 use Rattle.model.specs.{Lists.keep, Problem.Problem, Sheet.problemOf, Search.nodes, Search.isPlan, Run.plansIn, Claims.plansAmong}
 use Rattle.model.proofs.Room.{length-listed}
+use Rattle.model.proofs.Lists.{never}
 use Rattle.order.specs.RunBy.{leadersBy}
 use Rattle.order.proofs.Demanded.{ran-by}
 use Rattle.run_input.specs.Lent.{problemWith, orderLent, problemLent, lentInput, listLent}
@@ -18,20 +19,20 @@ use Rattle.run.specs.declared.Enough.the-variants as N
 -- what is said is known by what it means
 said-known : (r : Enough) (s : Enough) → saidEnough r ≡ saidEnough s → r ≡ s
 said-known (N.Refused a b) (N.Refused x y) h = cc
-said-known (N.Refused a b) (N.Yes x y) h = absurd (let z : _≡_ {A = ℕ} 0 1 = cc in omega arith)
-said-known (N.Refused a b) (N.No x y) h = absurd (let z : _≡_ {A = ℕ} 0 1 = cc in omega arith)
-said-known (N.Refused a b) (N.Spent x y) h = absurd (let z : _≡_ {A = ℕ} 0 1 = cc in omega arith)
-said-known (N.Yes a b) (N.Refused x y) h = absurd (let z : _≡_ {A = ℕ} 0 1 = cc in omega arith)
+said-known (N.Refused a b) (N.Yes x y) h = never (cc)
+said-known (N.Refused a b) (N.No x y) h = never (cc)
+said-known (N.Refused a b) (N.Spent x y) h = never (cc)
+said-known (N.Yes a b) (N.Refused x y) h = never (cc)
 said-known (N.Yes a b) (N.Yes x y) h = let e : enough a b ≡ enough x y = cc in let f : a ≡ x = cc in let g : b ≡ y = cc in cc
-said-known (N.Yes a b) (N.No x y) h = absurd (let e : enough a b ≡ tooFew x y = cc in let z : _≡_ {A = ℕ} 0 1 = cc in omega arith)
-said-known (N.Yes a b) (N.Spent x y) h = absurd (let e : enough a b ≡ unknown x y = cc in let z : _≡_ {A = ℕ} 0 1 = cc in omega arith)
-said-known (N.No a b) (N.Refused x y) h = absurd (let z : _≡_ {A = ℕ} 0 1 = cc in omega arith)
-said-known (N.No a b) (N.Yes x y) h = absurd (let e : tooFew a b ≡ enough x y = cc in let z : _≡_ {A = ℕ} 0 1 = cc in omega arith)
+said-known (N.Yes a b) (N.No x y) h = absurd (let e : enough a b ≡ tooFew x y = cc in never (cc))
+said-known (N.Yes a b) (N.Spent x y) h = absurd (let e : enough a b ≡ unknown x y = cc in never (cc))
+said-known (N.No a b) (N.Refused x y) h = never (cc)
+said-known (N.No a b) (N.Yes x y) h = absurd (let e : tooFew a b ≡ enough x y = cc in never (cc))
 said-known (N.No a b) (N.No x y) h = let e : tooFew a b ≡ tooFew x y = cc in let f : a ≡ x = cc in let g : b ≡ y = cc in cc
-said-known (N.No a b) (N.Spent x y) h = absurd (let e : tooFew a b ≡ unknown x y = cc in let z : _≡_ {A = ℕ} 0 1 = cc in omega arith)
-said-known (N.Spent a b) (N.Refused x y) h = absurd (let z : _≡_ {A = ℕ} 0 1 = cc in omega arith)
-said-known (N.Spent a b) (N.Yes x y) h = absurd (let e : unknown a b ≡ enough x y = cc in let z : _≡_ {A = ℕ} 0 1 = cc in omega arith)
-said-known (N.Spent a b) (N.No x y) h = absurd (let e : unknown a b ≡ tooFew x y = cc in let z : _≡_ {A = ℕ} 0 1 = cc in omega arith)
+said-known (N.No a b) (N.Spent x y) h = absurd (let e : tooFew a b ≡ unknown x y = cc in never (cc))
+said-known (N.Spent a b) (N.Refused x y) h = never (cc)
+said-known (N.Spent a b) (N.Yes x y) h = absurd (let e : unknown a b ≡ enough x y = cc in never (cc))
+said-known (N.Spent a b) (N.No x y) h = absurd (let e : unknown a b ≡ tooFew x y = cc in never (cc))
 said-known (N.Spent a b) (N.Spent x y) h = let e : unknown a b ≡ unknown x y = cc in let f : a ≡ x = cc in let g : b ≡ y = cc in cc
 
 -- with room for all plans a run of k trials, k being no more than the tree has, lists the plans among the first k

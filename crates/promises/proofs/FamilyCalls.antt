@@ -1,8 +1,9 @@
 -- What callers hold of families (specs/FamilyCalls). Assumes nothing.
-use Rattle.model.specs.Kit.{_≡_, refl, sym, ap, _∙_, subst, inr, List, [], ℕ, _*_, arith, length}
+use Rattle.model.specs.Kit.{_≡_, refl, sym, ap, _∙_, subst, inr, List, [], ℕ, _*_, length}
 use Rattle.run_state.specs.{Meaning.endingOf, declared.Tally.Tally, declared.Ending.the-variants.Finished as Done}
 use Rattle.model.specs.{Verdict.Verdict, Verdict.accepted, Verdict.refused, Verdict.reply, Sheet.problemOf, Run.Ending, Run.finished, Run.spent, Run.full, Run.ended}
 use Rattle.model.specs.Run.{listedPlans}
+use Rattle.model.proofs.Lists.{never}
 use Rattle.run_input.specs.Lent.{verdictLent, problemWith}
 use Rattle.families.specs.Families.{FamilyCount, familiesOf}
 use Rattle.families_figure.specs.{Figure.Figure, Figure.number, Figure.dash, Figure.figureFor, Figure.bareSheet, Figure.familiesLent, inner.FigureClaims.ranWith, inner.FigureClaims.ranBare}
@@ -18,14 +19,14 @@ use Rattle.run.specs.declared.Answer as SA
 
 -- ---- families
 dash-is : (r : Answer) → means r ≡ told dash → r ≡ Dash
-dash-is (Number k) e = absurd (let z : _≡_ {A = ℕ} 0 1 = cc in omega arith)
+dash-is (Number k) e = never (cc)
 dash-is Dash e = refl
-dash-is (Refused n i) e = absurd (let z : _≡_ {A = ℕ} 0 1 = cc in omega arith)
+dash-is (Refused n i) e = never (cc)
 
 number-told : (r : Answer) (k : ℕ) → means r ≡ told (number k) → r ≡ Number k
 number-told (Number m) k e = let f : number m ≡ number k = cc in let g : m ≡ k = cc in cc
-number-told Dash k e = absurd (let f : dash ≡ number k = cc in let z : _≡_ {A = ℕ} 0 1 = cc in omega arith)
-number-told (Refused n i) k e = absurd (let z : _≡_ {A = ℕ} 0 1 = cc in omega arith)
+number-told Dash k e = absurd (let f : dash ≡ number k = cc in never (cc))
+number-told (Refused n i) k e = never (cc)
 
 -- an ending that means finished
 ended-finished : (a : SA.Answer) (plans nodes : ℕ) → M.means a ≡ ended (finished plans nodes) → a ≡ Ended (Done plans nodes)
@@ -34,17 +35,17 @@ ended-finished a plans nodes h = let e = is-ended a (finished plans nodes) h in
     (e .0) ≡ finished plans nodes = cc in y))
 
 refused-is : (r : Answer) (n i : ℕ) → means r ≡ refusal n i → r ≡ Refused n i
-refused-is (Number k) n i e = absurd (let z : _≡_ {A = ℕ} 0 1 = cc in omega arith)
-refused-is Dash n i e = absurd (let z : _≡_ {A = ℕ} 0 1 = cc in omega arith)
+refused-is (Number k) n i e = never (cc)
+refused-is Dash n i e = never (cc)
 refused-is (Refused m j) n i e = let f : m ≡ n = cc in let g : j ≡ i = cc in cc
 
 -- a number is that of the families
 number-is : (e f : Ending) (m k : ℕ) → figureFor e f m ≡ number k → k ≡ m
 number-is (finished plans made) (finished plans′ made′) m k h = cc
-number-is (finished plans made) (spent plans′ made′) m k h = absurd (let z : _≡_ {A = ℕ} 0 1 = cc in omega arith)
-number-is (finished plans made) (full plans′ made′) m k h = absurd (let z : _≡_ {A = ℕ} 0 1 = cc in omega arith)
-number-is (spent plans made) f m k h = absurd (let z : _≡_ {A = ℕ} 0 1 = cc in omega arith)
-number-is (full plans made) f m k h = absurd (let z : _≡_ {A = ℕ} 0 1 = cc in omega arith)
+number-is (finished plans made) (spent plans′ made′) m k h = never (cc)
+number-is (finished plans made) (full plans′ made′) m k h = never (cc)
+number-is (spent plans made) f m k h = never (cc)
+number-is (full plans made) f m k h = never (cc)
 
 pub families-calls : Families-calls
 unfolding countedLent familiesLent
@@ -54,7 +55,7 @@ families-calls b pairs block limit r call = record {
   numbered = λ v out tally a after tally′ c l plans nodes e. number-told r (familiesOf (problemWith b block)) (so v ∙ ap told (counts-so v (done v out tally a after tally′ c l plans nodes e)));
   dashed = λ v out tally a after tally′ c l. (
     λ e plans nodes q. (let z : told dash ≡ told (number (familiesOf (problemWith b block))) = sym (ap means e) ∙ so v ∙ ap told (counts-so v (done v out tally a after tally′ c l plans nodes q)) in
-        let y : _≡_ {A = ℕ} 0 1 = cc in omega arith),
+        never (cc)),
     λ n. dash-is r (so v ∙ ap told (families-lent b pairs block limit room v .dashed (inr (λ d. n (d .0) (d .1) (undone v out tally a after tally′ c l d))))),
   );
 }
@@ -94,7 +95,7 @@ families-calls b pairs block limit r call = record {
           number-is (ranWith b pairs block limit room) (ranBare b pairs limit room) (familiesOf (problemWith b block)) k (let y : figure ≡ number k = cc in y),
           families-lent b pairs block limit room v .count,
         )
-    counted k q (refused n i) v = absurd (let z : told (number k) ≡ refusal n i = q ∙ ap (λ (u : Verdict). reply u figure) v in let y : _≡_ {A = ℕ} 0 1 = cc in omega arith)
+    counted k q (refused n i) v = absurd (let z : told (number k) ≡ refusal n i = q ∙ ap (λ (u : Verdict). reply u figure) v in never (cc))
 
 -- ---- one of each family
 pub one-of-each-calls : One-of-each-calls

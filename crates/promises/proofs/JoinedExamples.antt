@@ -1,7 +1,7 @@
 -- The examples of parts and their heads hold of the definitions. Assumes nothing.
 use Rattle.model.specs.Kit.{_≡_, refl, sym, ap, _∙_, subst, List, [], _∷_, map, List·Memᴰ, List·Memᴰ·head, List·Memᴰ·tail, List·Memᴰ·not-nil, ℕ, _<_, arith}
 use Rattle.model.specs.{Bytes.fourBytes, Lists.at, Lists.tabulate, Lists.total, Run.countsBy, Run.tallyAt, Examples.sheetA, Examples.Each, Verdict.Verdict, Verdict.accepted}
-use Rattle.model.proofs.{Examples.opened, Lists.at-tabulate}
+use Rattle.model.proofs.{Examples.opened, Lists.at-tabulate, Lists.never}
 use Rattle.order.specs.{Order.pairsIn, Order.forerunners, Order.canFollow, Order.settledFirst, Order.settlingOrder, Order.settlesAll, Order.orderVerdict, Reordered.position}
 use Rattle.order.specs.Reordered.{read, write, valueOf, scopeIn, rowIn, renamed, symmetryIn}
 use Rattle.block.specs.Block.{tablesLent, blockLent}
@@ -107,14 +107,14 @@ pub cut-held : HeldA cutA
 unfolding openedParts
 cut-held = (
   record { lent = refl; calls = own-all cutA (own (0 ∷ 2 ∷ []) (255 ∷ []) 1000000 18, (own [] (0 ∷ 2 ∷ []) 1000000 18, (own (0 ∷ 2 ∷ []) (255 ∷ []) 1000000 18, tt))); bytes = refl },
-  record { answers = refl; inside = λ s n q. absurd (let z : _≡_ {A = ℕ} 0 1 = cc in omega arith); plans = refl; nodes = refl; counts = λ x h. counted (headsA cutA) refl x h },
+  record { answers = refl; inside = λ s n q. never (cc); plans = refl; nodes = refl; counts = λ x h. counted (headsA cutA) refl x h },
 )
 
 pub spent-held : HeldA spentA
 unfolding openedParts
 spent-held = (
   record { lent = refl; calls = own-all spentA (own (0 ∷ 1 ∷ []) (255 ∷ []) 1000000 18, (own [] (255 ∷ []) 2 18, tt)); bytes = refl },
-  record { answers = refl; inside = λ s n q. absurd (let z : _≡_ {A = ℕ} 0 1 = cc in omega arith); plans = refl; nodes = refl; counts = λ x h. counted (headsA spentA) refl x h },
+  record { answers = refl; inside = λ s n q. never (cc); plans = refl; nodes = refl; counts = λ x h. counted (headsA spentA) refl x h },
 )
 
 -- so the holder of these heads has the run

@@ -3,7 +3,7 @@
 use Rattle.model.specs.Kit.{_≡_, refl, sym, ap, ap₂, _∙_, subst, _⊎_, inl, inr, Bool, true, false, List, [], _∷_, ℕ, zero, suc, _≤_, _<_, arith, T, ltb, length, ltb-true}
 use Rattle.model.specs.Kit.{ltb-false}
 use Rattle.model.specs.{Lists.both, Lists.choose, Lists.same, Verdict.Verdict, Verdict.accepted, Verdict.refused}
-use Rattle.model.proofs.Lists.{T-of, of-T, of-not, both-i, both-r, same-eq, same-refl}
+use Rattle.model.proofs.Lists.{T-of, of-T, of-not, both-i, both-r, same-eq, same-refl, never}
 use Rattle.run_cut.specs.Parts.{after}
 use Rattle.run_cut.proofs.Parts.{after-trans, after-not}
 use Rattle.run_join.specs.Join.{fromAt, reachAt, headsIn, joinVerdict, goesOn, comes, leads, mayTake, standPath, reachOr, bestOf, stepOf, takenFrom, taken, standAfter, stands}
@@ -166,17 +166,17 @@ said-joined l accepted e = (refl, go (joined l) e)
   where
     go : (d : Bool) → Joined ≡ choose d Joined (Missing (stands l) (nearest l)) → d ≡ true
     go true q = refl
-    go false q = absurd (let z : _≡_ {A = ℕ} 0 1 = cc in omega arith)
-said-joined l (refused number item) e = absurd (let z : _≡_ {A = ℕ} 0 1 = cc in omega arith)
+    go false q = never (cc)
+said-joined l (refused number item) e = never (cc)
 
 said-missing : (l : List ℕ) (stand near : ℕ) (v : Verdict) → Missing stand near ≡ answerFor v l → (v ≡ accepted) × (joined l ≡ false) × (stand ≡ stands l) × (near ≡ nearest l)
 unfolding answerFor
 said-missing l stand near accepted e = go (joined l) refl e
   where
     go : (d : Bool) → joined l ≡ d → Missing stand near ≡ choose d Joined (Missing (stands l) (nearest l)) → (accepted ≡ accepted) × (joined l ≡ false) × (stand ≡ stands l) × (near ≡ nearest l)
-    go true f q = absurd (let z : _≡_ {A = ℕ} 0 1 = cc in omega arith)
+    go true f q = never (cc)
     go false f q = (refl, f, cc, cc)
-said-missing l stand near (refused number item) e = absurd (let z : _≡_ {A = ℕ} 0 1 = cc in omega arith)
+said-missing l stand near (refused number item) e = never (cc)
 
 pub missing-held : Missing-held
 unfolding taken mayTake

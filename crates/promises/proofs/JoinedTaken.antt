@@ -3,7 +3,7 @@ use Rattle.model.specs.Kit.{_≡_, refl, sym, ap, _∙_, subst, Bool, true, fal
 use Rattle.model.specs.Kit.{zero, suc, _≤_, _<_, arith, T, leb, length, take, length-take, take-all, leb-true}
 use Rattle.model.specs.{Lists.all, Lists.below, Lists.both, Lists.choose, Lists.same, Problem.Problem, Verdict.Verdict, Verdict.accepted, Verdict.ask, Search.nodes, Run.Ending}
 use Rattle.model.specs.Run.{finished, spent, full, Answer, ended}
-use Rattle.model.proofs.Lists.{T-of, keep-e, same-eq, both-second}
+use Rattle.model.proofs.Lists.{T-of, keep-e, same-eq, both-second, never}
 use Rattle.run_cut.specs.Parts.{after, nodesBetween, lastOf}
 use Rattle.run_cut.proofs.{Parts.after-trans, Parts.after-asym, Parts.after-not, Resume.node-values, Resume.last-in, Resume.taken}
 use Rattle.run_input.specs.Lent.{verdictLent, problemLent}
@@ -67,7 +67,7 @@ taken-inside l (suc left) stand k m = go (taken-inside l left) (stepOf l stand) 
 -- ---- no head is full
 asked : (c : Bool) (n i : ℕ) (v : Verdict) → ask c n i v ≡ accepted → (c ≡ true) × (v ≡ accepted)
 asked true n i v e = (refl, e)
-asked false n i v e = absurd (let z : _≡_ {A = ℕ} 0 1 = cc in omega arith)
+asked false n i v e = never (cc)
 
 pub none-full : (l : List ℕ) → joinVerdict l ≡ accepted → (k : ℕ) → k < headsIn l → kindAt l k ≤ 2
 unfolding joinVerdict

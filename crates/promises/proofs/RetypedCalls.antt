@@ -1,5 +1,5 @@
 -- Two callers whose sheets differ only in the order of their exchanges hold the same (paper 02, #109). Assumes nothing.
-use Rattle.model.specs.Kit.{_≡_, sym, ap, _∙_, List, ℕ, arith, length}
+use Rattle.model.specs.Kit.{_≡_, sym, ap, _∙_, List, ℕ, length}
 use Rattle.model.specs.{Run.plansIn, Run.listedPlans, Run.ended, Run.Answer as Told, Run.Tally as Counts, Run.tallyFor, Sheet.problemOf, Verdict.reply}
 use Rattle.order.specs.RunBy.{resultBy, placeTally, answerBy, talliedBy}
 use Rattle.run_input.specs.Lent.{verdictLent, problemWith, orderLent, answerLent, listLent, tallyLent}
@@ -11,23 +11,24 @@ use Rattle.run.specs.{declared.Answer.Answer, declared.Answer.the-variants.Refu
 use Rattle.promises.specs.RetypedCalls.{Retyped-calls}
 use Rattle.promises.proofs.Demands.{demands-lent}
 use Rattle.model.proofs.Accepted.{is-accepted}
+use Rattle.model.proofs.Lists.{never}
 
 -- an answer is known by what it means
 ending-known : (d e : Ending) → endingOf d ≡ endingOf e → d ≡ e
 ending-known (Finished a b) (Finished x y) h = cc
-ending-known (Finished a b) (Spent x y) h = absurd (let z : _≡_ {A = ℕ} 0 1 = cc in omega arith)
-ending-known (Finished a b) (Full x y) h = absurd (let z : _≡_ {A = ℕ} 0 1 = cc in omega arith)
-ending-known (Spent a b) (Finished x y) h = absurd (let z : _≡_ {A = ℕ} 0 1 = cc in omega arith)
+ending-known (Finished a b) (Spent x y) h = never (cc)
+ending-known (Finished a b) (Full x y) h = never (cc)
+ending-known (Spent a b) (Finished x y) h = never (cc)
 ending-known (Spent a b) (Spent x y) h = cc
-ending-known (Spent a b) (Full x y) h = absurd (let z : _≡_ {A = ℕ} 0 1 = cc in omega arith)
-ending-known (Full a b) (Finished x y) h = absurd (let z : _≡_ {A = ℕ} 0 1 = cc in omega arith)
-ending-known (Full a b) (Spent x y) h = absurd (let z : _≡_ {A = ℕ} 0 1 = cc in omega arith)
+ending-known (Spent a b) (Full x y) h = never (cc)
+ending-known (Full a b) (Finished x y) h = never (cc)
+ending-known (Full a b) (Spent x y) h = never (cc)
 ending-known (Full a b) (Full x y) h = cc
 
 pub answer-known : (q r : Answer) → means q ≡ means r → q ≡ r
 answer-known (Refused a b) (Refused x y) h = cc
-answer-known (Refused a b) (Ended y) h = absurd (let z : _≡_ {A = ℕ} 0 1 = cc in omega arith)
-answer-known (Ended d) (Refused x y) h = absurd (let z : _≡_ {A = ℕ} 0 1 = cc in omega arith)
+answer-known (Refused a b) (Ended y) h = never (cc)
+answer-known (Ended d) (Refused x y) h = never (cc)
 answer-known (Ended d) (Ended e) h = let k : endingOf d ≡ endingOf e = cc in ap Ended (ending-known d e k)
 
 -- what a run answers depends on the list's length alone, and its tally on the answer, once it has ended

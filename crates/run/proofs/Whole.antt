@@ -3,7 +3,7 @@ use Rattle.model.specs.Kit.{_≡_, refl, sym, ap, ap₂, _∙_, Bool, true, fal
 use Rattle.model.specs.Kit.{replicate, length-set}
 use Rattle.model.specs.{Lists.flat, Lists.at, Lists.choose, Problem.Problem, Search.nodes, Verdict.Verdict, Verdict.accepted, Verdict.refused, Verdict.reply, Run.finished}
 use Rattle.model.specs.{Run.spent, Run.full, Run.refusal, Run.ended, Run.Result, Run.resultOf, Run.written, Run.Tally, Run.tallyFor, Run.plansIn, Run.nodesIn, Sheet.problemOf}
-use Rattle.model.proofs.{Lists.length-none, Lists.at-set, Lists.at-set-other, Runs.rows-fit, Accepted.is-accepted}
+use Rattle.model.proofs.{Lists.length-none, Lists.at-set, Lists.at-set-other, Runs.rows-fit, Accepted.is-accepted, Lists.never}
 use Rattle.order.specs.{Reordered.write, RunBy.resultBy, RunBy.placeCounts, RunBy.placeTally, RunBy.answerBy, RunBy.listBy, RunBy.talliedBy}
 use Rattle.run_input.specs.Lent.{verdictLent, orderLent, problemWith, problemLent, answerLent, listLent, tallyLent}
 use Rattle.run_input.proofs.Lent.{well-sheet}
@@ -35,7 +35,7 @@ ended-same e x p n s = sym (ending-by e) ∙ ap₂ (λ (i j : ℕ). endingBy i j
 
 -- a verdict is one
 refused-not : {number item : ℕ} → refused number item ≡ accepted → ⊥
-refused-not e = let z : _≡_ {A = ℕ} 0 1 = cc in omega arith
+refused-not e = never (cc)
 
 refused-same : {number item number′ item′ : ℕ} → refused number item ≡ refused number′ item′ → (number ≡ number′) × (item ≡ item′)
 refused-same e = (cc, cc)

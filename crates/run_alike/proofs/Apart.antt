@@ -8,7 +8,7 @@ use Rattle.model.specs.{Lists.both, Lists.any, Lists.keep, Lists.below, Lists.a
 use Rattle.model.specs.{Problem.pairsAt, Problem.doubled, Problem.excluded, Problem.forbidden, Nogood.Entry, Nogood.equality, Nogood.disequality, Search.entriesAt}
 use Rattle.model.specs.{Search.nogoodsOf, Search.rowWith, Search.setsAt, Search.isLive, Claims.Drawn, Claims.Consistent, WellFormed.WellFormed, WellFormed.GoodSymmetry}
 use Rattle.model.specs.WellFormed.{Respected}
-use Rattle.model.proofs.Lists.{both-l, both-r, any-i, any-e, flat-i, flat-e, below-i, below-e, at-mem, mem-at, at-map, same-refl, length-below}
+use Rattle.model.proofs.Lists.{both-l, both-r, any-i, any-e, flat-i, flat-e, below-i, below-e, at-mem, mem-at, at-map, same-refl, length-below, never}
 use Rattle.model.proofs.{Counting.onto, Counting.distinct-below, Assignments.drawn-e, Prune.Sized, Consistent.live-consistent, Tree.well-sized}
 use Rattle.run_alike.specs.inner.Alike.{Residue, residue}
 use Rattle.run_alike.proofs.{Sets.own-value, Sets.own-set, Residue.single, Residue.single-has, Residue.kept-e, Residue.held-e}
@@ -112,7 +112,7 @@ module _ (p : Problem) (g c : List ℕ) where
       (x, below-e (length c) x (q .1), one y u _ _ e, two y u _ _ e)
     where
       apart : (x v y u : ℕ) → disequality x v ≡ equality y u → ⊥
-      apart x v y u e = let z : _≡_ {A = ℕ} 0 1 = cc in omega arith
+      apart x v y u e = never (cc)
 
       one : (x v y u : ℕ) → equality x v ≡ equality y u → x ≡ y
       one x v y u e = cc

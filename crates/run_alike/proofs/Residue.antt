@@ -2,7 +2,7 @@
 use Rattle.model.specs.Kit.{_≡_, refl, sym, ap, ap₂, _∙_, subst, Bool, true, false, not, _⊎_, inl, inr, ⊎-elim, List, [], _∷_, _++_, List·Memᴰ, List·Memᴰ·head, List·Memᴰ·tail}
 use Rattle.model.specs.Kit.{List·Memᴰ·not-nil, List·Memᴰ·cases-cons, ℕ, _^_, _<_, arith, T, eqb, eqb→eq, eqb-refl, length, getD, eqb-true, eqb-false}
 use Rattle.model.specs.{Lists.both, Lists.at, ValueSets.has, Nogood.Entry, Nogood.equality, Nogood.disequality, Nogood.is, Nogood.obeysFrom, Claims.Drawn}
-use Rattle.model.proofs.{Lists.of-T, Lists.T-of, Lists.not-of, Lists.of-not, Lists.getD-at, Lists.both-true, Lists.both-false, Masks.has-one, Obey.obeys-unheld}
+use Rattle.model.proofs.{Lists.of-T, Lists.T-of, Lists.not-of, Lists.of-not, Lists.getD-at, Lists.both-true, Lists.both-false, Masks.has-one, Obey.obeys-unheld, Lists.never}
 use Rattle.run_alike.specs.inner.Alike.{Residue, front, residue}
 
 -- ---- entries
@@ -182,7 +182,7 @@ module _ (ds : List ℕ) where
       W b = elim b [ true ↦ front (disequality x v) (residue ds es) | false ↦ residue ds es ]
 
       into : List·Memᴰ (equality y u) es
-      into = ⊎-elim {C = List·Memᴰ (equality y u) es} (λ o. let z : _≡_ {A = ℕ} 0 1 = cc in absurd (omega arith)) (λ i. i) (List·Memᴰ·cases-cons m)
+      into = ⊎-elim {C = List·Memᴰ (equality y u) es} (λ o. never (cc)) (λ i. i) (List·Memᴰ·cases-cons m)
 
       go : Down → (b : Bool) → W b .stopped ≡ false → Goal (W b .kept)
       go ih true n = ⊎-elim {C = Goal (disequality x v ∷ residue ds es .kept)} inl (λ j. inr (List·Memᴰ·tail j)) (ih n into)

@@ -2,6 +2,7 @@
 use Rattle.model.specs.Kit.{_≡_, refl, sym, ap, _∙_, subst, Bool, List, [], _∷_, ℕ, _≤_, arith, T, eqb, length, take, length-map, eq-eqb, ne-eqb}
 use Rattle.model.specs.{Lists.at, Problem.Problem, Verdict.Verdict, Verdict.accepted, Verdict.ask, Verdict.isAccepted, Sheet.verdictOf, Sheet.problemOf}
 use Rattle.model.proofs.Accepted.{constraints-are, symmetries-are, passed, is-accepted}
+use Rattle.model.proofs.Lists.{never}
 use Rattle.order.specs.{Order.settlingOrder, Order.orderVerdict, Order.Ordering, Reordered.constraintIn, Reordered.symmetryIn, Reordered.reordered, inner.Settled.Ordered}
 use Rattle.order.proofs.{Order.no-pairs, Reordered.well-reordered, LeadersBy.reordered-below}
 use Rattle.arrays.specs.{inner.Layout.Compiled, inner.Places.VARIABLES}
@@ -14,8 +15,8 @@ use Rattle.run_input.specs.{Lent.verdictLent, Lent.orderLent, inner.Comp
 use Rattle.run_input.proofs.Lent.{lent-passed, well-sheet, ordering-lent}
 
 -- a refusal is no acceptance
-never : (r : Answer) (number item : ℕ) → r ≡ Refused number item → r ≡ Accepted → ⊥
-never r number item e q = let z : _≡_ {A = ℕ} 0 1 = cc in omega arith
+never-so : (r : Answer) (number item : ℕ) → r ≡ Refused number item → r ≡ Accepted → ⊥
+never-so r number item e q = never (cc)
 
 -- ---- the pairs' and the block's questions
 module _ (n : ℕ) (pairs old new : List ℕ) (r : ℕ) (o : Ordered n pairs old new r) (long : length old ≡ 16) (block : List ℕ) (p : Problem) (same : n ≡ p .variables) where
@@ -25,7 +26,7 @@ module _ (n : ℕ) (pairs old new : List ℕ) (r : ℕ) (o : Ordered n pairs old
   pub pairs-refused : (r ≡ 0 → ⊥) → Lendings p pairs block new (Refused r 0)
   pairs-refused h = record {
     answers = sym (asked ∙ ap (λ (t : Bool). ask t r 0 (blockLent p block)) (ne-eqb r 0 h));
-    order-is = λ q. absurd (never (Refused r 0) r 0 refl q);
+    order-is = λ q. absurd (never-so (Refused r 0) r 0 refl q);
     order-length = o .size ∙ long;
   }
 
@@ -49,9 +50,9 @@ module _ (b numbers supports images : List ℕ) (r : Answer) (c : Compilation b 
   unfolding verdictLent
   sheet-refused pairs block order number item e long = record {
     answers = ap means e ∙ sym (ap (λ (v : Verdict). andThen v (orderVerdict (problemOf b .variables) pairs (blockLent (problemOf b) block))) (sym (c .answers) ∙ ap means e));
-    compiled = λ q. absurd (never r number item e q);
-    sizes = λ q. absurd (never r number item e q);
-    order-is = λ q. absurd (never r number item e q);
+    compiled = λ q. absurd (never-so r number item e q);
+    sizes = λ q. absurd (never-so r number item e q);
+    order-is = λ q. absurd (never-so r number item e q);
     order-length = long;
   }
 
@@ -94,11 +95,11 @@ pub compiled-refused : (b pairs block numbers supports images order : List ℕ) 
     AskedLent b pairs block numbers supports images order r → CompiledLent b pairs block numbers supports images order r
 compiled-refused b pairs block numbers supports images order r number item e a = record {
   answers = a .answers;
-  compiled = λ q. absurd (never r number item e q);
-  limits = λ q. absurd (never r number item e q);
-  sizes = λ q. absurd (never r number item e q);
-  order-is = λ q. absurd (never r number item e q);
-  ordering = λ q. absurd (never r number item e q);
+  compiled = λ q. absurd (never-so r number item e q);
+  limits = λ q. absurd (never-so r number item e q);
+  sizes = λ q. absurd (never-so r number item e q);
+  order-is = λ q. absurd (never-so r number item e q);
+  ordering = λ q. absurd (never-so r number item e q);
   order-length = a .order-length;
 }
 

@@ -2,7 +2,7 @@
 use Rattle.model.specs.Kit.{_≡_, refl, sym, ap, ap₂, _∙_, Bool, true, false, List, ℕ, zero, suc, _≤_, arith, replicate}
 use Rattle.model.specs.{Lists.both, Lists.choose, Verdict.Verdict, Verdict.accepted, Verdict.refused}
 use Rattle.run_cut.specs.Parts.{after}
-use Rattle.model.proofs.Lists.{at-replicate}
+use Rattle.model.proofs.Lists.{at-replicate, never}
 use Rattle.run_join.specs.Join.{joinVerdict, headsIn, fromAt, joined, standPath, nearer, nearestOf, plansOf, nodesOf, countOf}
 use Rattle.run_join.specs.{inner.Inner.Said, inner.Inner.Summed, inner.Inner.numberIn, Calls.answerFor, Calls.figureFor, Calls.CallJoin, declared.Answer.Answer}
 use Rattle.run_join.specs.declared.Answer.the-variants.{Refused, Joined, Missing}
@@ -38,7 +38,7 @@ module _ (l : List ℕ) (number : ℕ) (e : number ≡ numberIn (joinVerdict l))
       let f = refused-so (joinVerdict l) d e in
       record {
         answers = f .0;
-        inside = λ s n q. absurd (let z : _≡_ {A = ℕ} 0 1 = cc in omega arith);
+        inside = λ s n q. never (cc);
         plans = f .1 (plansOf l);
         nodes = f .1 (nodesOf l);
         counts = λ x h. at-replicate 12 x ∙ f .1
@@ -58,5 +58,5 @@ said-all l answer joins stand p m cs v j s a =
     }
   where
     named : (i n : ℕ) (b : Bool) → Missing i n ≡ choose b Joined (Missing stand (nearestOf l (standPath l stand) (headsIn l))) → (i ≤ headsIn l) × (n ≤ headsIn l)
-    named i n true q = absurd (let z : _≡_ {A = ℕ} 0 1 = cc in omega arith)
+    named i n true q = never (cc)
     named i n false q = let u : i ≡ stand = cc in let v : n ≡ nearestOf l (standPath l stand) (headsIn l) = cc in (omega (arith, s .inside), omega (arith, a .near))

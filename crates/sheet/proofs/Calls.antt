@@ -1,16 +1,17 @@
 -- What a caller of `question` holds (specs/Calls). Assumes nothing.
-use Rattle.model.specs.Kit.{_≡_, refl, sym, ap, _∙_, ℕ, arith}
+use Rattle.model.specs.Kit.{_≡_, refl, sym, ap, _∙_, ℕ}
 use Rattle.model.specs.{Verdict.Verdict, Verdict.accepted, Verdict.refused, Sheet.verdictOf}
 use Rattle.model.proofs.OneMoreAccepted.{one-more-accepted}
+use Rattle.model.proofs.Lists.{never}
 use Rattle.sheet.specs.{Meaning.means, declared.Answer.Answer, declared.Answer.the-variants.Accepted, declared.Answer.the-variants.Refused, Calls.Says, Calls.Question-calls}
 use Rattle.sheet.specs.Calls.{One-more-calls}
 
 is-accepted : (r : Answer) → means r ≡ accepted → r ≡ Accepted
 is-accepted Accepted e = refl
-is-accepted (Refused n i) e = absurd (let z : _≡_ {A = ℕ} 0 1 = cc in omega arith)
+is-accepted (Refused n i) e = never (cc)
 
 is-refused : (r : Answer) (number item : ℕ) → means r ≡ refused number item → r ≡ Refused number item
-is-refused Accepted number item e = absurd (let z : _≡_ {A = ℕ} 0 1 = cc in omega arith)
+is-refused Accepted number item e = never (cc)
 is-refused (Refused n i) number item e = cc
 
 -- an answer says what it means

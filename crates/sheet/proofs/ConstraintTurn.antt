@@ -4,7 +4,7 @@ use Rattle.model.specs.Kit.{lt-leb, leb-true, eqb-true, eqb-false}
 use mathlib.Core.Path.{subst₃}
 use Rattle.model.specs.{Lists.both, Lists.all, Lists.ascending, Verdict.Verdict, Verdict.refused, Sheet.headerOf, Sheet.word, Sheet.scopeAt, Sheet.rowsAt, Sheet.afterAt}
 use Rattle.model.specs.Sheet.{constraintVerdict}
-use Rattle.model.proofs.Lists.{both-l, both-r, T-of, of-T}
+use Rattle.model.proofs.Lists.{both-l, both-r, T-of, of-T, never}
 use Rattle.sheet.specs.{inner.Fill.ScopeAsked, inner.Fill.RowsAsked, inner.Steps.ConstraintAsked, declared.constraints.Step.the-variants.Next}
 use Rattle.sheet.specs.declared.constraints.Step.the-variants.{Refused}
 use Rattle.sheet.proofs.RowsTest.{order-two, rows-ascend, rows-fall, rows-fit, row-unfit}
@@ -44,14 +44,14 @@ pub refusal : (b : List ℕ) (o k q : ℕ) (numbers supports numbers′ supports
 refusal b o k q numbers supports numbers′ supports′ h =
     record {
       answers = h;
-      next = λ o′ e. absurd (never o′ e);
-      inside = λ o′ e. absurd (never o′ e);
-      scoped = λ o′ e. absurd (never o′ e);
-      supported = λ o′ e. absurd (never o′ e);
+      next = λ o′ e. absurd (never-so o′ e);
+      inside = λ o′ e. absurd (never-so o′ e);
+      scoped = λ o′ e. absurd (never-so o′ e);
+      supported = λ o′ e. absurd (never-so o′ e);
     }
   where
-    never : (o′ : ℕ) → Refused q ≡ Next o′ → ⊥
-    never o′ e = let z : _≡_ {A = ℕ} 0 1 = cc in omega arith
+    never-so : (o′ : ℕ) → Refused q ≡ Next o′ → ⊥
+    never-so o′ e = never (cc)
 
 -- the counts do not end by the third offset
 pub refused-9 : (b : List ℕ) (o k third : ℕ) (numbers supports numbers′ supports′ : List ℕ) → third ≡ headerOf b .third → third < o + 4 → ConstraintAsked b o k numbers supports numbers′ supports′

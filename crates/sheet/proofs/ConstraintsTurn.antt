@@ -1,6 +1,7 @@
 -- The turns of the loop over the constraints. Assumes nothing.
 use Rattle.model.specs.Kit.{_≡_, refl, sym, ap, ap₂, _∙_, subst, Bool, List, ℕ, suc, _+_, _-_, _≤_, _<_, arith, eqb, eq-eqb, ne-eqb}
 use Rattle.model.specs.{Verdict.Verdict, Verdict.refused, Verdict.ask, Sheet.headerOf, Sheet.afterAt, Sheet.constraintVerdict, Sheet.constraintsVerdict}
+use Rattle.model.proofs.Lists.{never}
 use Rattle.sheet.specs.{inner.Fill.numbersWith, inner.Fill.supportsWith, inner.Steps.stepThen, inner.Steps.ConstraintAsked, inner.Steps.offsetAt, inner.Steps.numbersTo}
 use Rattle.sheet.specs.{inner.Steps.supportsTo, inner.Steps.ConstraintsAsked, declared.Answer.the-variants.Accepted, declared.Answer.the-variants.Refused as RefusedBy}
 use Rattle.sheet.specs.{declared.constraints.Step.Step, declared.constraints.Step.the-variants.Next, declared.constraints.Step.the-variants.Refused}
@@ -36,8 +37,8 @@ module _ (b : List ℕ) (c : ℕ) (numbers supports : List ℕ) (k o : ℕ) (num
       let a = subst (λ (x : Step). ConstraintAsked b o k numbers′ supports′ n s x) f a′ in
       record {
         answers = λ later. (let q = open-one later ∙ a .answers _ in subst (λ (m : ℕ). constraintsVerdict b (headerOf b) m 0 (headerOf b .second) later ≡ refused number k) e q);
-        scoped = λ q. absurd (let z : _≡_ {A = ℕ} 0 1 = cc in omega arith);
-        supported = λ q. absurd (let z : _≡_ {A = ℕ} 0 1 = cc in omega arith);
+        scoped = λ q. never (cc);
+        supported = λ q. never (cc);
       }
 
   pub constraints-more : (o′ : ℕ) (n s : List ℕ) (w : Step) → w ≡ Next o′ → ConstraintAsked b o k numbers′ supports′ n s w → ConstraintsTo b c numbers supports (k + 1) o′ n s
@@ -66,8 +67,8 @@ module _ (b : List ℕ) (c : ℕ) (numbers supports : List ℕ) (k o : ℕ) (num
   constraints-short third q h =
       record {
         answers = λ later. ended later ∙ ap (λ (s : Bool). ask s 9 k later) (ne-eqb o (headerOf b .third) (λ z. h (z ∙ sym q))) ∙ ap (refused 9) (let z : k ≡ c = omega arith in z);
-        scoped = λ q. absurd (let z : _≡_ {A = ℕ} 0 1 = cc in omega arith);
-        supported = λ q. absurd (let z : _≡_ {A = ℕ} 0 1 = cc in omega arith);
+        scoped = λ q. never (cc);
+        supported = λ q. never (cc);
       }
 
   pub constraints-end : (third : ℕ) → third ≡ headerOf b .third → o ≡ third → ConstraintsAsked b numbers supports numbers′ supports′ Accepted

@@ -1,5 +1,5 @@
 -- The answer to questions 1 to 14 from those of the parts. Assumes nothing.
-use Rattle.model.specs.Kit.{_≡_, refl, sym, ap, ap₂, _∙_, subst, Bool, true, false, List, ℕ, _*_, _≤_, _<_, arith, mul-le-mul, length, lt-leb}
+use Rattle.model.specs.Kit.{_≡_, refl, sym, ap, ap₂, _∙_, subst, Bool, true, false, List, ℕ, _*_, _≤_, _<_, mul-le-mul, length, lt-leb}
 use Rattle.model.specs.{Verdict.Verdict, Verdict.accepted, Verdict.ask, Sheet.Header as Numbers′, Sheet.headerOf, Sheet.problemOf, Sheet.headerVerdict, Sheet.tablesFit}
 use Rattle.model.specs.Sheet.{formVerdict}
 use Rattle.arrays.specs.{inner.Layout.Numbers, inner.Layout.Supports, inner.Places.SUPPORTS, inner.Places.NUMBERS}
@@ -10,6 +10,7 @@ use Rattle.sheet.specs.declared.form.Form.the-variants.{Passed, Refused 
 use Rattle.reader.specs.{inner.Read.stated, declared.Header.Header}
 use Rattle.sheet.proofs.{Asking.stop, Passed.fit, Passed.good, Numbered.numbered, Numbered.numbered-length, Numbered.supports-length, Numbered.supports-hold}
 use Rattle.model.proofs.Accepted.{is-accepted}
+use Rattle.model.proofs.Lists.{never}
 
 -- counts multiplied
 pub pair-room : (n d : ℕ) → n ≤ 12 → d ≤ 16 → n * d ≤ 192
@@ -34,11 +35,11 @@ refusal : (b numbers supports : List ℕ) (r : Answer) (n i : ℕ) → r ≡ Ref
 refusal b numbers supports r n i e a =
     record {
       answers = a;
-      formed = λ q. absurd (never q);
+      formed = λ q. absurd (never-so q);
     }
   where
-    never : r ≡ Accepted → ⊥
-    never q = let z : _≡_ {A = ℕ} 0 1 = cc in omega arith
+    never-so : r ≡ Accepted → ⊥
+    never-so q = never (cc)
 
 pub fit-of : (b : List ℕ) (r : Answer) → r ≡ Accepted → Answers (headerAsked b) r → Fit b
 fit-of b r e a = fit b accepted (is-accepted (headerAsked b accepted) (no-no (headerAsked b) r e a accepted)) .0
@@ -102,10 +103,10 @@ module _ (b : List ℕ) where
 
 -- ---- with question 1 and the header as read
 pub read-no : (b numbers supports : List ℕ) (r : Answer) (n i : ℕ) → r ≡ Refused n i → FormAsked b numbers supports r → FormRead b numbers supports (NotPassed n i)
-read-no b numbers supports r n i e a = record { asked = subst (FormAsked b numbers supports) e a; headed = λ h q. absurd (never h q) }
+read-no b numbers supports r n i e a = record { asked = subst (FormAsked b numbers supports) e a; headed = λ h q. absurd (never-so h q) }
   where
-    never : (h : Header) → NotPassed n i ≡ Passed h → ⊥
-    never h q = let z : _≡_ {A = ℕ} 0 1 = cc in omega arith
+    never-so : (h : Header) → NotPassed n i ≡ Passed h → ⊥
+    never-so h q = never (cc)
 
 pub read-yes : (b numbers supports : List ℕ) (h : Header) (r : Answer) → stated h ≡ headerOf b → r ≡ Accepted → FormAsked b numbers supports r → FormRead b numbers supports (Passed h)
 read-yes b numbers supports h r eh e a = record { asked = subst (FormAsked b numbers supports) e a; headed = λ k q. subst (λ (x : Header). stated x ≡ headerOf b) (same k q) eh }

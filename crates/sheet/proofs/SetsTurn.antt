@@ -3,7 +3,7 @@ use Rattle.model.specs.Kit.{_≡_, refl, sym, ap, _∙_, subst, Bool, true, fal
 use Rattle.model.specs.Kit.{le-ltb, ltb-true, ltb-false, leb-true, leb-false}
 use Rattle.model.specs.{Lists.both, Lists.below, Lists.upFrom, ValueSets.fullMask, Verdict.Verdict, Verdict.refused, Verdict.ask, Sheet.Header, Sheet.word, Sheet.headerOf}
 use Rattle.model.specs.{Sheet.setsVerdict, inner.Filling.Filled}
-use Rattle.model.proofs.{Masks.shl-one, Masks.shl-pos, Masks.full-op, Masks.full-all, Filling.filled-turn}
+use Rattle.model.proofs.{Masks.shl-one, Masks.shl-pos, Masks.full-op, Masks.full-all, Filling.filled-turn, Lists.never}
 use Rattle.arrays.specs.inner.Places.{NUMBERS}
 use Rattle.sheet.specs.{inner.Parts.ZeroSets, inner.Parts.AllSets, inner.Parts.SetsAsked, declared.Answer.the-variants.Accepted, declared.Answer.the-variants.Refused}
 
@@ -65,7 +65,7 @@ pub sets-refused : (b : List ℕ) (n x : ℕ) (old new : List ℕ) → n ≡ hea
 sets-refused b n x old new e p =
     record {
       answers = subst (λ (m : ℕ). (later : Verdict) → setsVerdict b (headerOf b) (below m) later ≡ refused 8 x) e p;
-      filled = λ q. absurd (let z : _≡_ {A = ℕ} 0 1 = cc in omega arith);
+      filled = λ q. never (cc);
     }
 
 pub sets-accepted : (b : List ℕ) (n : ℕ) (old new : List ℕ) → n ≡ headerOf b .variables → ((later : Verdict) → setsVerdict b (headerOf b) (below n) later ≡ later) → AllSets b n old new

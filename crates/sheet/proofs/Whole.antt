@@ -1,9 +1,9 @@
 -- The answer to all questions from those of the two parts. Assumes nothing.
-use Rattle.model.specs.Kit.{Bool, true, false, _≡_, refl, sym, ap, _∙_, List, ℕ, arith, replicate, length-replicate}
+use Rattle.model.specs.Kit.{Bool, true, false, _≡_, refl, sym, ap, _∙_, List, ℕ, replicate, length-replicate}
 use mathlib.Core.Bool.{false≢true}
 use Rattle.model.specs.{Verdict.Verdict, Verdict.accepted, Verdict.ask, Verdict.isAccepted, Sheet.problemOf, Sheet.permutesPairs, Sheet.formVerdict, Sheet.symmetriesVerdict}
 use Rattle.model.specs.Sheet.{verdictOf}
-use Rattle.model.proofs.{Lists.at-replicate, Lists.all-i, Lists.of-T, Accepted.symmetries-e, Accepted.is-accepted}
+use Rattle.model.proofs.{Lists.at-replicate, Lists.all-i, Lists.of-T, Accepted.symmetries-e, Accepted.is-accepted, Lists.never}
 use Rattle.arrays.specs.inner.Layout.{Compiled}
 use Rattle.reader.specs.declared.Header.{Header}
 use Rattle.sheet.specs.{Meaning.means, Meaning.andThen, inner.Decoding.permuting, inner.Decoding.Tabled, inner.Decoding.TablesDecoded, inner.Form.Zeros, inner.Form.Formed, inner.Form.answer}
@@ -36,10 +36,10 @@ module _ (b numbers supports : List ℕ) (r : Form) (o : FormRead b numbers supp
 
 -- a refusal leaves the arrays free
 pub compile-no : (b numbers supports images : List ℕ) (r : Answer) (n i : ℕ) → r ≡ Refused n i → means r ≡ verdictOf b → Compilation b numbers supports images r
-compile-no b numbers supports images r n i e a = record { answers = a; compiled = λ q. absurd (never q); sizes = λ q. absurd (never q) }
+compile-no b numbers supports images r n i e a = record { answers = a; compiled = λ q. absurd (never-so q); sizes = λ q. absurd (never-so q) }
   where
-    never : r ≡ Accepted → ⊥
-    never q = let z : _≡_ {A = ℕ} 0 1 = cc in omega arith
+    never-so : r ≡ Accepted → ⊥
+    never-so q = never (cc)
 
 -- ---- the tables
 -- question 15 was asked with the verdict on the tables, or was not asked yet

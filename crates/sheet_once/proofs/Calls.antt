@@ -3,6 +3,7 @@ use Rattle.model.specs.Kit.{_≡_, refl, sym, ap, ap₂, _∙_, subst, Bool, tr
 use Rattle.model.specs.Kit.{lt-leb, ltb-true}
 use lib.Seq.{take-append-seam, drop-append-seam}
 use Rattle.model.specs.{Verdict.Verdict, Verdict.accepted, Verdict.refused, Verdict.ask, Room.wrote, Room.refusal, Room.outcomeOf, Room.roomAfter}
+use Rattle.model.proofs.Lists.{never}
 use Rattle.sheet_small.specs.{Small.smallSheets, Answers.means, Answers.sheetAt, Answers.positionVerdict, Answers.smallOutcome, Answers.smallRoom, Calls.CallSmall, declared.Answer.Answer}
 use Rattle.sheet_small.specs.declared.Answer.the-variants.{Written, Refused}
 use Rattle.sheet_once.specs.{Claims.IsSmall, Claims.Stands, Held.SmallHeld}
@@ -10,10 +11,10 @@ use Rattle.sheet_once.proofs.{Figures.figures, Claims.each-once, Claims
 
 is-written : (r : Answer) (k : ℕ) → means r ≡ wrote k → r ≡ Written k
 is-written (Written j) k e = cc
-is-written (Refused number item) k e = absurd (let z : _≡_ {A = ℕ} 0 1 = cc in omega arith)
+is-written (Refused number item) k e = never (cc)
 
 is-refused : (r : Answer) (number item : ℕ) → means r ≡ refusal number item → r ≡ Refused number item
-is-refused (Written j) number item e = absurd (let z : _≡_ {A = ℕ} 0 1 = cc in omega arith)
+is-refused (Written j) number item e = never (cc)
 is-refused (Refused n i) number item e = cc
 
 all-there : length smallSheets ≡ 544
@@ -71,8 +72,8 @@ module _ (k : ℕ) (room : List ℕ) (n : ℕ) (after : List ℕ) (c : CallSmall
         omega (arith, ltb-true k (length smallSheets) q, all-there),
         ap₂ take (let z : n ≡ length (sheetAt k) = cc in z) w ∙ take-append-seam (sheetAt k) (drop (length (sheetAt k)) room),
       )
-      go true false q e w = absurd (let z : _≡_ {A = ℕ} 0 1 = cc in omega arith)
-      go false u q e w = absurd (let z : _≡_ {A = ℕ} 0 1 = cc in omega arith)
+      go true false q e w = never (cc)
+      go false u q e w = never (cc)
 
 pub small-held : SmallHeld
 small-held = record {

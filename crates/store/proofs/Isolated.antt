@@ -1,6 +1,7 @@
 -- Calls of several owners on one store (specs/Calls), from the contracts and the theorems about the bytes. Assumes nothing.
-use Rattle.model.specs.Kit.{_≡_, refl, sym, ap, ap₂, _∙_, Bool, true, false, List, [], _∷_, map, ℕ, arith, eqb}
+use Rattle.model.specs.Kit.{_≡_, refl, sym, ap, ap₂, _∙_, Bool, true, false, List, [], _∷_, map, ℕ, eqb}
 use Rattle.model.specs.{Lists.choose, Verdict.Verdict, Verdict.accepted, Verdict.refused, Verdict.isAccepted}
+use Rattle.model.proofs.Lists.{never}
 use Rattle.store.specs.{Store.Entry, Store.Call, Store.call, Store.put, Store.fetch, Store.remove, Store.StoreReply, Store.replyOf, Layout.storeOf, Layout.verdictOn}
 use Rattle.store.specs.{Layout.replyOn, Layout.changed, Layout.bytesAfter, Claims.repliesOn, Meaning.means, declared.Answer.Answer, declared.Answer.the-variants.Done}
 use Rattle.store.specs.{declared.Answer.the-variants.Refused, Calls.Got, Calls.own, Calls.Called, Calls.none, Calls.puts, Calls.fetches, Calls.removes, Calls.Isolated-calls}
@@ -12,8 +13,8 @@ meant g = record { outcome = means (g .answer); room = g .room }
 
 known : (r s : Answer) → means r ≡ means s → r ≡ s
 known (Done k) (Done j) e = cc
-known (Done k) (Refused n i) e = absurd (let z : _≡_ {A = ℕ} 0 1 = cc in omega arith)
-known (Refused n i) (Done k) e = absurd (let z : _≡_ {A = ℕ} 0 1 = cc in omega arith)
+known (Done k) (Refused n i) e = never (cc)
+known (Refused n i) (Done k) e = never (cc)
 known (Refused n i) (Refused m j) e = let f : n ≡ m = cc in let g : i ≡ j = cc in cc
 
 got-known : (g h : Got) → meant g ≡ meant h → g ≡ h
@@ -21,8 +22,8 @@ got-known g h e = λ i. record { answer = known (g .answer) (h .answer) (ap (λ 
 
 all-known : (gs hs : List Got) → map meant gs ≡ map meant hs → gs ≡ hs
 all-known [] [] e = refl
-all-known [] (h ∷ hs) e = absurd (let z : _≡_ {A = ℕ} 0 1 = cc in omega arith)
-all-known (g ∷ gs) [] e = absurd (let z : _≡_ {A = ℕ} 0 1 = cc in omega arith)
+all-known [] (h ∷ hs) e = never (cc)
+all-known (g ∷ gs) [] e = never (cc)
 all-known (g ∷ gs) (h ∷ hs) e = ap₂ (λ (x : Got) (l : List Got). x ∷ l) (got-known g h (let q : meant g ≡ meant h = cc in q)) (all-known gs hs (let q : map meant gs ≡ map meant hs = cc in q))
 
 -- no room is lent to put and remove, and none comes back

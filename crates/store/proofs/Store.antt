@@ -4,7 +4,7 @@ use Rattle.model.specs.Kit.{_≤_, _<_, arith, T, leb, ltb, eqb, eqb→eq, eqb-
 use mathlib.Core.Path.{fun-ext}
 use Rattle.model.specs.{Lists.both, Lists.either, Lists.choose, Lists.keep, Lists.below, Verdict.Verdict, Verdict.accepted, Verdict.refused, Verdict.ask, Verdict.isAccepted}
 use Rattle.model.specs.Sheet.{distinct}
-use Rattle.model.proofs.Lists.{T-of, of-T, not-of, of-not, both-i, both-l, both-r, either-l, either-r, either-e, keep-i, keep-e, keep-none, Sorted, sorted-keep, sorted-below}
+use Rattle.model.proofs.Lists.{T-of, of-T, not-of, of-not, both-i, both-l, both-r, either-l, either-r, either-e, keep-i, keep-e, keep-none, Sorted, sorted-keep, sorted-below, never}
 use Rattle.model.proofs.Counting.{distinct-i, no-more}
 use Rattle.store.specs.Store.{Entry, none, table, isTable, tableIn, Entries, Store, emptyStore, keysOf, Action, put, fetch, remove, Call, call, actionVerdict, callVerdict}
 use Rattle.store.specs.Store.{entryAfter, storeAfter, StoreReply, replyOf, replyTo, storeEnd, ownerOf, callsOf, repliesTo}
@@ -105,7 +105,7 @@ kept o k xs ys a e t =
 
 pub ask-e : (b : Bool) (number item : ℕ) (later : Verdict) → ask b number item later ≡ accepted → T b × (later ≡ accepted)
 ask-e true number item later e = (tt, e)
-ask-e false number item later e = absurd (let z : _≡_ {A = ℕ} 0 1 = cc in omega arith)
+ask-e false number item later e = never (cc)
 
 -- the reply to a fetch, by what stands there
 fetched : (s : Store) (o k : ℕ) (room : List ℕ) (e : Entry) → T (ltb o 4) → s o k ≡ e →

@@ -3,6 +3,7 @@ use Rattle.model.specs.Kit.{_≡_, sym, ap, _∙_, subst, ⊎-elim, [], _∷_, 
 use types.Run.{OneOf}
 use denote.Enum.Declared.{tagOf}
 use Rattle.model.specs.Run.{finished}
+use Rattle.model.proofs.Lists.{never}
 use Rattle.families_figure.specs.Figure.{Figure, number, dash}
 use Rattle.families_count.specs.{Told.refusal, Told.told, Told.means, declared.Answer.Answer, declared.Answer.the-variants.Number, declared.Answer.the-variants.Dash}
 use Rattle.families_count.specs.declared.Answer.the-variants.{Refused}
@@ -15,7 +16,7 @@ figured : (f g : Figure) → told f ≡ told g → f ≡ g
 figured f g e = cc
 
 never-refused : (n i : ℕ) (f : Figure) → refusal n i ≡ told f → ⊥
-never-refused n i f e = let z : _≡_ {A = ℕ} 0 1 = cc in omega arith
+never-refused n i f e = never (cc)
 
 -- an answer that is no number, where none is refused, is the dash
 dash-told : (r : Answer) (f : Figure) → OneOf (1 ∷ 2 ∷ []) (tagOf the-type r) → means r ≡ told f → dash ≡ f
