@@ -188,7 +188,7 @@ module _ (b : List ℕ) (p : ℕ) (h : Job) (f : Fits b p h) where
           let o = f .few in
           let z : q .variables ≤ q .variables = omega arith in
           let u = roomy (mul-le-mul o z) in (
-            le-of-mul-le-mul-right u (s .1),
+            le-of-mul-le-mul-right {m = length rows} {n = 4096} {k = q .variables} u (s .1),
             subst (Wide (widthAt b p)) (sym e) (wide-append (h .progress .rows) (keep (isPlan q) (take k ts)) (f .wide) (λ t m. new-in k t m .1 ∙ s .0)),
           )
       few-wide k rows e roomy (inr s) =

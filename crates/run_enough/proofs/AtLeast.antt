@@ -180,7 +180,7 @@ enough-run p limit m h = go (resultOf p limit room .ending) refl
 
     go : (x : Ending) → resultOf p limit room .ending ≡ x → enoughOf p limit (suc m) ≡ says x
     go x e = pick x (counts p limit room x e) (subst (λ (y : Ending). nodesIn y ≤ limit) e (nodes-allowed p limit room))
-        (le-of-mul-le-mul-right (subst (λ (k : ℕ). k * p .variables ≤ room) (sym (rows-counted p limit room) ∙ ap plansIn e) (rows-fit p limit room)) h)
+        (le-of-mul-le-mul-right {m = plansIn x} {n = m} {k = p .variables} (subst (λ (k : ℕ). k * p .variables ≤ room) (sym (rows-counted p limit room) ∙ ap plansIn e) (rows-fit p limit room)) h)
       where
         pick : (x : Ending) → CountsAt p limit room x → nodesIn x ≤ limit → plansIn x ≤ m → enoughOf p limit (suc m) ≡ says x
         pick (finished plans made) c a f =
