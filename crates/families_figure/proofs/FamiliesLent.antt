@@ -11,13 +11,13 @@ use Rattle.block.proofs.Claimed.{alone-closed}
 use Rattle.run_input.specs.Lent.{verdictLent, problemWith, orderLent, lentInput}
 use Rattle.run_input.proofs.Lent.{lent-passed, well-sheet, well-lent, respected-lent, ordering-lent, lent-good, demanded-lent, nothing-lent}
 use Rattle.families.specs.Families.{Closed, familiesOf}
-use Rattle.families.proofs.{FamilyCount.families, FewerFamilies.well-formed-with, JoinedBy.leader-earliest-by, JoinedBy.earliest-leader-by, JoinedBy.each-by}
+use Rattle.families.proofs.{FamilyCount.families, JoinedBy.leader-earliest-by, JoinedBy.earliest-leader-by, JoinedBy.each-by}
 use Rattle.families.proofs.JoinedBy.{leaders-each-by}
 use Rattle.families_figure.specs.{Figure.problemBare, Figure.bareSheet, Figure.number, Figure.dash, Figure.figureFor, Figure.familiesLent, inner.FigureClaims.ranWith}
 use Rattle.families_figure.specs.{inner.FigureClaims.ranBare, inner.FigureClaims.Finished, inner.FigureClaims.Families-lent, inner.FigureClaims.Bare-run, FigureClaims.OneListedEach}
 use Rattle.families_figure.specs.inner.FigureClaims.{One-of-each-lent, Block-alone-closed, Block-alone-one-each}
 use Rattle.families_figure.proofs.BareSheet.{bare-passed}
-use Rattle.model.proofs.Accepted.{accepted-is, is-accepted}
+use Rattle.model.proofs.{Accepted.accepted-is, Accepted.is-accepted, Asked.well-formed-with}
 
 -- ---- the figure
 number-of : (e f : Ending) (k : ℕ) → Finished e → Finished f → figureFor e f k ≡ number k
