@@ -34,9 +34,9 @@ pub fn case(rng: &mut Rng, tally: &mut Tally) {
         return whole.some(rng, tally);
     }
     match rng.below(20) {
-        0..=3 => whole.every(rng, tally),
-        4 => desk::cuts(problem, 200 / whole.nodes().max(2), rng, tally),
-        5..=7 => parts::whole(&whole.grown, &cuts(rng, &whole.paths), rng, tally),
+        0..=7 => whole.every(rng, tally),
+        8 => desk::cuts(problem, 200 / whole.nodes().max(2), rng, tally),
+        9..=11 => parts::whole(&whole.grown, &cuts(rng, &whole.paths), rng, tally),
         _ => whole.some(rng, tally),
     }
 }
@@ -175,8 +175,10 @@ fn twins() -> Problem {
     hall
 }
 
-/// Four places of two values without a rule, and an exchange of which some images of a place's two pairs are pairs of two places.
+/// Four places without a rule, and an exchange of which some images of a place's two pairs are pairs of two places; three places that are different and have two
+/// values.
 fn disrespected() -> Problem {
-    let symmetries = vec![vec![0, 3, 2, 1, 6, 7, 4, 5]];
-    Problem { variables: 4, values: 2, initial: vec![3; 4], constraints: Vec::new(), symmetries }
+    let mut hall = twins();
+    hall.symmetries = vec![vec![0, 3, 2, 1, 6, 7, 4, 5, 8, 9, 10, 11, 12, 13]];
+    hall
 }
