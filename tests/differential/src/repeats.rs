@@ -23,6 +23,8 @@ const SMALL: usize = 300;
 const SOME: usize = 12;
 /// Halls with more different subtrees than a memo has entries.
 const CROWDS: usize = 12;
+/// Halls with an exchange that hardly ever respects them.
+const DISRESPECTED: usize = 100;
 
 pub fn case(rng: &mut Rng, tally: &mut Tally) {
     let problem = groups(rng, CHOICES);
@@ -149,8 +151,10 @@ pub fn examples(tally: &mut Tally) {
         tally.case = format!("part repeats, crowd {number}");
         Whole::of(lent, tally).expect("an accepted sheet").some(rng, tally);
     }
-    tally.case = "part repeats, an exchange that doesn't respect the sheet, at the desk".to_string();
-    desk::cuts(disrespected(), 100, rng, tally);
+    for number in 0..DISRESPECTED {
+        tally.case = format!("part repeats, exchange {number} that doesn't respect the sheet, at the desk");
+        desk::cuts(disrespected(rng), 5, rng, tally);
+    }
 }
 
 /// The first place and the last two have an even sum, and the last two are different: below the first place's two values the sets are the same, and only one
@@ -175,10 +179,10 @@ fn twins() -> Problem {
     hall
 }
 
-/// Four places without a rule, and an exchange of which some images of a place's two pairs are pairs of two places; three places that are different and have two
-/// values.
-fn disrespected() -> Problem {
-    let mut hall = twins();
-    hall.symmetries = vec![vec![0, 3, 2, 1, 6, 7, 4, 5, 8, 9, 10, 11, 12, 13]];
+/// Four places without a rule, and an exchange of any of their pairs; three places that are different and have two values.
+fn disrespected(rng: &mut Rng) -> Problem {
+    let (mut hall, mut table) = (twins(), (0..14).collect::<Vec<usize>>());
+    rng.shuffle(&mut table[..8]);
+    hall.symmetries = vec![table];
     hall
 }
