@@ -175,26 +175,29 @@ fn values_traded(problem: &Problem, places: &[usize], value: usize) -> Vec<usize
     Symmetry { to: (0..problem.variables).collect(), value: traded }.table(problem)
 }
 
-/// A first place that says nothing, two places of many values that each leave one of the last places a set of its own, and last places that are all
-/// different, with too few values or not: more different sets of these than a memo has entries, each met twice. Exchanges trade the first place's
-/// values and last places that are alike.
+/// A first place that says nothing, two places whose ten values each leave a set of its own to one of the next two, which are different: a hundred
+/// different pairs of sets, more than a memo has entries, each met twice. Then three places without a plan, or none. Exchanges trade the first place's values and
+/// the last two places.
 pub fn crowd(rng: &mut Rng) -> Problem {
-    let (many, last) = (rng.pick(&[8, 9, 10]), rng.pick(&[3, 4, 4]));
-    let few = 3;
-    let mut initial = vec![first(2), first(many), first(many)];
-    initial.extend(vec![first(few); last]);
-    let n = initial.len();
+    const MANY: usize = 10;
+    let mut initial = vec![first(2), first(MANY), first(MANY), first(4), first(4)];
     let mut constraints = different(&initial, 3);
     for chooser in [1, 2] {
-        let sets: Vec<u16> = (0..many).map(|_| rng.pick(&[3, 5, 6, 7, 7])).collect();
+        let mut sets: Vec<u16> = (1..16).filter(|set: &u16| set.count_ones() > 1).collect();
+        rng.shuffle(&mut sets);
         let leaves = |row: &[usize]| sets[row[0]] >> row[1] & 1 == 1;
-        constraints.push(rule(&initial, &[chooser, n - chooser], leaves));
+        constraints.push(rule(&initial, &[chooser, chooser + 2], leaves));
     }
-    let mut problem = Problem { variables: n, values: many, initial, constraints, symmetries: Vec::new() };
-    let mut tables = vec![values_traded(&problem, &[0], 1)];
+    if rng.chance(60) {
+        initial.extend([first(2); 3]);
+        constraints.extend(different(&initial, 5));
+    }
+    let n = initial.len();
+    let mut problem = Problem { variables: n, values: MANY, initial, constraints, symmetries: Vec::new() };
     let mut to: Vec<usize> = (0..n).collect();
-    to.swap(3, n - 3);
-    tables.push(Symmetry { to, value: as_they_are(n, many) }.table(&problem));
+    to.swap(n - 2, n - 1);
+    let last = Symmetry { to, value: as_they_are(n, MANY) }.table(&problem);
+    let mut tables = vec![values_traded(&problem, &[0], 1), last];
     tables.retain(|table| problem.respected_by(table));
     tables.truncate(rng.below(3));
     problem.symmetries = tables;
