@@ -2,7 +2,7 @@
 use Rattle.model.specs.Kit.{_≡_, refl, sym, ap, ap₂, _∙_, subst, Bool, true, false, List, ℕ, _+_, _*_, _≤_, _<_, mul-le-mul, ℕ-discrete, arith, T, leb, le-leb, lt-leb, length}
 use Rattle.model.specs.Kit.{getD, add-one}
 use Rattle.model.specs.{Lists.at, Lists.both, Lists.flat, Problem.Problem, Problem.respects, Verdict.accepted, Verdict.refused, Sheet.permutesPairs}
-use Rattle.sheet_symmetries.specs.inner.Table.{Asked, answerOf, tableAnswer}
+use Rattle.sheet_table.specs.inner.Table.{Asked, answerOf, tableAnswer}
 use Rattle.block.specs.Block.{orderings, factorial, orderingTable, isBlock, blockVerdict, TradePasses}
 use Rattle.arrays_block.specs.inner.Asked.{Held, BlockRow, TableBytes, rowAnswer}
 use Rattle.block.proofs.Orderings.{Few, factorial-le, factorial-up}

@@ -9,7 +9,7 @@ use Rattle.arrays.specs.{inner.Layout.pairCode, inner.Layout.imageCode, inner.P
 use Rattle.block.specs.Block.{orderings, ordering, factorial, variableTable, imageOf, orderingTable, blockTables, withBlock, isBlock, tablesLent, blockLent, withLent}
 use Rattle.arrays_block.specs.inner.Asked.{BlockRow, RowPut, Imaged, PutOn}
 use Rattle.model.proofs.{Lists.T-of, Lists.of-not, Lists.length-below, Filling.filled-turn}
-use Rattle.sheet_symmetries.proofs.Codes.{code-inj}
+use Rattle.sheet_table.proofs.Codes.{code-inj}
 use Rattle.sheet.proofs.Any.{getD-below}
 use Rattle.block.proofs.{Orderings.factorial-le, Tables.moved-pair, Tables.unmoved, Block.image-variable, Block.block-is, Block.is-block, Block.block-e, BlockLent.lent-two}
 use Rattle.arrays_block.proofs.Moving.{values-are, few}

@@ -19,9 +19,9 @@ use arrays::VALUES;
 use arrays::VARIABLES;
 use model::wide;
 use sheet::Answer;
-use sheet_symmetries::is_pair;
-use sheet_symmetries::pair_code;
 use sheet_symmetries::table_question;
+use sheet_table::is_pair;
+use sheet_table::pair_code;
 
 // Where the ordering of a row takes variable first + i of a block of m.
 fn image(rows: &[u8; 600], row: usize, first: usize, m: usize, i: usize) -> usize

@@ -7,7 +7,7 @@ use Rattle.model.specs.{Lists.at, Lists.all, Lists.below, ValueSets.has, Proble
 use Rattle.model.specs.{Sheet.tableAt, Sheet.problemOf, Sheet.permutesPairs, Sheet.distinct, inner.Filling.Filled}
 use Rattle.model.proofs.{Lists.both-l, Lists.all-e, Lists.all-i, Lists.below-i, Lists.below-e, Lists.length-below, Lists.T-of, Lists.of-T, Accepted.at-words, Filling.filled-turn}
 use Rattle.arrays.specs.{inner.Layout.Images, inner.Layout.pairCode, inner.Places.IMAGES}
-use Rattle.sheet_symmetries.proofs.Codes.{code-small, code-inj}
+use Rattle.sheet_table.proofs.Codes.{code-small, code-inj}
 use Rattle.sheet.specs.inner.Decoding.{Decodable, Decoded, permuting, TablesDecoded}
 use Rattle.sheet.proofs.{Any.getD-below, Stating.FormPassed, TablesTurn.tableOffset, TablesTurn.table-room}
 

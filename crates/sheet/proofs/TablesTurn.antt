@@ -3,7 +3,7 @@ use Rattle.model.specs.Kit.{_≡_, refl, sym, ap, ap₂, _∙_, subst, Bool, tr
 use Rattle.model.specs.{Lists.upFrom, Lists.below, Verdict.Verdict, Verdict.accepted, Verdict.refused, Verdict.ask, Problem.respects, Sheet.headerOf, Sheet.words, Sheet.tableAt}
 use Rattle.model.specs.Sheet.{problemOf, permutesPairs, formVerdict, symmetriesVerdict}
 use Rattle.arrays.specs.inner.Layout.{Numbers}
-use Rattle.sheet_symmetries.specs.inner.Table.{TableAt, Asked, tableOf, answerOf, tableAnswer}
+use Rattle.sheet_table.specs.inner.Table.{TableAt, Asked, tableOf, answerOf, tableAnswer}
 use Rattle.sheet.specs.{Meaning.means, inner.Form.Formed, declared.Answer.the-variants.Accepted, declared.Answer.the-variants.Refused}
 use Rattle.sheet.proofs.Stating.{form-passed}
 

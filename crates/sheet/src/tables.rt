@@ -5,13 +5,13 @@ use arrays::Numbers;
 use arrays::Supports;
 use reader::Header;
 use reader::read_word;
-use sheet_symmetries::pair_code;
+use sheet_table::pair_code;
 ghost use mathlib.Core.Path.{_≡_};
 ghost use mathlib.Core.Bool.{true};
 ghost use lib.ListN.{length};
 ghost use Rattle.model.specs.Sheet.{headerOf, problemOf, permutesPairs, symmetriesVerdict};
 ghost use Rattle.arrays.specs.inner.Places.{IMAGES};
-ghost use Rattle.sheet_symmetries.specs.inner.Table.{TableAt, tableOf};
+ghost use Rattle.sheet_table.specs.inner.Table.{TableAt, tableOf};
 ghost use Rattle.sheet.specs.Meaning.{means};
 ghost use Rattle.sheet.specs.inner.Form.{Formed};
 ghost use Rattle.sheet.specs.inner.Decoding.{Decodable, Decoded, Tabled, TablesDecoded};
@@ -58,7 +58,7 @@ fn permuted(sheet: &[u8], from: usize, numbers: &Numbers, asked: bool) -> bool
     if asked {
         return true;
     }
-    sheet_symmetries::permutes(sheet, from, numbers)
+    sheet_table::permutes(sheet, from, numbers)
 }
 
 // Whether all tables pass question 15, and their images. Where it was asked before, with yes for an answer, it is not asked again.

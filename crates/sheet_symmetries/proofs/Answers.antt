@@ -2,9 +2,10 @@
 use Rattle.model.specs.Kit.{_≡_, refl, sym, ap, ap₂, _∙_, Bool, true, false, List, [], ℕ, T}
 use Rattle.model.specs.{Lists.all, Lists.at, Lists.below, Lists.both, ValueSets.members, Problem.Problem, Problem.respects, Sheet.permutesPairs}
 use Rattle.model.proofs.Lists.{T-of}
-use Rattle.sheet_symmetries.specs.{inner.Table.TableAt, inner.Table.Asked, inner.Table.tableOf, inner.Table.answerOf, inner.Table.tableAnswer, inner.Forbidden.Decoded}
-use Rattle.sheet_symmetries.specs.inner.Forbidden.{Coded, Moved, Lent, keeps, doublings}
-use Rattle.sheet_symmetries.proofs.{Codes.decoded-coded, Respects.respects-are}
+use Rattle.sheet_table.specs.{inner.Table.TableAt, inner.Table.Asked, inner.Table.tableOf, inner.Table.answerOf, inner.Table.tableAnswer, inner.Forbidden.Decoded}
+use Rattle.sheet_table.specs.inner.Forbidden.{Coded, Moved, Lent, keeps, doublings}
+use Rattle.sheet_table.proofs.Codes.{decoded-coded}
+use Rattle.sheet_symmetries.proofs.Respects.{respects-are}
 
 module _ (p : Problem) (sheet : List ℕ) (offset : ℕ) (numbers supports : List ℕ) (a : Asked p sheet offset numbers supports) where
   pub asked-table : TableAt p sheet offset numbers

@@ -4,8 +4,9 @@ use Rattle.model.specs.Kit.{arith, T, eqb, eqb→eq, not-T, eq-eqb}
 use Rattle.model.specs.{Lists.at, Lists.both, ValueSets.has, ValueSets.members, ValueSets.lowestOf, ValueSets.withoutMask, Problem.Problem}
 use Rattle.model.proofs.{Lists.Sorted, Lists.T-of, Lists.of-T, Lists.both-i, Lists.all-i, Sets.mask-lt, Sets.members-of-none, Sets.members-e, Sets.members-sorted, Lowest.lowest-in}
 use Rattle.model.proofs.Lowest.{without-e, without-less, members-lowest}
-use Rattle.sheet_symmetries.specs.inner.Forbidden.{blocked, clashes, numberOf, PairCode, Lent, Beside, Doubling, allBlocked, besides, doublings}
-use Rattle.sheet_symmetries.proofs.{Blocks.clash-blocked, Codes.init-16, Codes.init-small, Laws.all-ext, Walks.none-before}
+use Rattle.sheet_table.specs.inner.Forbidden.{blocked, clashes, numberOf, PairCode, Lent, Beside, Doubling, allBlocked, besides, doublings}
+use Rattle.sheet_carried.proofs.{Blocks.clash-blocked, Walks.none-before}
+use Rattle.sheet_table.proofs.{Codes.init-16, Codes.init-small, Laws.all-ext}
 
 -- where all pairs of a variable go to one variable, the images of any two are two pairs of it
 module _ (p : Problem) (numbers supports codes moves : List ℕ) (x : ℕ) (l : Lent p numbers supports codes moves) (h : x < p .variables) (n : at moves (192 + x) ≡ 15 → ⊥) where

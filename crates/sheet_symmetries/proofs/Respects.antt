@@ -6,9 +6,10 @@ use Rattle.model.specs.{Lists.all, Lists.any, Lists.keep, Lists.flat, Lists.bel
 use Rattle.model.specs.Problem.{Constraint, pair, pairsAt, assignments, doubled, excluded, forbidden, respects}
 use Rattle.model.specs.Sheet.{permutesPairs}
 use Rattle.model.proofs.{Lists.all-cons, Lists.keep-yes, Lists.keep-no, Lists.keep-e, Lists.Sorted, Lists.below-e, Lists.both-true, Sets.members-e, Sets.members-sorted}
-use Rattle.sheet_symmetries.specs.{inner.Table.Stated, inner.Forbidden.blocked, inner.Forbidden.numberOf, inner.Forbidden.Decoded, inner.Forbidden.Begun}
-use Rattle.sheet_symmetries.specs.inner.Forbidden.{codesAt, keeps, besides, doublings}
-use Rattle.sheet_symmetries.proofs.{Codes.decoded-number, Blocks.choices-e, Laws.all-ext, Laws.all-append, Laws.all-flat, Laws.all-keep, Laws.all-map}
+use Rattle.sheet_table.specs.{inner.Table.Stated, inner.Forbidden.blocked, inner.Forbidden.numberOf, inner.Forbidden.Decoded, inner.Forbidden.Begun}
+use Rattle.sheet_table.specs.inner.Forbidden.{codesAt, keeps, besides, doublings}
+use Rattle.sheet_table.proofs.{Codes.decoded-number, Laws.all-ext, Laws.all-append, Laws.all-flat, Laws.all-keep, Laws.all-map}
+use Rattle.sheet_carried.proofs.Blocks.{choices-e}
 
 -- ---- the two pairs of a variable
 keep-all : (f : ℕ → Bool) (l : List ℕ) → ((x : ℕ) → List·Memᴰ x l → f x ≡ true) → keep f l ≡ l

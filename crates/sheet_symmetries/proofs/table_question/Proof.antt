@@ -1,8 +1,9 @@
 use Rattle.model.specs.Kit.{_≡_, sym, _∙_, true, false, List, ℕ, now, not-true, not-false, needs}
 use Rattle.model.specs.{Problem.Problem, Sheet.permutesPairs}
-use Rattle.sheet_symmetries.specs.{inner.Table.Asked, inner.Table.tableOf, inner.Forbidden.Decoded, inner.Forbidden.Lent}
+use Rattle.sheet_table.specs.{inner.Table.Asked, inner.Table.tableOf, inner.Forbidden.Decoded, inner.Forbidden.Lent}
 use Rattle.sheet_symmetries.proofs.Answers.{asked-table, asked-coded, asked-lent, answer-15, answer-16, answer-last}
-use Rattle.sheet_symmetries.proofs.{Targets.blank-new, table_question.Statement.statement}
+use Rattle.sheet_table.proofs.Targets.{blank-new}
+use Rattle.sheet_symmetries.proofs.table_question.Statement.{statement}
 use Rattle.sheet_symmetries.proofs.table_question.Tie as tie
 
 decode-requires : tie.Need-decode-requires

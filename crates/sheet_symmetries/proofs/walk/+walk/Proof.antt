@@ -5,8 +5,8 @@ use borrow.Fn.Kinds.{In}
 use borrow.Fn.PlainCycle.{Measures, is, falls, and}
 use Rattle.model.specs.{Lists.at, Problem.Problem, Problem.constraintAt}
 use Rattle.model.proofs.Lowest.{lowest-le, some-left, none-left}
-use Rattle.sheet_symmetries.specs.inner.Forbidden.{Walking, Choices}
-use Rattle.sheet_symmetries.proofs.Walks.{last-beside, last-all, choices-over, next-place, next-less, next-spot, next-key, next-walk, walk-stop, walk-rest}
+use Rattle.sheet_table.specs.inner.Forbidden.{Walking, Choices}
+use Rattle.sheet_carried.proofs.Walks.{last-beside, last-all, choices-over, next-place, next-less, next-spot, next-key, next-walk, walk-stop, walk-rest}
 use Rattle.sheet_symmetries.proofs.{walk.+walk.statement, walk.+walk.Tie.close}
 use Rattle.model.proofs.ValueSet.is_empty.Reads as is-empty
 use Rattle.model.proofs.ValueSet.lowest.Reads as lowest
@@ -14,13 +14,13 @@ use Rattle.model.proofs.ValueSet.without.Reads as without
 use Rattle.sheet_symmetries.proofs.walk.walk.Reads as walk
 use Rattle.sheet_symmetries.proofs.walk.walk.Kinds as walk-kinds
 use Rattle.sheet_symmetries.proofs.walk.+walk.Lts-walk as lts
-use Rattle.sheet_symmetries.proofs.forbidden.arity.Reads as arity
-use Rattle.sheet_symmetries.proofs.forbidden.scope_at.Reads as scope-at
+use Rattle.sheet_carried.proofs.forbidden.arity.Reads as arity
+use Rattle.sheet_carried.proofs.forbidden.scope_at.Reads as scope-at
 use Rattle.sheet_symmetries.proofs.walk.all_blocked.Reads as all-blocked
-use Rattle.sheet_symmetries.proofs.carried.carried.Reads as carried
+use Rattle.sheet_carried.proofs.carried.carried.Reads as carried
 use Rattle.sheet_symmetries.proofs.walk.all_rows.Reads as all-rows
 use Rattle.sheet_symmetries.proofs.walk.choices.Reads as choices
-use Rattle.sheet_symmetries.proofs.moves.place.Reads as place-reads
+use Rattle.sheet_table.proofs.moves.place.Reads as place-reads
 
 abbrev μ-walk : Measures 4 walk-kinds.ps ℕ
 μ-walk κs a = a .1 .1 .1 .1 .1 .0

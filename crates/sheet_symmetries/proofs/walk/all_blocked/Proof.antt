@@ -1,9 +1,9 @@
 use Rattle.model.specs.Kit.{_≡_, refl, sym, ap, _∙_, subst, ℕ, _+_, _*_, _<_, arith, not-true, not-false}
 use Rattle.model.specs.{ValueSets.members, ValueSets.withoutMask, Problem.Problem}
 use Rattle.model.proofs.Lowest.{lowest-le, some-left, none-left}
-use Rattle.sheet_symmetries.specs.inner.Forbidden.{Sure, Beside, allBlocked}
-use Rattle.sheet_symmetries.proofs.{Surely.sure-none, Beside.beside-one, Beside.beside-one-is, Beside.beside-clash, Beside.beside-next, Beside.beside-less}
-use Rattle.sheet_symmetries.proofs.Beside.{beside-pair, beside-small, beside-triple, beside-stop, beside-rest, beside-over}
+use Rattle.sheet_table.specs.inner.Forbidden.{Sure, Beside, allBlocked}
+use Rattle.sheet_carried.proofs.{Surely.sure-none, Beside.beside-one, Beside.beside-one-is, Beside.beside-clash, Beside.beside-next, Beside.beside-less}
+use Rattle.sheet_carried.proofs.Beside.{beside-pair, beside-small, beside-triple, beside-stop, beside-rest, beside-over}
 use Rattle.sheet_symmetries.proofs.walk.all_blocked.Statement.{statement}
 use Rattle.sheet_symmetries.proofs.walk.all_blocked.Tie as tie
 

@@ -1,7 +1,8 @@
 use Rattle.model.specs.Kit.{_≡_, sym, ap, _∙_, subst, List, ℕ, _+_, _-_, arith, now, T, length, eqb-true, needs}
 use Rattle.model.specs.{Lists.at, Problem.Problem, Problem.constraintAt}
-use Rattle.sheet_symmetries.specs.{inner.Table.Ready, inner.Forbidden.Chosen}
-use Rattle.sheet_symmetries.proofs.{Walks.choices-over, walk.all_rows.Statement.statement}
+use Rattle.sheet_table.specs.{inner.Table.Ready, inner.Forbidden.Chosen}
+use Rattle.sheet_carried.proofs.Walks.{choices-over}
+use Rattle.sheet_symmetries.proofs.walk.all_rows.Statement.{statement}
 use Rattle.sheet_symmetries.proofs.walk.all_rows.Tie as tie
 
 abbrev At : tie.Start → Problem → List ℕ → Type 0

@@ -1,6 +1,7 @@
 use Rattle.model.specs.Kit.{_∙_, ap, not, [], ℕ, _+_, _*_, _<_, arith, needs}
 use Rattle.model.specs.ValueSets.{has, maskOf}
-use Rattle.sheet_symmetries.proofs.{Walks.next-in, Walks.row-small, Walks.made-all, Walks.made-last, walk.choices.Statement.statement}
+use Rattle.sheet_carried.proofs.{Walks.next-in, Walks.row-small, Walks.made-all, Walks.made-last}
+use Rattle.sheet_symmetries.proofs.walk.choices.Statement.{statement}
 use Rattle.arrays.specs.inner.Places.{SUPPORTS}
 use Rattle.sheet_symmetries.proofs.walk.choices.Tie as tie
 

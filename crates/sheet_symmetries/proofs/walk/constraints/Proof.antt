@@ -1,7 +1,9 @@
 use Rattle.model.specs.Kit.{_≡_, refl, sym, _∙_, Bool, List, [], ℕ, _-_, _≤_, _<_, arith, now, length, drop, needs, not-true, not-false}
 use Rattle.model.specs.{Lists.all, Problem.Problem, Problem.Constraint, Problem.constraintAt}
-use Rattle.sheet_symmetries.specs.inner.Forbidden.{Lent, Walking, keeps}
-use Rattle.sheet_symmetries.proofs.{Codes.good, Laws.list-stop, Laws.list-rest, Laws.list-over, Walks.walk-start, walk.constraints.Statement.statement}
+use Rattle.sheet_table.specs.inner.Forbidden.{Lent, Walking, keeps}
+use Rattle.sheet_table.proofs.{Codes.good, Laws.list-stop, Laws.list-rest, Laws.list-over}
+use Rattle.sheet_carried.proofs.Walks.{walk-start}
+use Rattle.sheet_symmetries.proofs.walk.constraints.Statement.{statement}
 use Rattle.sheet_symmetries.proofs.walk.constraints.Tie as tie
 
 abbrev kept : Problem → List ℕ → Constraint → Bool

@@ -1,7 +1,7 @@
 use Rattle.model.specs.Kit.{_≡_, _∙_, _+_, _*_, _<_, arith, not-true, not-false}
 use Rattle.model.specs.Problem.{Problem}
 use Rattle.model.proofs.Lowest.{lowest-le, some-left, none-left}
-use Rattle.sheet_symmetries.specs.inner.Forbidden.{Lent, Doubling}
+use Rattle.sheet_table.specs.inner.Forbidden.{Lent, Doubling}
 use Rattle.sheet_symmetries.proofs.Doubles.{doubled-together, doubling-start, doubling-spot, doubling-less, doubling-beside, doubling-are, doubling-stop, doubling-rest}
 use Rattle.sheet_symmetries.proofs.{Doubles.doubling-over, walk.doubles.Statement.statement}
 use Rattle.sheet_symmetries.proofs.walk.doubles.Tie as tie

@@ -1,7 +1,8 @@
 use Rattle.model.specs.Kit.{_≡_, sym, _∙_, Bool, List, ℕ, _-_, _≤_, _<_, arith, now, needs, not-true, not-false}
 use Rattle.model.specs.{Lists.all, Lists.at, Lists.below, Lists.upFrom, ValueSets.members, Problem.Problem}
-use Rattle.sheet_symmetries.specs.inner.Forbidden.{Lent, doublings}
-use Rattle.sheet_symmetries.proofs.{Laws.numbers-start, Laws.numbers-stop, Laws.numbers-rest, Laws.numbers-over, walk.variables.Statement.statement}
+use Rattle.sheet_table.specs.inner.Forbidden.{Lent, doublings}
+use Rattle.sheet_table.proofs.{Laws.numbers-start, Laws.numbers-stop, Laws.numbers-rest, Laws.numbers-over}
+use Rattle.sheet_symmetries.proofs.walk.variables.Statement.{statement}
 use Rattle.sheet_symmetries.proofs.walk.variables.Tie as tie
 
 abbrev kept : Problem → List ℕ → ℕ → Bool

@@ -1,0 +1,12 @@
+pub mod Across
+pub mod Asking
+pub mod Beside
+pub mod Blocks
+pub mod Couples
+pub mod Keys
+pub mod Rows
+pub mod Scopes
+pub mod Surely
+pub mod Triples
+pub mod Walks
+pub mod Wholes

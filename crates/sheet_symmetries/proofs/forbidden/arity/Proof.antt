@@ -1,9 +1,0 @@
-use Rattle.model.specs.Kit.{needs}
-use Rattle.sheet_symmetries.proofs.{Frames.at-arity, forbidden.arity.Statement.statement}
-use Rattle.sheet_symmetries.proofs.forbidden.arity.Tie as tie
-
-returns : tie.Need-returns
-returns c = λ p f h. at-arity p _ f _ _ h (c .number .ensures)
-
-pub arity-spec : {M : Type 1} → statement M
-arity-spec = tie.close (tie.spec (λ c. search needs) (λ c κs. search needs) returns)
