@@ -24,7 +24,7 @@ const SOME: usize = 12;
 /// Halls with more different subtrees than a memo has entries.
 const CROWDS: usize = 12;
 /// Halls with an exchange that hardly ever respects them.
-const DISRESPECTED: usize = 100;
+const DISRESPECTED: usize = 400;
 
 pub fn case(rng: &mut Rng, tally: &mut Tally) {
     let problem = groups(rng, CHOICES);
@@ -140,7 +140,12 @@ pub fn examples(tally: &mut Tally) {
             }
         }
     }
-    let halls = [("an even sum", even(0)), ("an even sum, a place between", even(1)), ("twins", twins())];
+    let halls = [
+        ("an even sum", even(0)),
+        ("an even sum, a place between", even(1)),
+        ("twins", twins()),
+        ("a last set", last_set()),
+    ];
     for (name, hall) in halls {
         tally.case = format!("part repeats, {name}");
         let lent = Lent { sheet: encode(&hall), pairs: Vec::new(), block: Vec::new() };
@@ -153,6 +158,7 @@ pub fn examples(tally: &mut Tally) {
     }
     for number in 0..DISRESPECTED {
         tally.case = format!("part repeats, exchange {number} that doesn't respect the sheet, at the desk");
+        let rng = &mut Rng::new(number as u64);
         desk::cuts(disrespected(rng), 5, rng, tally);
     }
 }
@@ -176,6 +182,18 @@ fn twins() -> Problem {
     (hall.variables, hall.initial) = (7, vec![3; 7]);
     hall.constraints = [[4, 5], [4, 6], [5, 6]].map(|pair| different(pair, 2)).to_vec();
     hall.symmetries = vec![vec![4, 5, 6, 7, 0, 1, 2, 3, 8, 9, 10, 11, 12, 13]];
+    hall
+}
+
+/// A first place that says nothing, one that leaves the last place a set of its own, and four places that are different and have three values: what is left
+/// to do differs in the last set alone.
+fn last_set() -> Problem {
+    let mut hall = different_hall(0, 4);
+    (hall.variables, hall.initial) = (6, vec![3, 15, 7, 7, 7, 7]);
+    let rows = [[0, 0], [0, 1], [1, 0], [1, 2], [2, 1], [2, 2], [3, 0], [3, 1], [3, 2]];
+    let rows = rows.map(|row| row.to_vec()).to_vec();
+    hall.constraints = (2..6).flat_map(|i| (i + 1..6).map(move |j| different([i, j], 4))).collect();
+    hall.constraints.push(Constraint { scope: vec![1, 5], rows });
     hall
 }
 
