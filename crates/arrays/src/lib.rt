@@ -12,7 +12,7 @@ pub const TABLES: usize = 55296;
 
 pub const STACK: usize = 208;
 
-pub const WORK: usize = 256;
+pub const WORK: usize = 3072;
 
 // What a sheet is compiled into: its counts, sets and scopes; its rows as sets; its symmetries.
 pub type Numbers = [u64; NUMBERS];
@@ -49,7 +49,8 @@ pub const CONSTRAINTS: usize = 66;
 pub const SYMMETRIES: usize = 67;
 
 // What a run puts among them (crate run_task): the node limit, how many plans the list has room for, from ORDER on the variable that is settled at each of
-// twelve depths, and the set of the block's variables (paper 02, #111), empty where no block is lent.
+// twelve depths, the set of the block's variables (paper 02, #111), empty where no block is lent, and whether the memo is asked:
+// 0 where it is not known that the symmetries respect the problem.
 pub const LIMIT: usize = 68;
 
 pub const ROOM: usize = 69;
@@ -57,6 +58,8 @@ pub const ROOM: usize = 69;
 pub const ORDER: usize = 70;
 
 pub const BLOCK: usize = 82;
+
+pub const ASKS: usize = 83;
 
 // What the search's tables have here (crate arrays_tables): the variables in a constraint that is pruned by variable, and those constraints; from OTHERS on
 // each
@@ -100,6 +103,44 @@ pub const MARKS: usize = 16;
 
 // Before the run its task: how many plans are asked for, 0 where they are listed.
 pub const WANTED: usize = 224;
+
+// For each depth how often the memo was asked in vain, and the memo's entries.
+pub const IDLE: usize = 240;
+
+pub const MEMO: usize = 256;
+
+// ---- an entry of the memo
+// How many numbers an entry has, and how many entries there are.
+pub const ENTRY: usize = 44;
+
+pub const ENTRIES: usize = 64;
+
+// The depth of its prefix, 0 in an entry that holds nothing; the level up to which the nogoods of the symmetries that are not obeyed for good say nothing
+// more; the symmetries that are; the nodes below the prefix; how many values the last of them has; how many of them are plans, and the first of these in the
+// list.
+pub const DEPTH: usize = 0;
+
+pub const LOW: usize = 1;
+
+pub const GOOD: usize = 2;
+
+pub const NODES: usize = 3;
+
+pub const LENGTH: usize = 4;
+
+pub const ROWS: usize = 5;
+
+pub const FIRST: usize = 6;
+
+// From here on for each of twelve variables its set at the prefix, its value in the last node, and how many of the nodes settle it.
+pub const SETS: usize = 8;
+
+pub const ENDS: usize = 20;
+
+pub const COUNTS: usize = 32;
+
+// Added to where an entry stands that was looked for in vain.
+pub const VAIN: usize = 4096;
 
 // ---- marks
 // A mark from ENTAILED times k on says that every assignment obeys the nogoods at the prefix of k values; its remainder by ENTAILED is the level

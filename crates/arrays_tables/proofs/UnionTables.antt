@@ -3,7 +3,7 @@ use Rattle.model.specs.Kit.{_≡_, refl, sym, ap, _∙_, subst, subst₂, Bool,
 use Rattle.model.specs.Kit.{T, lit<, length}
 use Rattle.model.specs.{Lists.at, Lists.both, Lists.choose, ValueSets.has}
 use Rattle.model.proofs.{Lists.both-i, Lists.both-l, Lists.both-r, Sets.has-none, Members.or-i, Members.or-e}
-use Rattle.arrays.specs.{inner.Places.SCOPES, inner.Places.VALUES, inner.Places.SPREAD, inner.Places.UNIONS, inner.Tables.UnionOf, inner.Tables.Spreads, inner.Tables.Words}
+use Rattle.arrays.specs.{inner.Places.SCOPES, inner.Places.VALUES, inner.Places.SPREAD, inner.Places.UNIONS, inner.Tables.UnionOf, inner.Tables.Spreads, inner.Tables.Words, inner.Tables.between}
 use Rattle.arrays_tables.specs.inner.Steps.{Lanes, Word, United, Unioned, Unions, Worded}
 
 -- ---- four numbers from a base on, of which m has some
@@ -106,20 +106,20 @@ module _ (supports old mid new : List ℕ) (some : ℕ) (u : Unions supports 32 
   words : Words new supports
   words = record {
     spread = λ k l t. s (u .told k l (three k l t));
-    by-first = λ k h m hk t hh hm. union-of supports k h m _ _ (omega arith) (union-at k (16 * h + m) h m _ hk t (omega arith) (omega arith) (omega arith) (omega arith)) (first k h hh);
-    by-second = λ k h m hk t hh hm. union-of supports k (2 + h) m _ _ (omega arith) (union-at k (32 + 16 * h + m) (2 + h) m _ hk t (omega arith) (omega arith) (omega arith) (omega arith))
-        (second k h hh);
+    by-second = λ k h m hk t hh hm. union-of supports k h m _ _ (omega arith) (union-at k (16 * h + m) h m _ hk t (omega arith) (omega arith) (omega arith) (omega arith)) (second k h hh);
+    by-third = λ k h m hk t hh hm. union-of supports k (2 + h) m _ _ (omega arith) (union-at k (32 + 16 * h + m) (2 + h) m _ hk t (omega arith) (omega arith) (omega arith) (omega arith))
+        (third k h hh);
   }
     where
-      first : (k h : ℕ) → h < 2 → (i r : ℕ) → i < 4 → Word supports k (4 * h + i) r → Lanes (λ j. at supports (256 * k + 16 * (4 * h + i) + j)) r
-      first k h hh i r l q v w a b =
-          let e : 256 * k + 16 * ((4 * h + i) % 8) + 1 * v ≡ 256 * k + 16 * (4 * h + i) + v = omega arith in
-          q .first (omega arith) v w a b ∙ ap (λ (n : ℕ). has (at supports n) w) e
-
-      second : (k h : ℕ) → h < 2 → (i r : ℕ) → i < 4 → Word supports k (4 * (2 + h) + i) r → Lanes (λ j. at supports (256 * k + 16 * j + (4 * h + i))) r
+      second : (k h : ℕ) → h < 2 → (i r : ℕ) → i < 4 → Word supports k (4 * h + i) r → Lanes (λ j. at supports (256 * k + 16 * j + (4 * h + i))) r
       second k h hh i r l q v w a b =
-          let e : 256 * k + (4 * (2 + h) + i) % 8 + 16 * v ≡ 256 * k + 16 * v + (4 * h + i) = omega arith in
+          let e : 256 * k + (4 * h + i) % 8 + 16 * v ≡ 256 * k + 16 * v + (4 * h + i) = omega arith in
           q .second (omega arith) v w a b ∙ ap (λ (n : ℕ). has (at supports n) w) e
+
+      third : (k h : ℕ) → h < 2 → (i r : ℕ) → i < 4 → Word supports k (4 * (2 + h) + i) r → Lanes (between supports k (4 * h + i)) r
+      third k h hh i r l q v w a b =
+          let e : (4 * (2 + h) + i) % 8 ≡ 4 * h + i = omega arith in
+          q .third (omega arith) v w a b ∙ ap (λ (n : ℕ). has (between supports k n v) w) e
 
   pub worded : Worded supports old new
   worded = record { size = size ∙ u .size; kept = low; words = λ h. words }

@@ -4,7 +4,7 @@ use Rattle.model.specs.Kit.{lt-ltb, le-ltb}
 use Rattle.model.specs.{Lists.at, Lists.flat, Lists.choose, Written.placed, Run.Ending, Run.finished, Run.spent, Run.full, Run.nodesIn, Run.Result, Run.Tally, Run.settledBy}
 use Rattle.model.specs.Run.{countsBy}
 use Rattle.model.proofs.{Lists.T-of, Lists.of-T, Written.length-placed, Written.placed-then, Tally.length-counts, Tally.count-most}
-use Rattle.run_state.specs.{inner.Pair.prefixOf, Walk.stopIn}
+use Rattle.run_state.specs.{inner.Pair.prefixOf, inner.Walk.stopIn}
 use Rattle.run_cut.specs.Parts.{nodesAfter, goOn, madeIn, added}
 use Rattle.desk.specs.Queue.{Standing, running, over, goesOn, Job, listRoom, standingAfter, jobAfter, jobTurned, turned, Slot, taken, waits, slotTurned, slotAt, Found, none-found}
 use Rattle.desk.specs.Queue.{slot, roundFrom, toServe, turn, QueueReply, idle, served, servedAs, turnReply, refusal, answered, due, given}

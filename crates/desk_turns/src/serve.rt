@@ -39,7 +39,7 @@ ghost use Rattle.model.specs.Written.{placed};
 ghost use Rattle.arrays.specs.inner.Places.{WORK};
 ghost use Rattle.run_cut.specs.Parts.{added};
 ghost use Rattle.run_state.specs.Meaning.{tallyIn};
-ghost use Rattle.run_state.specs.Walk.{stopIn};
+ghost use Rattle.run_state.specs.inner.Walk.{stopIn};
 ghost use Rattle.desk.specs.Queue.{Job, waits, standingAfter};
 ghost use Rattle.desk.specs.Places.{COUNTS, SHEET, SLOT, size, QUANTUM};
 ghost use Rattle.desk.specs.Layout.{slotOf, standingByte, stateBytes, countBytes};

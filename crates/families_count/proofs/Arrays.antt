@@ -5,7 +5,7 @@ use Rattle.model.proofs.Lists.{at-set, at-set-other}
 use Rattle.order.specs.{Reordered.write, RunBy.resultBy}
 use Rattle.order.proofs.{LeadersBy.ordering-below, LeadersBy.reordered-below, RunBy.same-result}
 use Rattle.arrays.specs.{inner.Places.LIMIT, inner.Places.ROOM, inner.Places.PLANS, inner.Places.DEEPER, inner.Places.NUMBERS, inner.Layout.Compiled}
-use Rattle.run_state.specs.{Walk.noNodes, Walk.tallyBy, inner.Pair.ListRoom, inner.Pair.AtPrefix}
+use Rattle.run_state.specs.{inner.Walk.noNodes, inner.Walk.tallyBy, inner.Pair.ListRoom, inner.Pair.AtPrefix}
 use Rattle.run_search.specs.inner.Begun.{Laid, Writable, Begun, Ended}
 use Rattle.run_search.proofs.{Begun.numbers-kept, Begun.laid-alone, Explored.ran-tree}
 use Rattle.run.proofs.Whole.{kept-listed}
@@ -34,8 +34,8 @@ module _ (p : Problem) (stack work supports tables numbers images list : List �
   }
 
   -- the search may be made ready
-  pub runs-laid : (bytes : List ℕ) → (length bytes ≡ 16) × ((k : ℕ) → k < 16 → at bytes k ≡ k) → Laid p p (below (p .variables)) bounded supports images bytes 0
-  runs-laid bytes placed = laid-alone p bounded supports images bytes compiled₀ (h .limits) long₀ placed
+  pub runs-laid : (bytes : List ℕ) → (length bytes ≡ 16) × ((k : ℕ) → k < 16 → at bytes k ≡ k) → Laid p p (below (p .variables)) bounded supports images bytes 0 1
+  runs-laid bytes placed = laid-alone p bounded supports images bytes compiled₀ (h .limits) 1 (λ n. h .respected) long₀ placed
 
   roomy : ListRoom (p .variables) 4096 list 0
   roomy = record { some = h .limits .wellFormed .some; fits = λ o. (let e = h .lent in omega arith); listed = omega arith; small = omega arith }

@@ -17,7 +17,7 @@ use Rattle.families_figure.specs.Figure.{number, dash, familiesLent, reportFigu
 use Rattle.families_figure.proofs.{FamiliesLent.families-lent, Counting.bareLent, Counting.figure-counted, Counting.figure-number, Counting.figure-none, Counting.figure-dash}
 use Rattle.families_figure.proofs.Counting.{figure-few}
 use Rattle.sheet.proofs.Whole.{zeros}
-use Rattle.run_state.specs.{Walk.stopIn, Meaning.endingOf, declared.Ending.the-variants.Finished, declared.Ending.the-variants.Spent, declared.Ending.the-variants.Full}
+use Rattle.run_state.specs.{inner.Walk.stopIn, Meaning.endingOf, declared.Ending.the-variants.Finished, declared.Ending.the-variants.Spent, declared.Ending.the-variants.Full}
 use Rattle.run_state.proofs.Ending.{the-type}
 use Rattle.families_count.specs.{Told.Told, Told.told, Told.countedLent, inner.Held.Roomy, inner.Held.Runs, inner.Held.Ran, inner.Held.Put, inner.Held.Whole}
 use Rattle.families_count.specs.inner.Held.{Listed}
@@ -70,6 +70,7 @@ module _ (b pairs block : List ℕ) (symmetries : ℕ) (stack work supports tabl
         imaged = λ e x v l. absurd (omega arith);
       };
       limits = record { wellFormed = well-formed-with p [] well (λ g m. absurd (List·Memᴰ·not-nil m)); constraints = few-constraints; symmetries = omega arith };
+      respected = record { respectful = λ g m. absurd (List·Memᴰ·not-nil m) };
       long = length-set numbers SYMMETRIES 0 ∙ h .put .long;
       writable = record { stack-length = h .writable .stack-length; work-length = length-set work PLANS 0 ∙ h .writable .work-length; tables-length = h .writable .tables-length };
       begun = at-set work PLANS 0 (let l = h .writable .work-length in omega arith);

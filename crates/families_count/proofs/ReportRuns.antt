@@ -9,7 +9,7 @@ use Rattle.arrays.specs.inner.Places.{VARIABLES, PLANS, STACK, TABLES, WORK}
 use Rattle.families_figure.specs.Figure.{reportFigure}
 use Rattle.sheet.specs.{inner.Form.Compilation, declared.Answer.the-variants.Accepted}
 use Rattle.sheet.proofs.Whole.{zeros}
-use Rattle.run_state.specs.Walk.{stopIn}
+use Rattle.run_state.specs.inner.Walk.{stopIn}
 use Rattle.run_search.proofs.{Begun.numbers-kept, Explored.stop-in}
 use Rattle.run.specs.{Calls.Call, inner.Whole.Stopped, inner.Whole.Answered, declared.Answer.Answer, declared.Answer.the-variants.Refused}
 use Rattle.run.proofs.Whole.{ended-same}
@@ -44,6 +44,7 @@ module _ (b : List ℕ) (limit : ℕ) (numbers supports images : List ℕ) (c : 
         symmetries = let l = symmetries-are b in let f = passed b good .header .symmetries in
             omega arith;
       };
+      respected = passed b good .respected;
       long = c .sizes refl .numbers-length;
       writable = fresh .writable;
       begun = fresh .begun;

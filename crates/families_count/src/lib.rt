@@ -92,7 +92,7 @@ fn run_arrays(
     let mut order = [0u8; 16];
     run_task::by_position(&mut order);
     run_task::put_bounds(numbers, limit as u64, 4096);
-    let step = run_search::begin(stack, work, supports, tables, numbers, images, &order, 0);
+    let step = run_search::begin(stack, work, supports, tables, numbers, images, &order, 0, 1);
     run_search::walk_tree(stack, work, supports, tables, numbers, list, step)
 }
 

@@ -12,7 +12,7 @@ ghost use Rattle.filter.specs.FilterCalls.{CallFilter};
 use entry::Step;
 use model::ValueSet;
 
-// The answer of the filter: `means` in specs/Lists.antt gives the ending of paper 02, #102, or paper 01's number and item for each case.
+// The answer of the filter: `means` in specs/Meaning.antt gives the ending of paper 02, #102, or paper 01's number and item for each case.
 pub enum Answer {
     Failed,
     Entailed,
@@ -44,7 +44,7 @@ enum Reached {
 const MARK: u8 = 255;
 
 // What an entry of the three lists is, by its two marks (source document 001, section 3), with the value that is there: `kindAs` in
-// specs/Lists.antt has the case for each of model's.
+// specs/inner/Lists.antt has the case for each of model's.
 enum Kind {
     Equality(u8),
     Disequality(u8),

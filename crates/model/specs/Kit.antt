@@ -1,6 +1,6 @@
 -- The kit's names that specs and proofs use, passed on as they are: each means what the kit's module says.
 pub use Prim.Native.Nat.{_%_, _*_, _+_, _-_, _/_, _<_, _^_, _≤_, min, suc, zero, ℕ}
-pub use base.Logic.{SProp, emp, ent}
+pub use base.Logic.{SProp, emp, ent, sep}
 pub use borrow.Author.Count.{below-more}
 pub use borrow.Author.Needs.{needs}
 pub use borrow.Author.Tests.{eq-eqb, eqb-false, eqb-true, le-leb, le-ltb, leb-false, leb-true, lt-leb, lt-ltb, ltb-false, ltb-true, ne-eqb, not-false, not-true}

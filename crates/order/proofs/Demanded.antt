@@ -1,4 +1,4 @@
--- The second and the third demand of any run (specs/Demanded), and paper 01's run of a sheet. Assumes nothing.
+-- The second and the third demand of any run (specs/inner/Demanded), and paper 01's run of a sheet. Assumes nothing.
 use Rattle.model.specs.Kit.{_≡_, refl, sym, ap, ap₂, _∙_, subst, subst₂, _↔_, List, [], _∷_, map, List·Memᴰ, ℕ, _*_, _≤_, arith, T, length, take, drop, length-take-le}
 use mathlib.Core.List.{Sublistᴰ}
 use lib.Seq.{drop-append-seam}

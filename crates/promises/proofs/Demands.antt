@@ -3,11 +3,11 @@ use Rattle.model.specs.Kit.{_≡_, refl, sym, ap, _∙_, subst, subst₂, _↔_
 use mathlib.Core.List.{Sublistᴰ}
 use Rattle.model.specs.{Lists.at, Lists.below, Lists.total, Lists.earlier, Lists.rowsAscend, Problem.Problem, Problem.isSolution, Problem.assignments, Verdict.accepted, Sheet.verdictOf}
 use Rattle.model.specs.{Sheet.problemOf, Run.ended, Run.refusal, Run.plansIn, Run.nodesIn, Run.listedPlans, Run.tallyAt, Claims.Leader, Claims.isLeader, Claims.leaders, Claims.Chain, Claims.CountsAt}
-use Rattle.model.proofs.{Lists.rowsAscend-take, Lists.rowsAscend-of, Lists.sorted-keep, Lists.keep-i, Lists.keep-e, Lists.map-ext, Assignments.assign-e, Assignments.assignments-sorted, Lists.never}
+use Rattle.model.proofs.{Lists.rowsAscend-take, Lists.rowsAscend-of, Lists.sorted-keep, Lists.keep-i, Lists.keep-e, Assignments.assignments-sorted, Lists.never}
 use Rattle.model.proofs.{Leaders.sol-drawn, Leaders.leader-i, Leaders.leader-e, Chains.chains, Demands.sets-largest}
-use Rattle.order.specs.{Reordered.read, Reordered.write, Reordered.earlierBy, RunBy.Input, RunBy.sheetInput, RunBy.placeTally, RunBy.leadersBy, RunBy.answerBy, RunBy.listBy}
+use Rattle.order.specs.{Reordered.read, Reordered.earlierBy, RunBy.Input, RunBy.sheetInput, RunBy.placeTally, RunBy.leadersBy, RunBy.answerBy, RunBy.listBy}
 use Rattle.order.specs.{RunBy.talliedBy, inner.Demanded.Demanded, inner.Demanded.Fewer}
-use Rattle.order.proofs.{LeadersBy.ordering-below, LeadersBy.write-below, LeadersBy.reordered-below, RunBy.take-map, RunBy.leadersBy-is, RunBy.same-counts, Demanded.Sound, Demanded.ran-by}
+use Rattle.order.proofs.{RunBy.take-map, RunBy.same-counts, Demanded.Sound, Demanded.ran-by}
 use Rattle.order.proofs.Demanded.{sound-sheet, demanded-sheet, fewer-sheet, sheet-run}
 use Rattle.run_input.specs.Lent.{lentInput}
 use Rattle.run_input.proofs.Lent.{demanded-lent, fewer-lent}
@@ -122,13 +122,7 @@ module _ (b : List ℕ) (good : verdictOf b ≡ accepted) where
   known = sound-sheet b good
 
   pub sheet-leaders : leadersBy (below (problemOf b .variables)) (problemOf b) ≡ leaders (problemOf b)
-  sheet-leaders =
-      let n = p .variables in
-      sym (leadersBy-is p (known .well) (known .respected) (below n) (ordering-below n))
-      ∙ ap (λ (q : Problem). map (write (below n)) (leaders q)) (reordered-below p (known .well))
-      ∙ map-ext (write (below n)) (λ (s : List ℕ). s) (leaders p)
-      (λ s m. write-below p (known .well) s (assign-e (p .initial) s (keep-e (isLeader earlier p) (assignments (p .initial)) s m .0) .0 ∙ known .well .sized))
-      ∙ map-self (leaders p)
+  sheet-leaders = sheet-run b .leading good
 
   leaders-ascend : T (rowsAscend (leaders (problemOf b)))
   leaders-ascend = rowsAscend-of (leaders p) (sorted-keep (λ (x y : List ℕ). T (earlier x y)) (isLeader earlier p) (assignments (p .initial)) (assignments-sorted (p .initial)))

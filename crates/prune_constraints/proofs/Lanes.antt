@@ -6,7 +6,7 @@ use Rattle.model.specs.{Lists.both, Lists.either, Lists.at, ValueSets.has}
 use Rattle.model.proofs.{Lists.either-l, Lists.either-r, Lists.either-e, Lists.both-true, Lists.both-false, Sets.has-lt, Masks.has-and, Masks.has-or, Masks.has-ones, Masks.has-shr}
 use Rattle.model.proofs.{Masks.byte-has, Masks.byte-lt, Members.either-no, Members.or-i, Members.or-e, Members.and-i, Members.and-e}
 use Rattle.arrays.specs.inner.Tables.{UnionOf}
-use Rattle.prune_constraints.specs.inner.Lanes.{FullLanes, LaneUnion, FullHeads, Halves, InLanes}
+use Rattle.prune_constraints.specs.inner.Lanes.{FullLanes, LaneUnion, FullHeads, Halves, TogetherIn, InLanes, InLane}
 
 cases8 : (P : ℕ → Type 0) → P 0 → P 1 → P 2 → P 3 → P 4 → P 5 → P 6 → P 7 → (j : ℕ) → j < 8 → P j
 cases8 P a b c d e f g h zero l = a
@@ -142,6 +142,9 @@ ones-at = cases8 (λ j. has ones (8 * j) ≡ true) refl refl refl refl refl refl
 pub byte-fits : (x : ℕ) → bitAnd x 255 < 2 ^ 16
 byte-fits x = lt-of-le-of-lt (and-le-r x 255) (lit< tt)
 
+pub and-fits : (x e : ℕ) → e < 256 → bitAnd x e < 2 ^ 16
+and-fits x e h = lt-of-le-of-lt (and-le-r x e) (omega arith)
+
 at-spot : (x a b : ℕ) → a ≡ b → T (has x a) → T (has x b)
 at-spot x a b e t = subst (λ (z : ℕ). T (has x z)) e t
 
@@ -224,29 +227,38 @@ module _ (lane : ℕ → ℕ → ℕ) {a x y : ℕ} (k : a < 2 ^ 8) (lower : Uni
       (λ q. let r = upper .union-e j w g h q in (4 + r .0, subst T (has-shr a 4 (r .0)) (r .2), r .3))
       (or-e x y (8 * j + w) t)
 
+pub halves-together : (numbers : List ℕ) (base a : ℕ) (lane : ℕ → ℕ → ℕ) → a < 2 ^ 8 → Halves numbers base lane →
+    TogetherIn a lane (bitOr (at numbers (base + bitAnd a 15)) (at numbers (base + 16 + a / 2 ^ 4)))
+halves-together numbers base a lane k f = record { together-i = united-i lane k lower upper; together-e = united-e lane k lower upper }
+  where
+    lower : UnionOf (bitAnd a 15) (λ i j. lane (0 + i) j) (at numbers (base + bitAnd a 15))
+    lower = let z : base + 16 * 0 + bitAnd a 15 ≡ base + bitAnd a 15 = omega arith in subst (λ (i : ℕ). UnionOf (bitAnd a 15) (λ i j. lane (0 + i) j) (at numbers i)) z
+        (f 0 (bitAnd a 15) (lit< tt) (lt-of-le-of-lt (and-le-r a 15) (lit< tt)))
+
+    upper : UnionOf (a / 2 ^ 4) (λ i j. lane (4 + i) j) (at numbers (base + 16 + a / 2 ^ 4))
+    upper = f 1 (a / 2 ^ 4) (lit< tt) (omega arith)
+
 -- under all lanes of b and e in each
-module _ (numbers : List ℕ) (base a b e s : ℕ) (k : a < 2 ^ 8) (l : b < 2 ^ 8) (n : e < 256) (p : (j w : ℕ) → j < 8 → w < 8 → has s (8 * j + w) ≡ has b j) (lane : ℕ → ℕ → ℕ)
-    (f : Halves numbers base lane) where
-  abbrev united : ℕ
-  united = bitOr (at numbers (base + bitAnd a 15)) (at numbers (base + 16 + a / 2 ^ 4))
+pub lanes-in : (a b e s x : ℕ) (lane : ℕ → ℕ → ℕ) → b < 2 ^ 8 → e < 256 → ((j w : ℕ) → j < 8 → w < 8 → has s (8 * j + w) ≡ has b j) → TogetherIn a lane x → InLanes a b e lane
+    (bitAnd (bitAnd x s) (e * ones))
+lanes-in a b e s x lane l n p f = record {
+  lanes-i = λ i j w t u v q.
+      let g = has-lt 8 b j l u in
+      let h = has-lt 8 e w n v in
+      and-i (bitAnd x s) (e * ones) (8 * j + w) (and-i x s (8 * j + w) (f .together-i i j w g h t q) (subst T (sym (p j w g h)) u)) (subst T (sym (copied e j w n g h)) v);
+  lanes-e = λ j w g h t.
+      let q = and-e (bitAnd x s) (e * ones) (8 * j + w) t in
+      let r = and-e x s (8 * j + w) (q .0) in
+      let o = f .together-e j w g h (r .0) in
+      (o .0, o .1, subst T (p j w g h) (r .1), subst T (copied e j w n g h) (q .1), o .2);
+}
 
-  lower-is : UnionOf (bitAnd a 15) (λ i j. lane (0 + i) j) (at numbers (base + bitAnd a 15))
-  lower-is = let z : base + 16 * 0 + bitAnd a 15 ≡ base + bitAnd a 15 = omega arith in subst (λ (i : ℕ). UnionOf (bitAnd a 15) (λ i j. lane (0 + i) j) (at numbers i)) z
-      (f 0 (bitAnd a 15) (lit< tt) (lt-of-le-of-lt (and-le-r a 15) (lit< tt)))
-
-  upper-is : UnionOf (a / 2 ^ 4) (λ i j. lane (4 + i) j) (at numbers (base + 16 + a / 2 ^ 4))
-  upper-is = f 1 (a / 2 ^ 4) (lit< tt) (omega arith)
-
-  pub lanes-in : InLanes a b e lane (bitAnd (bitAnd (bitOr (at numbers (base + bitAnd a 15)) (at numbers (base + 16 + a / 2 ^ 4))) s) (e * ones))
-  lanes-in = record {
-    lanes-i = λ i j w t u v q.
-        let g = has-lt 8 b j l u in
-        let h = has-lt 8 e w n v in
-        and-i (bitAnd united s) (e * ones) (8 * j + w) (and-i united s (8 * j + w) (united-i lane k lower-is upper-is i j w g h t q) (subst T (sym (p j w g h)) u))
-        (subst T (sym (copied e j w n g h)) v);
-    lanes-e = λ j w g h t.
-        let q = and-e (bitAnd united s) (e * ones) (8 * j + w) t in
-        let r = and-e united s (8 * j + w) (q .0) in
-        let o = united-e lane k lower-is upper-is j w g h (r .0) in
-        (o .0, o .1, subst T (p j w g h) (r .1), subst T (copied e j w n g h) (q .1), o .2);
-  }
+-- one lane, and e in it
+pub lane-in : (a j e x : ℕ) (lane : ℕ → ℕ → ℕ) → j < 8 → e < 256 → TogetherIn a lane x → InLane a j e lane (bitAnd (x / 2 ^ (8 * j)) e)
+lane-in a j e x lane g n f = record {
+  lane-i = λ i w t v q. and-i (x / 2 ^ (8 * j)) e w (subst T (sym (has-shr x (8 * j) w)) (f .together-i i j w g (has-lt 8 e w n v) t q)) v;
+  lane-e = λ w t.
+      let q = and-e (x / 2 ^ (8 * j)) e w t in
+      let o = f .together-e j w g (has-lt 8 e w n (q .1)) (subst T (has-shr x (8 * j) w) (q .0)) in
+      (o .0, o .1, q .1, o .2);
+}

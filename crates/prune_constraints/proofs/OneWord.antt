@@ -1,20 +1,37 @@
--- A constraint on three variables whose first has one value: what its lanes by the second leave of the other two sets. Assumes nothing.
-use Rattle.model.specs.Kit.{_≡_, refl, sym, subst, not, List, [], _∷_, ℕ, _^_, _<_, bitOr, eqb, lit<, set}
-use Rattle.model.specs.{Lists.at, ValueSets.oneIf, Problem.Constraint, inner.Pruning.Sets}
+-- A constraint on three variables whose first has one value: what its lane leaves of the other two sets. Assumes nothing.
+use Rattle.model.specs.Kit.{_≡_, refl, sym, _∙_, subst, not, List, [], _∷_, ℕ, _+_, _*_, _^_, _<_, arith, bitOr, eqb, T, lit<, set}
+use Rattle.model.specs.{Lists.at, ValueSets.has, ValueSets.lowestOf, ValueSets.oneIf, Problem.Constraint, inner.Pruning.Sets}
+use Rattle.model.proofs.{Sets.has-lt, Sets.member, Members.has-0, Members.rest-begin, Members.lowest-left}
 use Rattle.arrays.specs.inner.Places.{DEAD}
-use Rattle.prune_constraints.specs.{inner.Revised.Revision, inner.Steps.OneValue, inner.Steps.Scoped, inner.Lanes.FullLanes, inner.Lanes.LaneUnion, inner.Lanes.InLanes}
-use Rattle.prune_constraints.proofs.{Unions.of-first, Unions.union-none, Unions.union-one, Unions.lane-some, Stores.three-same, Stores.three-dead, Stores.three-rest}
+use Rattle.prune_constraints.specs.{inner.Revised.Revision, inner.Steps.OneValue, inner.Steps.Joined, inner.Steps.Together3, inner.Steps.Joined3, inner.Steps.Scoped, inner.Lanes.InLane}
+use Rattle.prune_constraints.proofs.{Unions.of-second, Unions.of-third, Unions.single, Unions.lane-joined, Unions.joined3-one, Unions.joined3-none}
+use Rattle.prune_constraints.proofs.{Stores.three-same, Stores.three-dead, Stores.three-rest}
 
-module _ {c : Constraint} {supports : List ℕ} {k x y z : ℕ} (p : Scoped c supports k (x ∷ y ∷ z ∷ [])) (ds : List ℕ) (s : Sets 16 ds) (o : OneValue (at ds x))
-    (h : (at ds x < 256) × (at ds y < 256) × (at ds z < 256)) {w : ℕ} (t : InLanes (at ds x) (at ds y) (at ds z) (of-first supports k) w) where
-  pub along-dead : w ≡ 0 → Revision c ds ds DEAD
-  along-dead e = three-dead p ds s 0 0 0 (lit< tt) (lit< tt) (lit< tt) (union-none supports k (at ds x) (at ds y) (at ds z) (h .1) (h .2) t e) refl
+pub one-below : {a u : ℕ} → a < 256 → OneValue a → u ≡ lowestOf a → u < 8
+one-below {a} {u} h o low = has-lt 8 a u h (lowest-left a a u (rest-begin 16 a (omega arith)) (o .some) low .0)
 
-  module _ (small : w < 2 ^ 64) (n : w ≡ 0 → ⊥) {last : ℕ} (l : LaneUnion w last) where
-    pub along-same : last ≡ at ds z → FullLanes w (at ds y) → Revision c ds ds 0
-    along-same e f = three-same p ds s (at ds x) (at ds y) last (s .1 x) (s .1 y) (subst (λ (v : ℕ). v < 2 ^ 16) (sym e) (s .1 z))
-        (union-one supports k (at ds x) (at ds y) (at ds z) (h .1) (h .2) t f l small n o) refl refl e (lane-some small n l)
+module _ {c : Constraint} {supports : List ℕ} {k x y z : ℕ} (p : Scoped c supports k (x ∷ y ∷ z ∷ [])) (ds : List ℕ) (s : Sets 16 ds) (o : OneValue (at ds x)) {u : ℕ}
+    (low : u ≡ lowestOf (at ds x)) {last : ℕ} (f : InLane (at ds y) u (at ds z) (of-second supports k) last) where
+  pub along-dead : last ≡ 0 → Revision c ds ds DEAD
+  along-dead e = three-dead p ds s 0 0 0 (lit< tt) (lit< tt) (lit< tt) (joined3-none never) refl
+    where
+      never : (i v w : ℕ) → Together3 supports (256 * k) (at ds x) (at ds y) (at ds z) i v w → ⊥
+      never i v w q =
+          has-0 w (subst (λ (n : ℕ). T (has n w)) e (f .lane-i v w (q .1 .0) (q .1 .1)
+          (subst (λ (n : ℕ). T (has (at supports (256 * k + 16 * n + v)) w)) (single (at ds x) (s .1 x) o i (q .0) ∙ sym low) (q .1 .2))))
 
-    pub along-cut : (second m i : ℕ) → second < 2 ^ 16 → last < 2 ^ 16 → FullLanes w second → m ≡ oneIf (not (eqb second (at ds y))) y → i ≡ oneIf (not (eqb last (at ds z))) z → Revision c ds
-        (set (set ds y second) z last) (bitOr m i)
-    along-cut second m i a b f q r = three-rest p ds s second last a b (union-one supports k (at ds x) (at ds y) (at ds z) (h .1) (h .2) t f l small n o) m i q r (lane-some small n l)
+  module _ (n : last ≡ 0 → ⊥) (b : last < 2 ^ 16) (m : at ds y < 256) {second : ℕ} (a : second < 2 ^ 16) (g : InLane (at ds z) u (at ds y) (of-third supports k) second) where
+    joined : Joined supports (256 * k + 16 * u) (at ds y) (at ds z) second last
+    joined = lane-joined supports k (at ds x) (at ds y) (at ds z) m u f g
+
+    some : second ≡ 0 → ⊥
+    some e = let w = member last b n in let r = joined .last-e (w .0) (w .2) in has-0 (r .0) (subst (λ (i : ℕ). T (has i (r .0))) e (joined .first-i (r .0) (w .0) (r .1)))
+
+    three : Joined3 (Together3 supports (256 * k) (at ds x) (at ds y) (at ds z)) (at ds x) second last
+    three = joined3-one supports (256 * k) (at ds x) (at ds y) (at ds z) u (s .1 x) o low a some joined
+
+    pub along-same : last ≡ at ds z → second ≡ at ds y → Revision c ds ds 0
+    along-same e q = three-same p ds s (at ds x) second last (s .1 x) a b three refl q e n
+
+    pub along-cut : (i j : ℕ) → i ≡ oneIf (not (eqb second (at ds y))) y → j ≡ oneIf (not (eqb last (at ds z))) z → Revision c ds (set (set ds y second) z last) (bitOr i j)
+    along-cut i j q r = three-rest p ds s second last a b three i j q r n

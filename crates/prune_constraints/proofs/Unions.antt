@@ -1,14 +1,14 @@
 -- The loops that run through the members of a set and unite what each of them gives. Assumes nothing.
-use Rattle.model.specs.Kit.{_≡_, refl, sym, ap, _∙_, subst, Bool, true, not, _⊎_, inl, inr, ⊎-elim, List, ℕ, _+_, _*_, _/_, _%_, _^_, _<_, lt-of-le-of-lt, arith, T, eqb, bitAnd}
+use Rattle.model.specs.Kit.{_≡_, refl, sym, ap, _∙_, subst, Bool, true, not, _⊎_, inl, inr, ⊎-elim, List, ℕ, _+_, _*_, _^_, _<_, lt-of-le-of-lt, arith, T, eqb, bitAnd}
 use Rattle.model.specs.Kit.{bitOr, trailingZeros, eqb-true, eq-eqb, ne-eqb}
 use lib.Bits.{and-le-r}
 use Rattle.model.specs.{Lists.at, ValueSets.has, ValueSets.maskOf, ValueSets.withoutMask, ValueSets.unionMask, ValueSets.lowestOf, ValueSets.oneIf}
-use Rattle.model.proofs.{Lists.T-of, Lists.both-i, Lists.both-l, Lists.both-r, Sets.has-lt, Sets.mask-lt, Sets.member, Members.low-has, Members.rest-i, Members.without-lowest-op}
+use Rattle.model.proofs.{Lists.T-of, Lists.both-i, Lists.both-l, Lists.both-r, Sets.has-lt, Sets.has-mask, Sets.mask-lt, Sets.member, Members.low-has, Members.rest-i, Members.without-lowest-op}
 use Rattle.model.proofs.Members.{Rest, rest-begin, has-0, Union, union-begin, union-end, lowest-left, others-left, others-union, and-i, and-e}
 use Rattle.model.proofs.Masks.{has-oneIf, lowest-op, union-op}
-use Rattle.arrays.specs.inner.Places.{OTHERS}
+use Rattle.arrays.specs.{inner.Places.OTHERS, inner.Tables.between}
 use Rattle.prune_constraints.specs.inner.Steps.{OneValue, Together, Joined, Together3, Joined3, Touched}
-use Rattle.prune_constraints.specs.inner.Lanes.{FullLanes, LaneUnion, InLanes}
+use Rattle.prune_constraints.specs.inner.Lanes.{FullLanes, LaneUnion, InLanes, InLane}
 use Rattle.prune_constraints.proofs.Bits.{one-small}
 
 -- the member itself where some set is not empty
@@ -223,65 +223,47 @@ joined3-none never = record {
 }
 
 -- ---- three sets of values below 8 by numbers of eight lanes
--- a number that is not empty has a lane with a value
-some-lane : (x : ℕ) → x < 2 ^ 64 → (x ≡ 0 → ⊥) → (j : ℕ) × (w : ℕ) × (j < 8) × (w < 8) × T (has x (8 * j + w))
-some-lane x h n =
-    let q = low-has 64 x (omega arith) h in
-    let i = trailingZeros 64 x in
-    let f : i ≡ 8 * (i / 8) + i % 8 = omega arith in
-    (i / 8, i % 8, omega arith, omega arith, subst (λ (z : ℕ). T (has x z)) f (q .0))
-
-pub lane-some : {x r : ℕ} → x < 2 ^ 64 → (x ≡ 0 → ⊥) → LaneUnion x r → r ≡ 0 → ⊥
-lane-some {x} {r} h n l e = let q = some-lane x h n in has-0 (q .1) (subst (λ (z : ℕ). T (has z (q .1))) e (l .union-i (q .0) (q .1) (q .2) (q .3) (q .4)))
-
--- the support sets of constraint k: those of a value u of the first variable in lanes by the second, and those of a value v of the second in lanes by
--- the first
-abbrev pub of-first : List ℕ → ℕ → ℕ → ℕ → ℕ
-of-first supports k u v = at supports (256 * k + 16 * u + v)
-
+-- the sets of constraint k in lanes by the first variable: of a value v of the second those of the third, and of a value w of the third those of the second
 abbrev pub of-second : List ℕ → ℕ → ℕ → ℕ → ℕ
 of-second supports k v u = at supports (256 * k + 16 * u + v)
 
--- x has what goes together in lanes by the second variable
-module _ (supports : List ℕ) (k a b e : ℕ) {x : ℕ} (m : b < 2 ^ 8) (l : e < 2 ^ 8) (s : InLanes a b e (of-first supports k) x) where
+abbrev pub of-third : List ℕ → ℕ → ℕ → ℕ → ℕ
+of-third supports k w u = between supports k w u
+
+module _ (supports : List ℕ) (k a b e : ℕ) (m : b < 2 ^ 8) where
   abbrev M : ℕ → ℕ → ℕ → Type 0
   M = Together3 supports (256 * k) a b e
 
-  to : (u v w : ℕ) → M u v w → (v < 8) × (w < 8) × T (has x (8 * v + w))
-  to u v w q = (has-lt 8 b v m (q .1 .0), has-lt 8 e w l (q .1 .1), s .lanes-i u v w (q .0) (q .1 .0) (q .1 .1) (q .1 .2))
+  third-is : (u v w : ℕ) → T (has b v) → has (between supports k w u) v ≡ has (at supports (256 * k + 16 * u + v)) w
+  third-is u v w t = has-mask 16 (λ v. has (at supports (256 * k + 16 * u + v)) w) v (omega (arith, has-lt 8 b v m t))
 
-  from : (v w : ℕ) → v < 8 → w < 8 → T (has x (8 * v + w)) → (u : ℕ) × M u v w
-  from v w g h q = let r = s .lanes-e v w g h q in (r .0, (r .1, (r .2, r .3, r .4)))
+  -- along the lane of one value u
+  pub lane-joined : (u : ℕ) {second last : ℕ} → InLane b u e (of-second supports k) last → InLane e u b (of-third supports k) second → Joined supports (256 * k + 16 * u) b e second last
+  lane-joined u f g = record {
+    first-i = λ v w q. g .lane-i w v (q .1) (q .0) (subst T (sym (third-is u v w (q .0))) (q .2));
+    first-e = λ v q. let r = g .lane-e v q in (r .0, (r .2, r .1, subst T (third-is u v (r .0) (r .2)) (r .3)));
+    last-i = λ v w q. f .lane-i v w (q .0) (q .1) (q .2);
+    last-e = λ w q. let r = f .lane-e w q in (r .0, (r .1, r .2, r .3));
+  }
 
-  -- nothing goes together
-  pub union-none : x ≡ 0 → Joined3 (Together3 supports (256 * k) a b e) 0 0 0
-  union-none z = joined3-none (λ u v w q. let r = to u v w q in has-0 (8 * v + w) (subst (λ (n : ℕ). T (has n (8 * v + w))) z (r .2)))
+  -- x and y have what goes together in all lanes
+  pub union-both : {x y first second last : ℕ} → a < 2 ^ 8 → e < 2 ^ 8 → InLanes b a e (of-second supports k) x → InLanes e a b (of-third supports k) y → FullLanes x first → LaneUnion y second
+      → LaneUnion x last → Joined3 (Together3 supports (256 * k) a b e) first second last
+  union-both {x} {y} h l c d f g i = record {
+    first-i = λ u v w q. let r = to u v w q in f .full-i u w (r .0) (r .2) (r .3);
+    first-e = λ u q. let r = f .full-e u q in let o = from u (r .1 .0) (r .0) (r .1 .1) (r .1 .2) in (o .0, (r .1 .0, o .1));
+    second-i = λ u v w q. let r = to u v w q in g .union-i u v (r .0) (r .1) (d .lanes-i w u v (q .1 .1) (q .0) (q .1 .0) (subst T (sym (third-is u v w (q .1 .0))) (q .1 .2)));
+    second-e = λ v q. let r = g .union-e v q in let o = d .lanes-e (r .1 .0) v (r .1 .1) (r .0) (r .1 .2) in
+        (r .1 .0, (o .0, (o .2, (o .3, o .1, subst T (third-is (r .1 .0) v (o .0) (o .3)) (o .4)))));
+    last-i = λ u v w q. let r = to u v w q in i .union-i u w (r .0) (r .2) (r .3);
+    last-e = λ w q. let r = i .union-e w q in let o = from (r .1 .0) w (r .1 .1) (r .0) (r .1 .2) in (r .1 .0, (o .0, o .1));
+  }
+    where
+      to : (u v w : ℕ) → M u v w → (u < 8) × (v < 8) × (w < 8) × T (has x (8 * u + w))
+      to u v w q = (has-lt 8 a u h (q .0), has-lt 8 b v m (q .1 .0), has-lt 8 e w l (q .1 .1), c .lanes-i v u w (q .1 .0) (q .0) (q .1 .1) (q .1 .2))
 
-  module _ {second last : ℕ} (f : FullLanes x second) (g : LaneUnion x last) where
-    -- the second and the third set, where the first is known
-    union-second : (first : ℕ) → ((u v w : ℕ) → M u v w → T (has first u)) → ((u : ℕ) → T (has first u) → (v : ℕ) × ((w : ℕ) × M u v w)) → Joined3 M first second last
-    union-second first i j = record {
-      first-i = i;
-      first-e = j;
-      second-i = λ u v w q. let r = to u v w q in f .full-i v w (r .0) (r .1) (r .2);
-      second-e = λ v q. let r = f .full-e v q in let o = from v (r .1 .0) (r .0) (r .1 .1) (r .1 .2) in (o .0, (r .1 .0, o .1));
-      last-i = λ u v w q. let r = to u v w q in g .union-i v w (r .0) (r .1) (r .2);
-      last-e = λ w q. let r = g .union-e w q in let o = from (r .1 .0) w (r .1 .1) (r .0) (r .1 .2) in (o .0, (r .1 .0, o .1));
-    }
-
-    -- the first set has one value
-    pub union-one : x < 2 ^ 64 → (x ≡ 0 → ⊥) → OneValue a → Joined3 (Together3 supports (256 * k) a b e) a second last
-    union-one h n o =
-        let q = some-lane x h n in
-        let r = from (q .0) (q .1) (q .2) (q .3) (q .4) in
-        union-second a (λ u v w i. i .0) (λ u i. (q .0, (q .1, subst (λ (z : ℕ). M z (q .0) (q .1)) (o .only (r .0) u (r .1 .0) i) (r .1))))
-
-    -- y has it in lanes by the first variable
-    pub union-both : {y first : ℕ} → a < 2 ^ 8 → InLanes b a e (of-second supports k) y → FullLanes y first → Joined3 (Together3 supports (256 * k) a b e) first second last
-    union-both {first = first} h c d =
-        union-second first
-        (λ u v w q. d .full-i u w (has-lt 8 a u h (q .0)) (has-lt 8 e w l (q .1 .1)) (c .lanes-i v u w (q .1 .0) (q .0) (q .1 .1) (q .1 .2)))
-        (λ u q. let r = d .full-e u q in let o = c .lanes-e u (r .1 .0) (r .0) (r .1 .1) (r .1 .2) in (o .0, (r .1 .0, (o .2, (o .1, o .3, o .4)))))
+      from : (u w : ℕ) → u < 8 → w < 8 → T (has x (8 * u + w)) → (v : ℕ) × M u v w
+      from u w g h q = let r = c .lanes-e u w g h q in (r .0, (r .2, (r .1, r .3, r .4)))
 
 -- ---- the numbers at the members of a set
 abbrev pub Touches : List ℕ → ℕ → ℕ → Type 0

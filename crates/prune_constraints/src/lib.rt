@@ -26,7 +26,7 @@ ghost use Rattle.prune_constraints.specs.inner.Revised.{Revision, Constr
 ghost use Rattle.prune_constraints.specs.inner.Steps.{OneValue, Joined, Together3, Joined3, Scoped, Nonempty, Narrow, ConstraintsHeld, SetCut, Touched};
 ghost use Rattle.prune_constraints.specs.inner.Steps.{Waiting, Round};
 ghost use Rattle.prune_constraints.specs.inner.LookUps.{LookUp, LookUpsPending, LookedUp};
-ghost use Rattle.prune_constraints.specs.inner.Lanes.{FullLanes, LaneUnion, FullHeads, Halves, InLanes};
+ghost use Rattle.prune_constraints.specs.inner.Lanes.{FullLanes, LaneUnion, FullHeads, Halves, TogetherIn, InLanes, InLane};
 
 // Bits of a number of eight lanes: the first of each lane, the first two of each second, the first four of each fourth.
 const ONES: u64 = 72340172838076673;
@@ -147,17 +147,36 @@ fn heads(w: u64) -> u64
     (b | (b >> 1)) & ONES
 }
 
-// In each lane of b the values of e that go together with that lane's value and some value of a, by the unions from a base on: those of the lower four
-// values and those of the upper four.
+// The lanes of the members of a together, by the unions from a base on: those of the lower four values and those of the upper four.
+fn together(numbers: &Numbers, base: usize, a: ValueSet) -> u64
+    requires { ⌜ base + 32 ≤ NUMBERS ⌝ }
+    requires { ⌜ a .bits < 256 ⌝ }
+    ensures { λ r. ⌜ ((lane : ℕ → ℕ → ℕ) → Halves (now (numbers .entry)) base lane → TogetherIn (a .bits) lane r) ⌝ }
+{
+    let lower = numbers[base + ((a.bits & 15) as usize)];
+    let upper = numbers[base + 16 + ((a.bits >> 4) as usize)];
+    lower | upper
+}
+
+// In each lane of b the values of e that some member of a has there.
 fn in_lanes(numbers: &Numbers, base: usize, a: ValueSet, b: ValueSet, e: ValueSet) -> u64
     requires { ⌜ base + 32 ≤ NUMBERS ⌝ }
     requires { ⌜ (a .bits < 256) × (b .bits < 256) × (e .bits < 256) ⌝ }
     requires { ⌜ Spreads (now numbers) ⌝ }
     ensures { λ r. ⌜ ((lane : ℕ → ℕ → ℕ) → Halves (now (numbers .entry)) base lane → InLanes (a .bits) (b .bits) (e .bits) lane r) ⌝ }
 {
-    let lower = numbers[base + ((a.bits & 15) as usize)];
-    let upper = numbers[base + 16 + ((a.bits >> 4) as usize)];
-    (lower | upper) & numbers[SPREAD + (b.bits as usize)] & ((e.bits as u64) * ONES)
+    together(numbers, base, a) & numbers[SPREAD + (b.bits as usize)] & ((e.bits as u64) * ONES)
+}
+
+// The same of lane u alone.
+fn in_lane(numbers: &Numbers, base: usize, a: ValueSet, u: usize, e: ValueSet) -> ValueSet
+    requires { ⌜ base + 32 ≤ NUMBERS ⌝ }
+    requires { ⌜ (a .bits < 256) × (u < 8) × (e .bits < 256) ⌝ }
+    ensures { λ r. ⌜ ((lane : ℕ → ℕ → ℕ) → Halves (now (numbers .entry)) base lane → InLane (a .bits) u (e .bits) lane (r .bits)) ⌝ }
+{
+    ValueSet {
+        bits: ((together(numbers, base, a) >> (8 * u)) & (e.bits as u64)) as u16,
+    }
 }
 
 // Whether the lanes that are not empty are those of b.
@@ -224,7 +243,7 @@ fn revise_two(sets: &mut [u16; 16], supports: &Supports, k: usize, x: usize, y: 
     moved(a, first, x) | moved(b, last, y)
 }
 
-// Prunes by constraint number k, whose first set has one value: both ways along the lanes by the second variable.
+// Prunes by constraint number k, whose first set has one value: the other two along that value's lane.
 fn along(sets: &mut [u16; 16], numbers: &Numbers, k: usize, x: usize, y: usize, z: usize) -> u64
     requires { ⌜ Sets 16 (now sets) ⌝ }
     requires { ⌜ ((supports : List ℕ) × Words (now numbers) supports × (at (now numbers) (SCOPES + k) % 256 ≡ 3) × (c : Constraint) × Scoped c supports k
@@ -237,17 +256,17 @@ fn along(sets: &mut [u16; 16], numbers: &Numbers, k: usize, x: usize, y: usize, 
     let a = ValueSet { bits: sets[x] };
     let b = ValueSet { bits: sets[y] };
     let e = ValueSet { bits: sets[z] };
-    let w = in_lanes(numbers, UNIONS + 64 * k, a, b, e);
-    if w == 0 {
+    let u = a.lowest() as usize;
+    let last = in_lane(numbers, UNIONS + 64 * k, b, u, e);
+    if last.is_empty() {
         return DEAD;
     }
-    let last = union_of(w);
+    let second = in_lane(numbers, UNIONS + 64 * k + 32, e, u, b);
     if last.bits == e.bits {
-        if fills(numbers, w, b) {
+        if second.bits == b.bits {
             return 0;
         }
     }
-    let second = full_lanes(w);
     sets[y] = second.bits;
     sets[z] = last.bits;
     moved(b, second, y) | moved(e, last, z)
@@ -298,7 +317,7 @@ fn leave(sets: &mut [u16; 16], x: usize, y: usize, z: usize, t: Three) -> u64
     moved(a, first, x) | moved(b, second, y) | moved(e, last, z)
 }
 
-// Prunes by constraint number k: the first set along the lanes by its variable, the others along those by the second.
+// Prunes by constraint number k: all three sets along the lanes by the first variable.
 fn across(sets: &mut [u16; 16], numbers: &Numbers, k: usize, x: usize, y: usize, z: usize) -> u64
     requires { ⌜ Sets 16 (now sets) ⌝ }
     requires { ⌜ ((supports : List ℕ) × Words (now numbers) supports × (at (now numbers) (SCOPES + k) % 256 ≡ 3) × (c : Constraint) × Scoped c supports k
@@ -311,19 +330,20 @@ fn across(sets: &mut [u16; 16], numbers: &Numbers, k: usize, x: usize, y: usize,
     let a = ValueSet { bits: sets[x] };
     let b = ValueSet { bits: sets[y] };
     let e = ValueSet { bits: sets[z] };
-    let first_lanes = in_lanes(numbers, UNIONS + 64 * k + 32, b, a, e);
-    let second_lanes = in_lanes(numbers, UNIONS + 64 * k, a, b, e);
-    let last = union_of(second_lanes);
-    if fills(numbers, first_lanes, a) {
-        if fills(numbers, second_lanes, b) {
+    let by_second = in_lanes(numbers, UNIONS + 64 * k, b, a, e);
+    let by_third = in_lanes(numbers, UNIONS + 64 * k + 32, e, a, b);
+    let second = union_of(by_third);
+    let last = union_of(by_second);
+    if fills(numbers, by_second, a) {
+        if second.bits == b.bits {
             if last.bits == e.bits {
                 return 0;
             }
         }
     }
     let t = Three {
-        first: full_lanes(first_lanes),
-        second: full_lanes(second_lanes),
+        first: full_lanes(by_second),
+        second,
         last,
     };
     leave(sets, x, y, z, t)

@@ -33,19 +33,21 @@ fn hits(sets: &[u16; 16], tables: &Tables, first: usize) -> bool
     hit != 0
 }
 
-// Takes the level's sets from the sets; true where one is left empty.
+// Takes the level's sets from the sets; true where one is left empty. On a copy, which nothing else can be lent: so the compiler takes all sixteen at once.
 fn take(sets: &mut [u16; 16], tables: &Tables, first: usize) -> bool
     requires { ⌜ (length (now sets) ≡ 16) × (first + 16 ≤ TABLES) ⌝ }
     ensures { λ r. ⌜ Taken (now (sets .entry)) (now (tables .entry)) first (now (sets .exit)) r ⌝ }
 {
+    let mut left = *sets;
     let mut empty = false;
     let mut y = 0;
     while y < 16 {
-        let t = sets[y] & !tables[first + y];
-        sets[y] = t;
+        let t = left[y] & !tables[first + y];
+        left[y] = t;
         empty = empty | (t == 0);
         y += 1;
     }
+    *sets = left;
     empty
 }
 

@@ -9,7 +9,7 @@ use Rattle.run_input.specs.Lent.{verdictLent, orderLent, problemWith, problemLe
 use Rattle.run_input.proofs.Lent.{well-sheet}
 use Rattle.arrays.specs.inner.Places.{PLANS, ALL, SPENT, REFUSED, NUMBERS, STACK, SUPPORTS, TABLES, WORK, WANTED}
 use Rattle.sheet.proofs.Whole.{zeros}
-use Rattle.run_state.specs.Walk.{kept, stopIn, tallyBy}
+use Rattle.run_state.specs.inner.Walk.{kept, stopIn, tallyBy}
 use Rattle.run.specs.{Meaning.means, inner.Whole.Stopped, inner.Whole.Answered, inner.Whole.Wanted, declared.Answer.Answer}
 use Rattle.run_search.specs.{inner.Prepared.bytesFor, inner.Prepared.Blank, inner.Explored.resultFor, inner.Explored.Explored}
 use Rattle.run_state.proofs.Outcome.{kept-none, kept-over}

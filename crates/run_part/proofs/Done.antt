@@ -11,7 +11,7 @@ use Rattle.run_cut.proofs.{Resume.dead-below, Resume.last-in, Resume.taken, Res
 use Rattle.run_input.specs.Lent.{verdictLent, orderLent, problemLent}
 use Rattle.run_input.proofs.Lent.{well-sheet, ordering-lent}
 use Rattle.arrays.specs.inner.Places.{ROOM, PLANS, NUMBER, ITEM, LAST, ALL, SPENT, DEEPER, REFUSED, WANTED}
-use Rattle.run_state.specs.{Walk.noNodes, Walk.State, Walk.walk, Walk.kept, Walk.stopIn, Walk.tallyBy, inner.Pair.prefixOf, inner.Pair.orderIn, inner.Pair.stateOf}
+use Rattle.run_state.specs.{inner.Walk.noNodes, inner.Walk.State, inner.Walk.walk, inner.Walk.kept, inner.Walk.stopIn, inner.Walk.tallyBy, inner.Pair.prefixOf, inner.Pair.orderIn, inner.Pair.stateOf}
 use Rattle.run_state.proofs.{Prefix.prefix-zero, Prefix.prefix-at, Prefix.length-prefix, Outcome.outcome-on, Outcome.kept-none, Outcome.kept-over, Outcome.nothing-kept}
 use Rattle.run_task.specs.inner.Task.{roomFor}
 use Rattle.run_search.specs.inner.Prepared.{Prepared}

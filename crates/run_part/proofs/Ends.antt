@@ -1,13 +1,14 @@
 -- Before the walk along a part and after it: the path put in `work`, and what the call holds then. Assumes nothing.
-use Rattle.model.specs.Kit.{_≡_, refl, sym, ap, _∙_, subst, Bool, true, false, List, ℕ, _+_, _-_, _≤_, _<_, min, ℕ-discrete, arith, T, eqb, length, take, set, length-set}
+use Rattle.model.specs.Kit.{_≡_, refl, sym, ap, _∙_, subst, Bool, true, false, List, ℕ, _+_, _-_, _≤_, _<_, min, ℕ-discrete, decLt, arith, T, eqb, length, take, set, length-set}
 use Rattle.model.specs.Kit.{length-take, length-take-le, eqb-true, eqb-false}
 use Rattle.model.specs.{Lists.at, Problem.Problem, Search.setsAt, Search.isLive, Run.Tally}
-use Rattle.model.proofs.Lists.{at-set, at-set-other, at-take}
-use Rattle.arrays.specs.inner.Places.{ROOM, PLANS, LAST, DEEPER, WORK}
+use Rattle.model.proofs.Lists.{at-set, at-set-other, at-take, at-out}
+use Rattle.arrays.specs.inner.Places.{ROOM, PLANS, LAST, DEEPER, WORK, MEMO}
 use Rattle.prune.specs.inner.Node.{Holds, Marked}
 use Rattle.prune.proofs.Marks.{marked-on}
-use Rattle.run_state.specs.{Walk.noNodes, inner.Pair.prefixOf, inner.Pair.ownIn, inner.Pair.Cleared, inner.Pair.ListRoom, inner.Pair.AtPrefix, inner.Pair.Walked}
-use Rattle.run_state.proofs.Prefix.{prefix-zero, prefix-is}
+use Rattle.run_state.specs.{inner.Walk.noNodes, inner.Pair.prefixOf, inner.Pair.orderIn, inner.Pair.ownIn, inner.Pair.Cleared, inner.Pair.ListRoom, inner.Pair.AtPrefix}
+use Rattle.run_state.specs.inner.Pair.{Walked}
+use Rattle.run_state.proofs.{Memo.memo-on, Prefix.prefix-zero, Prefix.prefix-is}
 use Rattle.run_tree.proofs.Turns.{ready-on}
 use Rattle.run_ranges.specs.inner.Within.{within}
 use Rattle.run_part.specs.inner.Steps.{AtBelow, PutPath, Valued, Parted}
@@ -90,7 +91,15 @@ module _ (path work work′ : List ℕ) (h : Begun path work work′) where
         summed = g .summed;
         order = g .order;
         room = subst (λ (n : ℕ). ListRoom (p .variables) (at numbers ROOM) list n) (sym (h .others PLANS (omega arith) (omega arith) (λ q. omega arith))) (g .room);
+        well = g .well;
+        respected = g .respected;
+        memo = memo-on p (ownIn p numbers) (orderIn numbers (p .variables)) work work′ list (λ i l. later (g .ready .work-length) i (omega arith) (decLt i WORK))
+            (h .others PLANS (omega arith) (omega arith) (λ q. omega arith)) (g .memo);
       }
+    where
+      later : length work ≡ WORK → (i : ℕ) → MEMO ≤ i → Dec (i < WORK) → at work′ i ≡ at work i
+      later long i l (yes u) = h .others i (omega arith) u (λ q. omega arith)
+      later long i l (no u) = at-out work′ i (omega (arith, h .sized)) ∙ sym (at-out work i (omega arith))
 
   pub put-asks : {p : Problem} {stack supports tables numbers list : List ℕ} {tally : Tally} → AtPrefix p stack work supports tables numbers list tally 0
       → AtBelow p path stack work′ supports tables numbers list tally 0

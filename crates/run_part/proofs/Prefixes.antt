@@ -4,8 +4,8 @@ use Rattle.model.specs.{Lists.at, ValueSets.has, Problem.Problem, Search.setsAt
 use Rattle.model.proofs.Lists.{T-of}
 use Rattle.arrays.specs.inner.Places.{ROOM, PLANS}
 use Rattle.prune.specs.inner.Node.{Holds, Marked, AtNode, Reached, longer}
-use Rattle.run_state.specs.inner.Pair.{prefixOf, ownIn, ListRoom, AtPrefix}
-use Rattle.run_state.proofs.Prefix.{prefix-ext, prefix-take, prefix-snoc}
+use Rattle.run_state.proofs.{Memo.memo-on, Prefix.prefix-ext, Prefix.prefix-take, Prefix.prefix-snoc}
+use Rattle.run_state.specs.inner.Pair.{prefixOf, orderIn, ownIn, ListRoom, AtPrefix}
 use Rattle.run_tree.proofs.Turns.{ready-on}
 
 -- ---- `descend` at depth k
@@ -57,4 +57,7 @@ module _ (p : Problem) (stack work supports tables numbers list : List ℕ) (tal
           summed = h .summed;
           order = h .order;
           room = same-room;
+          well = h .well;
+          respected = h .respected;
+          memo = memo-on p (ownIn p numbers) (orderIn numbers (p .variables)) work work′ list (λ i l. q .beyond i (let f = few in omega arith)) (q .kept PLANS (omega arith)) (h .memo);
         }

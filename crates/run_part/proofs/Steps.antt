@@ -8,12 +8,12 @@ use Rattle.model.proofs.Lists.{T-of, not-of, of-not, both-l, among-i, among-e, 
 use Rattle.model.proofs.{Tree.well-sized, Prune.setsAt-sets, Sets.has-none, Sets.has-lt, Sets.has-mask, Sets.mask-lt, Sets.mask-ext, Sets.mask-i, Sets.mask-e, Sets.members-i}
 use Rattle.model.proofs.{Sets.members-e, Masks.common-op, Lowest.lowest-in}
 use Rattle.run_cut.specs.Parts.{nodesOf, candidatesAt}
-use Rattle.arrays.specs.inner.Places.{LIMIT, ROOM, LAST, ALL, SPENT, DIAGONAL}
+use Rattle.arrays.specs.inner.Places.{LIMIT, ROOM, PLANS, LAST, ALL, SPENT, DIAGONAL}
 use Rattle.prune.specs.inner.Node.{AtNode, Reached, longer}
 use Rattle.prune.proofs.BlockCut.{not-below}
-use Rattle.run_state.specs.{Walk.withNode, Walk.walk, Walk.nodesFor, Walk.exhausted, inner.Pair.prefixOf, inner.Pair.settling, inner.Pair.orderIn, inner.Pair.ownIn}
+use Rattle.run_state.specs.{inner.Walk.withNode, inner.Walk.walk, inner.Walk.nodesFor, inner.Walk.exhausted, inner.Pair.prefixOf, inner.Pair.settling, inner.Pair.orderIn, inner.Pair.ownIn}
 use Rattle.run_state.specs.inner.Pair.{stateOf, AtPrefix, AtValues, AtValue, Walked, tried, lowestNode}
-use Rattle.run_state.proofs.{Walk.walk-append, Walk.walk-stopped, Walk.visit-spent, Prefix.length-prefix, Prefix.prefix-ext, Prefix.prefix-take}
+use Rattle.run_state.proofs.{Memo.memo-on, Walk.walk-append, Walk.walk-stopped, Walk.visit-spent, Prefix.length-prefix, Prefix.prefix-ext, Prefix.prefix-take}
 use Rattle.run_tree.proofs.Turns.{all-values, prefix-on}
 use Rattle.run_ranges.specs.inner.Within.{within, given, leaves, intoNodes, inRange, midNodes}
 use Rattle.run_ranges.proofs.{Within.within-dead, Between.keep-keep}
@@ -80,7 +80,7 @@ module _ (p : Problem) (stack work supports tables numbers list : List ℕ) (tal
   -- ---- walks
   pub walked-none : Moved [] stack work list tally ALL
   unfolding walk
-  walked-none = record { state = refl; summed = h .summed; sets = λ i l. refl; values = λ i l. refl; marks = λ i l u. refl; stack-length = refl; work-length = refl }
+  walked-none = record { state = refl; summed = h .summed; sets = λ i l. refl; values = λ i l. refl; marks = λ i l u. refl; stack-length = refl; work-length = refl; memo = h .memo }
 
   pub walked-spent : (t : List ℕ) (ts : List (List ℕ)) → tally .nodes ≡ at numbers LIMIT → Moved (t ∷ ts) stack work list tally SPENT
   unfolding walk
@@ -94,6 +94,7 @@ module _ (p : Problem) (stack work supports tables numbers list : List ℕ) (tal
     marks = λ i l u. refl;
     stack-length = refl;
     work-length = refl;
+    memo = h .memo;
   }
 
   module _ (ts us : List (List ℕ)) (stack′ work′ list′ : List ℕ) (tally′ : Tally) (stop : ℕ) (w : Moved ts stack′ work′ list′ tally′ stop) where
@@ -108,6 +109,7 @@ module _ (p : Problem) (stack work supports tables numbers list : List ℕ) (tal
       marks = w .marks;
       stack-length = w .stack-length;
       work-length = w .work-length;
+      memo = w .memo;
     }
 
     pub walked-then : stop ≡ ALL → (stack″ work″ list″ : List ℕ) (tally″ : Tally) (stop″ : ℕ) → Walked p us stack′ work′ numbers list′ tally′ k stack″ work″ list″ tally″ stop″ → Moved
@@ -121,6 +123,7 @@ module _ (p : Problem) (stack work supports tables numbers list : List ℕ) (tal
       marks = λ i l u. v .marks i l u ∙ w .marks i l u;
       stack-length = v .stack-length ∙ w .stack-length;
       work-length = v .work-length ∙ w .work-length;
+      memo = v .memo;
     }
 
     pub prefix-then : AtPrefix p stack′ work′ supports tables numbers list′ tally′ k
@@ -158,6 +161,7 @@ module _ (p : Problem) (stack work supports tables numbers list : List ℕ) (tal
     marks = λ i l u. refl;
     stack-length = refl;
     work-length = refl;
+    memo = h .memo;
   }
 
   pub stepped-in : T (has (at stack (DIAGONAL * k)) (at work k)) → (stack′ work′ : List ℕ) (dead : Bool) → Reached (ownIn p numbers) (p .symmetries) (longer work k)
@@ -174,6 +178,8 @@ module _ (p : Problem) (stack work supports tables numbers list : List ℕ) (tal
     marks = λ i l u. q .kept i (omega arith);
     stack-length = q .stack-length;
     work-length = q .work-length;
+    memo = memo-on p (ownIn p numbers) (orderIn numbers (p .variables)) work work′ list (λ i l. q .beyond i (let n = h .inner in let f = h .ready .wellFormed .few in omega arith))
+        (q .kept PLANS (omega arith)) (h .memo);
   }
     where
       gone : (b : Bool) {l : List (List ℕ)} → l ≡ [] → given b l ≡ []
@@ -253,7 +259,16 @@ module _ (p : Problem) (stack work supports tables numbers list : List ℕ) (tal
       dead = λ z. subst (λ (t : List ℕ). isLive p t ≡ false) longer-put (not-true (isLive p (longer put k)) (sym (q .answers) ∙ not-false dead z));
       alone = λ z. let d = turns.entered-dead p stack work supports tables numbers list tally k m at-value small v lowest stack′ work′ dead q (not-false dead z) in
           then-so [] stack′ work′ list (withNode (settling numbers k) tally) ALL
-          record { state = refl; summed = d .walked (λ e. omega arith) .summed; sets = λ i l. refl; values = λ i l. refl; marks = λ i l u. refl; stack-length = refl; work-length = refl };
+          record {
+            state = refl;
+            summed = d .walked (λ e. omega arith) .summed;
+            sets = λ i l. refl;
+            values = λ i l. refl;
+            marks = λ i l u. refl;
+            stack-length = refl;
+            work-length = refl;
+            memo = d .walked (λ e. omega arith) .memo;
+          };
       next = λ z. turns.entered-inner p stack work supports tables numbers list tally k m at-value small v lowest stack′ work′ dead q (not-true dead z) inner-so .next refl;
       node = turns.node-is p stack work supports tables numbers list tally k m at-value small v lowest stack′ work′ dead q ∙ same-node;
       then = then-so;

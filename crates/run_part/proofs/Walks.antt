@@ -4,7 +4,7 @@ use Rattle.model.specs.Kit.{not-true, not-false}
 use Rattle.model.specs.{Lists.at, ValueSets.has, Problem.Problem, Run.Tally}
 use Rattle.model.proofs.Lists.{T-of, of-T, length-none}
 use Rattle.arrays.specs.inner.Places.{LIMIT, ROOM, PLANS, LAST, ALL, SPENT, DIAGONAL}
-use Rattle.run_state.specs.{Walk.withNode, Walk.walk, inner.Pair.prefixOf, inner.Pair.settling, inner.Pair.orderIn, inner.Pair.stateOf, inner.Pair.Countable, inner.Pair.AtPrefix}
+use Rattle.run_state.specs.{inner.Walk.withNode, inner.Walk.walk, inner.Pair.prefixOf, inner.Pair.settling, inner.Pair.orderIn, inner.Pair.stateOf, inner.Pair.Countable, inner.Pair.AtPrefix}
 use Rattle.run_state.specs.inner.Pair.{AtValues, Walked, tried}
 use Rattle.run_state.proofs.{Prefix.prefix-ext, Prefix.prefix-snoc, Written.settling-inside}
 use Rattle.run_ranges.specs.inner.Within.{within, given, leaves, intoNodes, ontoNodes, midNodes, upToNodes}
@@ -79,6 +79,7 @@ module _ (p : Problem) (stack work supports tables numbers list : List ℕ) (tal
           marks = s .marks;
           stack-length = s .stack-length;
           work-length = s .work-length;
+          memo = s .memo;
         }
 
         pub into-next : goes ≡ true → AtBelow p from stack′ work′ supports tables numbers list tally (k + 1)
@@ -101,6 +102,7 @@ module _ (p : Problem) (stack work supports tables numbers list : List ℕ) (tal
               marks = λ i l u. w .marks i l (omega arith) ∙ s .marks i l u;
               stack-length = w .stack-length ∙ s .stack-length;
               work-length = w .work-length ∙ s .work-length;
+              memo = w .memo;
             }
 
   -- ---- `onto`

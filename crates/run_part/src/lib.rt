@@ -35,7 +35,7 @@ ghost use Rattle.run_part.specs.inner.Steps.{rangeMask, AtStep, Stepped,
 ghost use Rattle.run_part.specs.Calls.{CallPart};
 ghost use Rattle.arrays.specs.inner.Places.{LAST, DEEPER, WORK};
 ghost use Rattle.arrays.specs.inner.Places.{DIAGONAL};
-ghost use Rattle.run_state.specs.Walk.{noNodes};
+ghost use Rattle.run_state.specs.inner.Walk.{noNodes};
 
 // What a part answers, what it counted, and where it stands: the last node that it made, else where it began, as many of the values as the length says.
 pub struct PartRun {

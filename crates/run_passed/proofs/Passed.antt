@@ -6,7 +6,7 @@ use Rattle.model.proofs.{Lists.at-ext, Lists.at-set, Lists.at-set-other, Lists.
 use Rattle.order.specs.Reordered.{write}
 use Rattle.arrays.specs.inner.Places.{ALL}
 use Rattle.run_cut.specs.Parts.{lastOf}
-use Rattle.run_state.specs.Walk.{withNode, State, noted, counted, listed, visit, walk}
+use Rattle.run_state.specs.inner.Walk.{withNode, State, noted, counted, listed, visit, walk}
 use Rattle.run_state.proofs.Walk.{visit-other, visit-plan, listed-kept}
 use Rattle.run_alike.specs.inner.Alike.{moved}
 use Rattle.run_passed.specs.inner.Passed.{plus, notedAll, passed, Walk-over, Walk-by, Last-moved}
@@ -22,7 +22,7 @@ plus-length : (cs ds : List ℕ) → length (plus cs ds) ≡ 12
 unfolding plus
 plus-length cs ds = length-tabulate 12 _
 
-plus-at : (cs ds : List ℕ) (x : ℕ) → x < 12 → at (plus cs ds) x ≡ at cs x + at ds x
+pub plus-at : (cs ds : List ℕ) (x : ℕ) → x < 12 → at (plus cs ds) x ≡ at cs x + at ds x
 unfolding plus
 plus-at cs ds x h = at-tabulate 12 (λ x. at cs x + at ds x) x h
 

@@ -79,8 +79,8 @@ module _ (b numbers supports images : List ℕ) (r : Bool) (left : Recompilation
     }
 
     -- what stands in the arrays then
-    pub laid : (bytes : List ℕ) → (length bytes ≡ 16) × ((k : ℕ) → k < 16 → at bytes k ≡ k) → Laid p p (below (p .variables)) bounded supports images bytes 0
-    laid bytes placed = laid-alone p bounded supports images bytes compiled fits bounded-length placed
+    pub laid : (bytes : List ℕ) → (length bytes ≡ 16) × ((k : ℕ) → k < 16 → at bytes k ≡ k) → Laid p p (below (p .variables)) bounded supports images bytes 0 0
+    laid bytes placed = laid-alone p bounded supports images bytes compiled fits 0 (λ n. absurd (n refl)) bounded-length placed
 
     module _ (work stack′ work′ tables′ numbers′ : List ℕ) (step : ℕ) (h : Begun (problemOf b) (below (problemOf b .variables)) bounded work stack′ work′ supports tables′ numbers′ step) where
       few-plans : (k : ℕ) → k * p .variables ≤ size → k ≤ room

@@ -52,7 +52,17 @@ pub fn prepare_again(
         run_task::put_bounds(numbers, more as u64, (size / n) as u64);
         let mut order = [0u8; 16];
         run_task::by_position(&mut order);
-        return run_search::begin(stack, work, supports, tables, numbers, &images, &order, 0);
+        return run_search::begin(
+            stack,
+            work,
+            supports,
+            tables,
+            numbers,
+            &images,
+            &order,
+            0,
+            0,
+        );
     }
     ALL
 }

@@ -2,17 +2,18 @@
 -- Assumes nothing.
 use Rattle.model.specs.Kit.{_≡_, refl, sym, ap, _∙_, subst, subst₂, Bool, true, false, inl, List, [], ℕ, suc, _+_, _/_, _%_, _^_, _≤_, _<_, arith, T, not-true, not-false, length}
 use Rattle.model.specs.Kit.{set, take, length-set, length-take-le, take-all}
-use Rattle.model.specs.{Lists.at, Lists.below, ValueSets.has, Problem.Problem, Problem.withSymmetries, Search.isLive, Search.setsAt}
+use Rattle.model.specs.{Lists.at, Lists.below, ValueSets.has, Problem.Problem, Problem.withSymmetries, Search.isLive, Search.setsAt, WellFormed.Respected}
 use Rattle.model.proofs.{Lists.T-of, Lists.at-set, Lists.at-set-other, Lists.at-ext, Lists.at-take, Members.has-0}
 use Rattle.order.specs.Order.{Ordering}
 use Rattle.order.proofs.LeadersBy.{ordering-below, below-at}
 use Rattle.block.specs.inner.BlockSets.{BlockIn}
 use Rattle.run_input.specs.inner.Compile.{WithinLimits}
-use Rattle.arrays.specs.inner.Places.{VARIABLES, VALUES, CONSTRAINTS, SYMMETRIES, LIMIT, ROOM, ORDER, BLOCK, PLANS, ALL, DEEPER, NUMBERS, STACK, TABLES, WORK}
+use Rattle.arrays.specs.inner.Places.{VARIABLES, VALUES, CONSTRAINTS, SYMMETRIES, LIMIT, ROOM, ORDER, BLOCK, ASKS, PLANS, ALL, DEEPER, NUMBERS, STACK, TABLES, WORK, DEPTH}
 use Rattle.arrays.specs.inner.Layout.{Numbers, Compiled}
 use Rattle.arrays_tables.specs.inner.Index.{Compact, Made}
 use Rattle.prune.specs.inner.Node.{Ready, Holds, Marked, Reached}
-use Rattle.run_state.specs.{Walk.noNodes, inner.Pair.prefixOf, inner.Pair.orderIn, inner.Pair.ownIn, inner.Pair.ListRoom, inner.Pair.AtPrefix}
+use Rattle.run_state.specs.{inner.Walk.noNodes, inner.Memo.entryAt, inner.Pair.prefixOf, inner.Pair.orderIn, inner.Pair.ownIn, inner.Pair.ListRoom, inner.Pair.AtPrefix}
+use Rattle.run_memo.specs.inner.Steps.{Cleared}
 use Rattle.run_state.proofs.{Prefix.prefix-zero, Written.order-taken, Walk.none-summed}
 use Rattle.run_task.specs.inner.Task.{ordered}
 use Rattle.run_task.proofs.Task.{ordered-other, length-ordered, ordered-at}
@@ -40,10 +41,10 @@ below-taken n bytes l h =
     (λ k m. let j : k < n = omega (arith, length-take-le n bytes l) in at-take n bytes k j ∙ h k j ∙ sym (below-at n k j))
 
 -- with no block, and the variables in their own order, p is laid alone
-pub laid-alone : (p : Problem) (numbers supports images bytes : List ℕ) → Compiled p numbers supports images → WithinLimits p → length numbers ≡ NUMBERS → (length bytes ≡ 16) ×
-    ((k : ℕ) → k < 16 → at bytes k ≡ k) →
-    Laid p p (below (p .variables)) numbers supports images bytes 0
-laid-alone p numbers supports images bytes c f long placed = record {
+pub laid-alone : (p : Problem) (numbers supports images bytes : List ℕ) → Compiled p numbers supports images → WithinLimits p → (asks : ℕ) →
+    ((asks ≡ 0 → ⊥) → Respected p) → length numbers ≡ NUMBERS → (length bytes ≡ 16) × ((k : ℕ) → k < 16 → at bytes k ≡ k) →
+    Laid p p (below (p .variables)) numbers supports images bytes 0 asks
+laid-alone p numbers supports images bytes c f asks respected long placed = record {
   compiled = c;
   limits = f;
   long = long;
@@ -58,26 +59,31 @@ laid-alone p numbers supports images bytes c f long placed = record {
     trade = λ x y l m o t u. absurd (has-0 x t);
   };
   block-few = λ x t. absurd (has-0 x t);
+  well = f .wellFormed;
+  respected = respected;
 }
 
 -- the search's tables are made
-module _ (p own : Problem) (order numbers supports images bytes : List ℕ) (positions : ℕ) (h : Laid p own order numbers supports images bytes positions) where
+module _ (p own : Problem) (order numbers supports images bytes : List ℕ) (positions asks : ℕ) (h : Laid p own order numbers supports images bytes positions asks) where
   abbrev fits : WithinLimits own
   fits = h .limits
 
   same-variables : p .variables ≡ own .variables
   same-variables = ap (λ (q : Problem). q .variables) (h .own-is)
 
-  -- the order and the block are put, then the search's tables are made
-  module _ (laid : List ℕ) (orders : laid ≡ set (ordered bytes 12 numbers) BLOCK positions) where
-    other : (i : ℕ) → (i ≡ BLOCK → ⊥) → at laid i ≡ at (ordered bytes 12 numbers) i
-    other i d = ap (λ (m : List ℕ). at m i) orders ∙ at-set-other (ordered bytes 12 numbers) BLOCK positions i d
+  -- the order, the block and whether the memo is asked are put, then the search's tables are made
+  module _ (laid : List ℕ) (orders : laid ≡ set (set (ordered bytes 12 numbers) BLOCK positions) ASKS asks) where
+    other : (i : ℕ) → (i ≡ BLOCK → ⊥) → (i ≡ ASKS → ⊥) → at laid i ≡ at (ordered bytes 12 numbers) i
+    other i d n =
+        ap (λ (m : List ℕ). at m i) orders ∙ at-set-other (set (ordered bytes 12 numbers) BLOCK positions) ASKS asks i n
+        ∙ at-set-other (ordered bytes 12 numbers) BLOCK positions i d
 
     before : (i : ℕ) → i < ORDER → at laid i ≡ at numbers i
-    before i l = other i (λ e. omega arith) ∙ ordered-other bytes 12 i numbers (λ j m e. omega arith)
+    before i l = other i (λ e. omega arith) (λ e. omega arith) ∙ ordered-other bytes 12 i numbers (λ j m e. omega arith)
 
     laid-long : length laid ≡ NUMBERS
-    laid-long = ap length orders ∙ length-set (ordered bytes 12 numbers) BLOCK positions ∙ length-ordered bytes 12 numbers ∙ h .long
+    laid-long = ap length orders ∙ length-set (set (ordered bytes 12 numbers) BLOCK positions) ASKS asks ∙ length-set (ordered bytes 12 numbers) BLOCK positions ∙ length-ordered bytes 12 numbers
+        ∙ h .long
 
     numbered : Numbers own laid
     numbered = numbers-kept own numbers laid (fits .wellFormed .few) (fits .constraints) (λ i l. before i (omega arith)) (h .compiled .numbered)
@@ -104,12 +110,19 @@ module _ (p own : Problem) (order numbers supports images bytes : List ℕ) (pos
 
       order-put : orderIn numbers′ (p .variables) ≡ order
       order-put = order-taken numbers′ bytes (p .variables) (let f = few in let e = h .bytes-length in omega arith)
-          (λ k l. made .kept (ORDER + k) (let f = few in omega arith) ∙ other (ORDER + k) (λ e. let f = few in omega arith) ∙ ordered-at bytes 12 k numbers (let e = h .long in omega arith)
+          (λ k l. made .kept (ORDER + k) (let f = few in omega arith) ∙ other (ORDER + k) (λ e. let f = few in omega arith) (λ e. let f = few in omega arith) ∙ ordered-at bytes 12 k numbers
+          (let e = h .long in omega arith)
           (let f = few in omega arith)) ∙ h .order-is
 
       at-block : positions ≡ at numbers′ BLOCK
-      at-block = sym (made .kept BLOCK (omega arith) ∙ ap (λ (m : List ℕ). at m BLOCK) orders ∙ at-set (ordered bytes 12 numbers) BLOCK positions
-          (let e = h .long in let l = length-ordered bytes 12 numbers in omega arith))
+      at-block =
+          sym (made .kept BLOCK (omega arith) ∙ ap (λ (m : List ℕ). at m BLOCK) orders ∙ at-set-other (set (ordered bytes 12 numbers) BLOCK positions) ASKS asks BLOCK (λ e. omega arith)
+          ∙ at-set (ordered bytes 12 numbers) BLOCK positions (let e = h .long in let l = length-ordered bytes 12 numbers in omega arith))
+
+      at-asks : at numbers′ ASKS ≡ asks
+      at-asks =
+          made .kept ASKS (omega arith) ∙ ap (λ (m : List ℕ). at m ASKS) orders ∙ at-set (set (ordered bytes 12 numbers) BLOCK positions) ASKS asks
+          (let e = h .long in let l = length-ordered bytes 12 numbers in let m = length-set (ordered bytes 12 numbers) BLOCK positions in omega arith)
 
       -- the arrays hold the first of the tree's symmetries
       own-in : ownIn p numbers′ ≡ own
@@ -127,15 +140,21 @@ module _ (p own : Problem) (order numbers supports images bytes : List ℕ) (pos
         work-length = lw;
       }
 
-      module _ (stack work stack′ work′ : List ℕ) (dead : Bool) (lent : Writable stack work tables) (q : Reached (ownIn p numbers′) (p .symmetries) [] 0 stack work stack′ work′ dead) where
+      module _ (stack entry work stack′ work′ : List ℕ) (dead : Bool) (lent : Writable stack entry tables) (cleared : Cleared entry work)
+          (q : Reached (ownIn p numbers′) (p .symmetries) [] 0 stack work stack′ work′ dead) where
         abbrev writable : Writable stack′ work′ tables′
-        writable = record { stack-length = q .stack-length ∙ lent .stack-length; work-length = q .work-length ∙ lent .work-length; tables-length = made .tables-length ∙ lent .tables-length }
+        writable = record {
+          stack-length = q .stack-length ∙ lent .stack-length;
+          work-length = q .work-length ∙ cleared .long ∙ lent .work-length;
+          tables-length = made .tables-length
+              ∙ lent .tables-length;
+        }
 
         -- the search may begin where the empty prefix is live
-        start : at numbers LIMIT < 2 ^ 32 → dead ≡ false → (list : List ℕ) → ListRoom (p .variables) (at numbers ROOM) list (at work PLANS)
+        start : at numbers LIMIT < 2 ^ 32 → dead ≡ false → (list : List ℕ) → ListRoom (p .variables) (at numbers ROOM) list (at entry PLANS)
             → AtPrefix p stack′ work′ supports tables′ numbers′ list noNodes 0
         start small e list roomy = record {
-          ready = ready stack′ work′ (q .stack-length ∙ lent .stack-length) (q .work-length ∙ lent .work-length);
+          ready = ready stack′ work′ (q .stack-length ∙ lent .stack-length) (q .work-length ∙ cleared .long ∙ lent .work-length);
           inner = subst (λ (n : ℕ). 0 < n) (sym same-variables) (fits .wellFormed .some);
           live = T-of (isLive p (prefixOf work′ 0)) (ap (isLive p) (prefix-zero work′) ∙ not-false (isLive p []) (sym (q .answers) ∙ e));
           held = subst (λ (t : List ℕ). Holds (ownIn p numbers′) stack′ 0 (setsAt p t)) (sym (prefix-zero work′)) (q .holds e);
@@ -144,28 +163,31 @@ module _ (p own : Problem) (order numbers supports images bytes : List ℕ) (pos
           allowed = omega arith;
           summed = none-summed;
           order = subst (Ordering (p .variables)) (sym order-put) (h .ordering);
-          room = subst₂ (λ (r k : ℕ). ListRoom (p .variables) r list k) (sym (first ROOM (omega arith))) (sym (q .kept PLANS (omega arith))) roomy;
+          room = subst₂ (λ (r k : ℕ). ListRoom (p .variables) r list k) (sym (first ROOM (omega arith))) (sym (q .kept PLANS (omega arith) ∙ cleared .before PLANS (omega arith))) roomy;
+          well = h .well;
+          respected = λ n. h .respected (λ z. n (at-asks ∙ z));
+          memo = λ i l n. absurd (n (q .beyond (entryAt i + DEPTH) (omega arith) ∙ cleared .empty i l));
         }
 
-        pub begun-dead : dead ≡ true → Begun p order numbers work stack′ work′ supports tables′ numbers′ ALL
+        pub begun-dead : dead ≡ true → Begun p order numbers entry stack′ work′ supports tables′ numbers′ ALL
         begun-dead e = record {
           dead = λ z. not-true (isLive p []) (sym (q .answers) ∙ e);
           known = λ z. absurd (z refl);
           order-is = order-put;
           first = first;
-          same = λ i l. q .kept i (omega arith);
+          same = λ i l. q .kept i (omega arith) ∙ cleared .before i (omega arith);
           live = λ z. absurd (omega arith);
           writable = writable;
           long = numbers-long;
         }
 
-        pub begun-live : dead ≡ false → Begun p order numbers work stack′ work′ supports tables′ numbers′ DEEPER
+        pub begun-live : dead ≡ false → Begun p order numbers entry stack′ work′ supports tables′ numbers′ DEEPER
         begun-live e = record {
           dead = λ z. absurd (omega arith);
           known = λ z. refl;
           order-is = order-put;
           first = first;
-          same = λ i l. q .kept i (omega arith);
+          same = λ i l. q .kept i (omega arith) ∙ cleared .before i (omega arith);
           live = λ z small list roomy. start small e list roomy;
           writable = writable;
           long = numbers-long;

@@ -6,7 +6,8 @@ use Rattle.model.specs.{Run.resultOf, Run.Tally, Sheet.problemOf}
 use Rattle.run_input.specs.Lent.{verdictLent, orderLent, problemLent}
 use Rattle.run_input.proofs.Lent.{well-sheet, ordering-lent}
 use Rattle.arrays.specs.inner.Places.{LIMIT, ROOM, PLANS, LAST, ALL, DEEPER, REFUSED, WANTED, DIAGONAL}
-use Rattle.run_state.specs.{Walk.noNodes, Walk.State, Walk.walk, Walk.stopIn, inner.Pair.prefixOf, inner.Pair.orderIn, inner.Pair.Cleared, inner.Pair.stateOf, inner.Pair.ListRoom}
+use Rattle.run_state.specs.{inner.Walk.noNodes, inner.Walk.State, inner.Walk.walk, inner.Walk.stopIn, inner.Pair.prefixOf, inner.Pair.orderIn, inner.Pair.Cleared, inner.Pair.stateOf}
+use Rattle.run_state.specs.inner.Pair.{ListRoom}
 use Rattle.run_state.specs.inner.Pair.{AtPrefix, AtValues, Walked, tried}
 use Rattle.run_task.specs.inner.Task.{roomFor}
 use Rattle.run_search.specs.{inner.Begun.Begun, inner.Begun.Ended, inner.Prepared.bytesFor, inner.Prepared.Prepared, inner.Explored.resultFor, inner.Explored.RunTo}

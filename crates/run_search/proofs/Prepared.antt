@@ -7,8 +7,9 @@ use Rattle.model.specs.Sheet.{problemOf}
 use Rattle.model.proofs.{Lists.at-set, Lists.at-set-other, Accepted.is-accepted}
 use Rattle.order.specs.Reordered.{reordered}
 use Rattle.block.specs.Block.{inLent}
-use Rattle.run_input.specs.{Lent.verdictLent, Lent.orderLent, Lent.problemLent, inner.Compile.WithinLimits, inner.Compile.CompiledLent}
-use Rattle.run_input.proofs.Blocked.{own-first, block-walked, block-inside}
+use Rattle.run_input.specs.{Lent.verdictLent, Lent.orderLent, Lent.problemWith, Lent.problemLent, inner.Compile.WithinLimits, inner.Compile.CompiledLent}
+use Rattle.order.proofs.Reordered.{well-reordered, respected-reordered}
+use Rattle.run_input.proofs.{Lent.well-lent, Lent.respected-lent, Lent.ordering-lent, Blocked.own-first, Blocked.block-walked, Blocked.block-inside}
 use Rattle.arrays.specs.inner.Places.{VARIABLES, LIMIT, ROOM, PLANS, NUMBER, ITEM, REFUSED, NUMBERS, WORK, WANTED}
 use Rattle.arrays.specs.inner.Layout.{Compiled}
 use Rattle.sheet.specs.{declared.Answer.Answer as Verdicts, declared.Answer.the-variants.Accepted}
@@ -60,7 +61,7 @@ module _ (b pairs block : List ℕ) (numbers supports images bytes : List ℕ) (
 
     -- what stands in the arrays then
     pub laid : (positions : ℕ) → Gathered (λ i. inLent block (at bytes i)) (at numbers VARIABLES) positions → Laid (problemLent b pairs block) sheets
-        (orderLent b pairs) bounded supports images bytes positions
+        (orderLent b pairs) bounded supports images bytes positions 1
     laid positions found =
         let g : Gathered (λ i. inLent block (at bytes i)) (problemOf b .variables) positions = subst (λ (n : ℕ). Gathered (λ i. inLent block (at bytes i)) n positions)
         (h₀ .numbered .variables) found in
@@ -74,6 +75,8 @@ module _ (b pairs block : List ℕ) (numbers supports images bytes : List ℕ) (
           own-is = ap (withSymmetries sheets) (own-first b pairs block);
           block = block-walked b pairs block good bytes (left .order-is is) positions g;
           block-few = block-inside b pairs block good bytes (left .order-is is) positions g;
+          well = well-reordered (problemWith b block) (orderLent b pairs) (ordering-lent b pairs block good) (well-lent b pairs block good);
+          respected = λ n. respected-reordered (problemWith b block) (orderLent b pairs) (ordering-lent b pairs block good) (well-lent b pairs block good) (respected-lent b pairs block good);
         }
 
 -- the room for plans of n bytes: in bytes, and in the list

@@ -1,5 +1,6 @@
 // The run on arrays that are lent: what is made of a sheet, pairs and a block before the search, and the search.
 use arrays::ALL;
+use arrays::ASKS;
 use arrays::DEEPER;
 use arrays::IMAGES;
 use arrays::ITEM;
@@ -20,7 +21,7 @@ ghost use Prim.Native.Nat.{ℕ};
 ghost use lib.ListN.{length};
 ghost use Rattle.model.specs.Problem.{Problem};
 ghost use Rattle.arrays.specs.inner.Places.{DEEPER};
-ghost use Rattle.run_state.specs.Walk.{noNodes};
+ghost use Rattle.run_state.specs.inner.Walk.{noNodes};
 ghost use Rattle.run_state.specs.inner.Pair.{AtPrefix};
 ghost use Rattle.run_state.specs.Meaning.{tallyIn};
 ghost use Rattle.run_search.specs.inner.Begun.{Laid, Writable, Begun, Ended};
@@ -28,7 +29,7 @@ ghost use Rattle.run_search.specs.inner.Prepared.{Blank, Prepared};
 ghost use Rattle.run_search.specs.inner.Explored.{Explored};
 
 // Makes all that the search reads of the compiled problem, whose limit and room stand among the numbers: ALL where the empty prefix is dead, else DEEPER.
-// `order` has the sheet's variable at each position, `positions` those of the block's variables.
+// `order` has the sheet's variable at each position, `positions` those of the block's variables; the memo is asked unless `asks` is 0.
 pub fn begin(
     stack: &mut Stack,
     work: &mut Work,
@@ -38,15 +39,18 @@ pub fn begin(
     images: &Images,
     order: &[u8; 16],
     positions: u64,
+    asks: u64,
 ) -> u8
-    requires { ⌜ ((p : Problem) × (own : Problem) × (by : List ℕ) × Laid p own by (now numbers) (now supports) (now images) (now order) positions)
+    requires { ⌜ ((p : Problem) × (own : Problem) × (by : List ℕ) × Laid p own by (now numbers) (now supports) (now images) (now order) positions asks)
         × Writable (now stack) (now work) (now tables) ⌝ }
     ensures { λ r. ⌜ ((p own : Problem) (by : List ℕ) → Laid p own by (now (numbers .entry)) (now (supports .entry)) (now (images .entry))
-        (now (order .entry)) positions → Begun p by (now (numbers .entry)) (now (work .entry)) (now (stack .exit)) (now (work .exit))
+        (now (order .entry)) positions asks → Begun p by (now (numbers .entry)) (now (work .entry)) (now (stack .exit)) (now (work .exit))
         (now (supports .entry)) (now (tables .exit)) (now (numbers .exit)) r) ⌝ }
 {
+    run_memo::clear(work);
     run_task::put_order(numbers, order);
     run_task::put_block(numbers, positions);
+    numbers[ASKS] = asks;
     arrays_tables::index(numbers, supports, images, tables);
     if prune::root(stack, work, supports, tables, numbers) {
         ALL
@@ -121,6 +125,7 @@ pub fn prepare(
                 &images,
                 &order,
                 positions,
+                1,
             )
         }
         sheet::Answer::Refused { number, item } => {

@@ -4,7 +4,7 @@ use Rattle.model.specs.Lists.{at}
 use Rattle.model.proofs.Lists.{at-set, at-set-other}
 use Rattle.order.specs.Reordered.{write}
 use Rattle.arrays.specs.inner.Places.{PLANS, ALL, FULL, WORK}
-use Rattle.run_state.specs.{Walk.noted, Walk.listed, inner.Pair.prefixOf, inner.Pair.ListRoom, inner.Pair.Listed}
+use Rattle.run_state.specs.{inner.Walk.noted, inner.Walk.listed, inner.Pair.prefixOf, inner.Pair.ListRoom, inner.Pair.Listed}
 use Rattle.run_state.proofs.Walk.{listed-full, listed-kept}
 
 module _ (n room : ℕ) (list : List ℕ) (plans : ℕ) (h : ListRoom n room list plans) (e : plans ≡ room → ⊥) where

@@ -11,7 +11,7 @@ use Rattle.model.proofs.{Lists.flat-append, Lists.map-append, Runs.turn, Runs.s
 use Rattle.order.specs.Reordered.{write}
 use Rattle.run_cut.specs.Parts.{lastOf}
 use Rattle.arrays.specs.inner.Places.{ALL, SPENT, FULL}
-use Rattle.run_state.specs.Walk.{withNode, noNodes, State, noted, kept, listed, counted, visit, walk, stopIn, tallyBy}
+use Rattle.run_state.specs.inner.Walk.{withNode, noNodes, State, noted, kept, listed, counted, visit, walk, stopIn, tallyBy}
 use Rattle.run_state.proofs.Walk.{listed-full, listed-kept, noted-none, noted-over, visit-spent, visit-other, visit-plan, walk-stopped, length-write}
 
 -- rows of n bytes

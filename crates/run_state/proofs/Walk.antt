@@ -5,7 +5,7 @@ use Rattle.model.proofs.{Written.length-placed, Lists.length-below, Tally.total
 use Rattle.model.specs.{Written.placed, Lists.at, Lists.total, Problem.Problem, Search.isPlan, Run.Tally, Run.settledBy}
 use Rattle.order.specs.Reordered.{position, write}
 use Rattle.arrays.specs.inner.Places.{ALL, FULL}
-use Rattle.run_state.specs.Walk.{withNode, noNodes, Summed, State, noted, listed, counted, exhausted, visit, walk}
+use Rattle.run_state.specs.inner.Walk.{withNode, noNodes, Summed, State, noted, listed, counted, exhausted, visit, walk}
 
 pub length-write : (order r : List ℕ) → length (write order r) ≡ length order
 unfolding write

@@ -21,7 +21,7 @@ ghost use Rattle.order.specs.Order.{Ordering};
 ghost use Rattle.order.specs.Reordered.{write};
 ghost use Rattle.arrays.specs.inner.Places.{VARIABLES, LIMIT, ROOM, PLANS, WORK};
 ghost use Rattle.arrays.specs.inner.Places.{DIAGONAL};
-ghost use Rattle.run_state.specs.Walk.{noted};
+ghost use Rattle.run_state.specs.inner.Walk.{noted};
 ghost use Rattle.run_state.specs.inner.Pair.{prefixOf, settling, orderIn, Countable, Counted, Cleared, ListRoom, Listed};
 ghost use Rattle.loans.specs.inner.Slices.{SameSlice};
 ghost use Rattle.run_state.specs.Meaning.{tallyIn};
@@ -70,6 +70,20 @@ pub fn nodes_made(t: &Tally) -> u32
     ensures { λ r. ⌜ r ≡ now (t .entry) .nodes ⌝ }
 {
     t.nodes
+}
+
+// What was counted, by value.
+pub fn counted(t: &Tally) -> Tally
+    ensures { λ r. ⌜ r ≡ now (t .entry) ⌝ }
+{
+    *t
+}
+
+// Sets a tally to what was counted.
+pub fn put_tally(t: &mut Tally, new: Tally)
+    ensures { λ _. ⌜ now (t .exit) ≡ new ⌝ }
+{
+    *t = new;
 }
 
 // Writes the first n numbers of `work`, each a byte, over the list from `start` on: a variable's value at the variable's number.

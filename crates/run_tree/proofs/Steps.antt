@@ -5,7 +5,7 @@ use Rattle.model.specs.{Search.nodesBelow, Run.settledBy}
 use Rattle.model.proofs.{Sets.members-of-none, Lowest.members-lowest, Lists.both-false}
 use Rattle.order.specs.Reordered.{write}
 use Rattle.arrays.specs.inner.Places.{ALL}
-use Rattle.run_state.specs.Walk.{State, listed, counted, exhausted, walk, nodesFor}
+use Rattle.run_state.specs.inner.Walk.{State, listed, counted, exhausted, walk, nodesFor}
 use Rattle.run_tree.proofs.Laws.{dead-below}
 use Rattle.run_state.proofs.Walk.{visit-spent, visit-other, visit-plan, walk-append, walk-stopped}
 

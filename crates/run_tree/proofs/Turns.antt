@@ -9,12 +9,15 @@ use Rattle.order.specs.{Order.Ordering, Reordered.write}
 use Rattle.arrays.specs.inner.Places.{VARIABLES, LIMIT, ROOM, PLANS, LAST, MARKS, ALL, SPENT, DEEPER, WORK, DIAGONAL}
 use Rattle.prune.specs.inner.Node.{Ready, Holds, Marked, AtNode, Reached, longer}
 use Rattle.prune.proofs.Marks.{marked-on}
-use Rattle.run_state.specs.{Walk.withNode, Walk.Summed, Walk.State, Walk.listed, Walk.counted, Walk.walk, Walk.nodesFor, inner.Pair.prefixOf, inner.Pair.settling}
+use Rattle.run_state.specs.{inner.Walk.withNode, inner.Walk.Summed, inner.Walk.State, inner.Walk.listed, inner.Walk.counted, inner.Walk.walk, inner.Walk.nodesFor, inner.Pair.prefixOf}
+use Rattle.run_state.specs.inner.Pair.{settling}
 use Rattle.run_state.specs.inner.Pair.{orderIn, ownIn, stateOf, ListRoom, Listed, AtPrefix, AtValues, AtValue, Walked, Entered, tried, lowestNode, lowestTried}
-use Rattle.run_tree.proofs.{Laws.live-values, Steps.below-is, Steps.step-none, Steps.step, Steps.step-spent, Steps.node-dead, Steps.node-plan, Steps.node-inner}
+use Rattle.run_state.specs.inner.Memo.{Remembers}
+use Rattle.run_tree.proofs.{Steps.below-is, Steps.step-none, Steps.step, Steps.step-spent, Steps.node-dead, Steps.node-plan, Steps.node-inner}
 use Rattle.run_tree.proofs.Steps.{node-then}
 use Rattle.run_state.proofs.{Walk.Fits, Walk.walk-fits, Walk.walk-stopped, Walk.summed-more, Prefix.length-prefix, Prefix.prefix-at, Prefix.prefix-ext, Prefix.prefix-take}
-use Rattle.run_state.proofs.{Prefix.prefix-snoc, Written.order-at, Written.length-order, Written.settling-inside}
+use Rattle.run_state.proofs.{Prefix.prefix-snoc, Memo.Stay, Memo.memo-stays, Memo.memo-on, Written.order-at, Written.length-order, Written.settling-inside}
+use Rattle.run_memo.proofs.{Walks.live-values, Copies.listed-stay}
 
 -- the arrays still hold p where what was lent kept its length
 pub ready-on : {p : Problem} {gs : List (List ℕ)} {stack work supports tables numbers stack′ work′ : List ℕ} → Ready p gs stack work supports tables numbers → length stack′ ≡ length stack
@@ -69,6 +72,9 @@ module _ (p : Problem) (stack work supports tables numbers list : List ℕ) (tal
       listed = fits .roomy;
       small = h .room .small;
     };
+    well = h .well;
+    respected = h .respected;
+    memo = d .memo;
   }
 
 module _ (p : Problem) (stack work supports tables numbers list : List ℕ) (tally : Tally) (k m : ℕ) (h : AtValues p stack work supports tables numbers list tally k m) where
@@ -99,6 +105,7 @@ module _ (p : Problem) (stack work supports tables numbers list : List ℕ) (tal
     marks = λ i l u. refl;
     stack-length = refl;
     work-length = refl;
+    memo = h .prefix .memo;
   }
 
   module _ (some : 0 < m) (small : m < 2 ^ 16) where
@@ -117,6 +124,7 @@ module _ (p : Problem) (stack work supports tables numbers list : List ℕ) (tal
       marks = λ i l u. refl;
       stack-length = refl;
       work-length = refl;
+      memo = h .prefix .memo;
     }
 
     module _ (stack′ work′ list′ : List ℕ) (tally′ : Tally) (stop : ℕ) (d : Walked p (lowestTried p work k m) stack work numbers list tally k stack′ work′ list′ tally′ stop) where
@@ -134,6 +142,7 @@ module _ (p : Problem) (stack work supports tables numbers list : List ℕ) (tal
         marks = d .marks;
         stack-length = d .stack-length;
         work-length = d .work-length;
+        memo = d .memo;
       }
 
       pub turn-asks : AtValues p stack′ work′ supports tables numbers list′ tally′ k more
@@ -155,6 +164,7 @@ module _ (p : Problem) (stack work supports tables numbers list : List ℕ) (tal
         marks = λ i l u. w .marks i l u ∙ d .marks i l u;
         stack-length = w .stack-length ∙ d .stack-length;
         work-length = w .work-length ∙ d .work-length;
+        memo = w .memo;
       }
 
 -- ---- `settle`'s values from the sets: all values of the variable's set are to be tried
@@ -255,6 +265,11 @@ module _ (p : Problem) (stack work supports tables numbers list : List ℕ) (tal
     work-length₂ : length work₂ ≡ length work
     work-length₂ = q .work-length ∙ length-put
 
+    memo₂ : Remembers p (ownIn p numbers) (orderIn numbers (p .variables)) work₂ list
+    memo₂ =
+        let f = early in
+        memo-on p (ownIn p numbers) (orderIn numbers (p .variables)) work work₂ list (λ i l. q .beyond i (omega arith) ∙ kept i (λ e. omega arith) (λ e. omega arith)) plans₂ (h .memo)
+
     node₂ : prefixOf work₂ (k + 1) ≡ here
     node₂ =
         ap (prefixOf work₂) (add-one k)
@@ -294,6 +309,7 @@ module _ (p : Problem) (stack work supports tables numbers list : List ℕ) (tal
         marks = marks₂;
         stack-length = q .stack-length;
         work-length = work-length₂;
+        memo = memo₂;
       };
       next = λ z. absurd (omega arith);
       then = λ z. absurd (omega arith);
@@ -336,11 +352,19 @@ module _ (p : Problem) (stack work supports tables numbers list : List ℕ) (tal
         marks = λ i l u. w .others i (λ e. omega arith) ∙ marks₂ i l u;
         stack-length = q .stack-length;
         work-length = w .work-length ∙ work-length₂;
+        memo = memo-stays p (ownIn p numbers) (orderIn numbers (p .variables)) work₂ list work₃ list₃ (λ i l. w .others i (λ e. omega arith)) stay memo₂;
       };
       next = λ z. absurd (let l = w .known in omega arith);
       then = λ z. absurd (let l = w .known in omega arith);
     }
       where
+        variables : at numbers VARIABLES ≡ p .variables
+        variables = h .ready .indexed .numbered .variables
+
+        stay : Stay (p .variables) work₂ list work₃ list₃
+        stay = subst (λ (j : ℕ). Stay j work₂ list work₃ list₃) variables
+            (listed-stay (at numbers VARIABLES) (at numbers ROOM) (orderIn numbers (at numbers VARIABLES)) work₂ list work₃ list₃ stop plan-asks (length-order numbers (at numbers VARIABLES)) w)
+
         last₃ : prefixOf work₃ (at work₃ LAST) ≡ prefixOf work₂ (at work₂ LAST)
         last₃ =
             ap (prefixOf work₃) (w .others LAST (λ e. omega arith))
@@ -359,6 +383,9 @@ module _ (p : Problem) (stack work supports tables numbers list : List ℕ) (tal
       summed = summed₂;
       order = h .order;
       room = room₂;
+      well = h .well;
+      respected = h .respected;
+      memo = memo₂;
     }
 
     pub entered-inner : dead ≡ false → (k + 1 ≡ p .variables → ⊥) → Out stack₂ work₂ list DEEPER
@@ -377,6 +404,7 @@ module _ (p : Problem) (stack work supports tables numbers list : List ℕ) (tal
         marks = λ i l u. w .marks i l (omega arith) ∙ marks₂ i l u;
         stack-length = w .stack-length ∙ q .stack-length;
         work-length = w .work-length ∙ work-length₂;
+        memo = w .memo;
       };
     }
 
@@ -396,6 +424,7 @@ module _ (p : Problem) (stack work supports tables numbers list : List ℕ) (tal
       marks = λ i l u. w .marks i l (omega arith) ∙ marks₂ i l u;
       stack-length = w .stack-length ∙ q .stack-length;
       work-length = w .work-length ∙ work-length₂;
+      memo = w .memo;
     }
 
 -- ---- the measures: variables left, then values left, then whether a value is tried

@@ -7,6 +7,7 @@ use arrays::SPENT;
 use arrays::Stack;
 use arrays::Supports;
 use arrays::Tables;
+use arrays::VAIN;
 use arrays::VARIABLES;
 use arrays::Work;
 use model::ValueSet;
@@ -92,7 +93,8 @@ pub fn settle(
     )
 }
 
-// Walks along the node of the lowest of the values m of variable k and those below it, which are the next variable's.
+// Walks along the node of the lowest of the values m of variable k and those below it, which are the next variable's; those whose like the memo keeps are
+// passed by.
 fn try_value(
     stack: &mut Stack,
     work: &mut Work,
@@ -117,18 +119,44 @@ fn try_value(
     if step != DEEPER {
         return step;
     }
-    let values = run_state::candidates(stack, k + 1);
-    settle(
+    let d = k + 1;
+    let all = run_state::candidates(stack, d);
+    let turn = run_memo::turn(work, numbers, run_state::nodes_made(tally), d, all);
+    if turn == 0 {
+        return settle(stack, work, supports, tables, numbers, list, tally, d, all);
+    }
+    let before = run_state::counted(tally);
+    let place = run_memo::visit(
         stack,
         work,
-        supports,
-        tables,
         numbers,
         list,
-        tally,
-        k + 1,
-        values,
-    )
+        before,
+        before,
+        turn,
+        0,
+        d,
+        DEEPER,
+    );
+    if place < VAIN {
+        run_state::put_tally(tally, run_memo::grown(work, before, place));
+        return ALL;
+    }
+    let stop = settle(stack, work, supports, tables, numbers, list, tally, d, all);
+    let after = run_state::counted(tally);
+    run_memo::visit(
+        stack,
+        work,
+        numbers,
+        list,
+        before,
+        after,
+        turn,
+        place,
+        d,
+        stop,
+    );
+    stop
 }
 
 // How a part of a run stopped, and what was counted by then.

@@ -1,5 +1,4 @@
 -- What the arrays of a compiled problem hold. The questions fill them once, and the search reads nothing else of the sheet.
---
 use Rattle.model.specs.Kit.{_≡_, List, [], _∷_, _++_, ℕ, suc, _+_, _*_, _/_, _%_, _^_, _≤_, _<_, length, eqb}
 use Rattle.model.specs.{Lists.any, Lists.at, Lists.same, ValueSets.has, ValueSets.maskOf, Problem.Problem, Problem.pair, Problem.constraintAt, Problem.symmetryAt}
 use Rattle.arrays.specs.inner.Places.{INITIAL, SCOPES, VARIABLES, VALUES, CONSTRAINTS, SYMMETRIES}

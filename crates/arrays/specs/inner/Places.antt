@@ -18,7 +18,7 @@ abbrev pub STACK : ℕ
 STACK = 208
 
 abbrev pub WORK : ℕ
-WORK = 256
+WORK = 3072
 
 -- the set of variable k at depth k stands at DIAGONAL * k of the stack
 abbrev pub DIAGONAL : ℕ
@@ -57,6 +57,9 @@ ORDER = 70
 
 abbrev pub BLOCK : ℕ
 BLOCK = 82
+
+abbrev pub ASKS : ℕ
+ASKS = 83
 
 abbrev pub LINKED : ℕ
 LINKED = 84
@@ -104,6 +107,52 @@ MARKS = 16
 
 abbrev pub WANTED : ℕ
 WANTED = 224
+
+abbrev pub IDLE : ℕ
+IDLE = 240
+
+abbrev pub MEMO : ℕ
+MEMO = 256
+
+-- ---- an entry of the memo
+abbrev pub ENTRY : ℕ
+ENTRY = 44
+
+abbrev pub ENTRIES : ℕ
+ENTRIES = 64
+
+abbrev pub DEPTH : ℕ
+DEPTH = 0
+
+abbrev pub LOW : ℕ
+LOW = 1
+
+abbrev pub GOOD : ℕ
+GOOD = 2
+
+abbrev pub NODES : ℕ
+NODES = 3
+
+abbrev pub LENGTH : ℕ
+LENGTH = 4
+
+abbrev pub ROWS : ℕ
+ROWS = 5
+
+abbrev pub FIRST : ℕ
+FIRST = 6
+
+abbrev pub SETS : ℕ
+SETS = 8
+
+abbrev pub ENDS : ℕ
+ENDS = 20
+
+abbrev pub COUNTS : ℕ
+COUNTS = 32
+
+abbrev pub VAIN : ℕ
+VAIN = 4096
 
 -- ---- marks
 abbrev pub ENTAILED : ℕ

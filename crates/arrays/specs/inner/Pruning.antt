@@ -1,5 +1,4 @@
 -- What the parts of pruning say of sixteen sets at hand, of which the first are those of p's variables.
---
 use Rattle.model.specs.Kit.{_≡_, false, List, ℕ, _<_, T, take}
 use Rattle.model.specs.{Lists.at, ValueSets.has, ValueSets.anyEmpty, ValueSets.Inside, Problem.Problem, Problem.Constraint, Search.supported, inner.Pruning.Sets}
 use Rattle.model.specs.inner.Pruning.{Prunes}

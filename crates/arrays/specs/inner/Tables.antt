@@ -1,5 +1,4 @@
 -- What the search reads besides the arrays of Layout: tables that are made once from them, before the first node.
---
 use Rattle.model.specs.Kit.{_≡_, Bool, true, false, not, List, [], _∷_, ℕ, _+_, _*_, _%_, _^_, _<_, length, T, eqb, ltb, leb}
 use Rattle.model.specs.{Lists.any, Lists.at, Lists.keep, Lists.same, Lists.both, Lists.either, ValueSets.has, ValueSets.maskOf, ValueSets.members, ValueSets.least, Problem.Problem}
 use Rattle.model.specs.Problem.{constraintAt, symmetryAt}
@@ -50,15 +49,19 @@ pub record UnionOf (m : ℕ) (lane : ℕ → ℕ → ℕ) (r : ℕ) : Type 0 whe
 abbrev pub Spreads : List ℕ → Type 0
 Spreads numbers = (b j w : ℕ) → b < 256 → j < 8 → w < 8 → has (at numbers (SPREAD + b)) (8 * j + w) ≡ has b j
 
+-- the values of the second variable that go together with u of the first and w of the third in constraint k
+abbrev pub between : List ℕ → ℕ → ℕ → ℕ → ℕ
+between supports k w u = maskOf (λ v. has (at supports (256 * k + 16 * u + v)) w)
+
 -- `numbers`: these where some constraint is on three variables (the first byte of its packed scope); and for each such constraint, each
--- half of eight values and each set of four the unions of support sets, of the first variable's values in lanes by the second's, and of the second
--- variable's values in lanes by the first's
+-- half of eight values and each set of four, in lanes by the first variable's values, the unions of what goes together with the second variable's
+-- values, sets of the third's, and of what goes together with the third's, sets of the second's
 pub record Words (numbers supports : List ℕ) : Type 0 where
   pub spread : (k : ℕ) → k < 32 → at numbers (SCOPES + k) % 256 ≡ 3 → Spreads numbers
-  pub by-first : (k h m : ℕ) → k < 32 → at numbers (SCOPES + k) % 256 ≡ 3 → h < 2 → m < 16 →
-      UnionOf m (λ i j. at supports (256 * k + 16 * (4 * h + i) + j)) (at numbers (UNIONS + 64 * k + 16 * h + m))
   pub by-second : (k h m : ℕ) → k < 32 → at numbers (SCOPES + k) % 256 ≡ 3 → h < 2 → m < 16 →
-      UnionOf m (λ i j. at supports (256 * k + 16 * j + (4 * h + i))) (at numbers (UNIONS + 64 * k + 32 + 16 * h + m))
+      UnionOf m (λ i j. at supports (256 * k + 16 * j + (4 * h + i))) (at numbers (UNIONS + 64 * k + 16 * h + m))
+  pub by-third : (k h m : ℕ) → k < 32 → at numbers (SCOPES + k) % 256 ≡ 3 → h < 2 → m < 16 →
+      UnionOf m (λ i j. between supports k (4 * h + i) j) (at numbers (UNIONS + 64 * k + 32 + 16 * h + m))
 
 -- ---- constraints on three variables, by look-ups
 -- constraint c is on three variables, and the second is the last of the first k

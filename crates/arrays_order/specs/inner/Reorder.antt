@@ -1,5 +1,4 @@
 -- Reordering the compiled problem: what the crate's function asks and leaves.
---
 use Rattle.model.specs.Kit.{_≡_, List, ℕ, _≤_, length, take}
 use Rattle.model.specs.{Lists.at, Problem.Problem, WellFormed.WellFormed}
 use Rattle.order.specs.{Order.Ordering, Reordered.reordered}

@@ -1,10 +1,9 @@
 -- What the functions inside this crate say to each other.
---
 use Rattle.model.specs.Kit.{_≡_, Bool, true, false, List, [], _∷_, ℕ, _+_, _*_, _/_, _%_, _^_, _≤_, _<_, T, eqb, ltb, leb, length, set}
 use Rattle.model.specs.{Lists.any, Lists.at, Lists.keep, Lists.same, Lists.either, ValueSets.has, ValueSets.maskOf, ValueSets.members, Problem.Problem, Problem.constraintAt}
 use Rattle.model.specs.WellFormed.{WellFormed}
 use Rattle.arrays.specs.inner.Places.{INITIAL, SCOPES, VARIABLES, VALUES, CONSTRAINTS, LINKED, LOOSE, SPREAD, UNIONS, SMALLER, OWN}
-use Rattle.arrays.specs.{inner.Layout.Numbers, inner.Layout.Supports, inner.Tables.linkOf, inner.Tables.Linked, inner.Tables.Words}
+use Rattle.arrays.specs.{inner.Layout.Numbers, inner.Layout.Supports, inner.Tables.linkOf, inner.Tables.Linked, inner.Tables.Words, inner.Tables.between}
 
 -- the initial set of variable x
 abbrev pub initialOf : List ℕ → ℕ → ℕ
@@ -15,10 +14,14 @@ initialOf numbers x = at numbers (INITIAL + x) % 65536
 abbrev pub Lanes : (ℕ → ℕ) → ℕ → Type 0
 Lanes sets r = (v w : ℕ) → v < 8 → w < 8 → has r (8 * v + w) ≡ has (sets v) w
 
--- number n of constraint k's sixteen: eight of the first variable's values in lanes by the second's, eight of the second's in lanes by the first's
+-- number n of constraint k's sixteen, in lanes by the first variable's values: eight of the second's values, eight of the third's
 pub record Word (supports : List ℕ) (k n r : ℕ) : Type 0 where
-  pub first : n / 8 ≡ 0 → Lanes (λ v. at supports (256 * k + 16 * (n % 8) + 1 * v)) r
-  pub second : n / 8 ≡ 1 → Lanes (λ v. at supports (256 * k + n % 8 + 16 * v)) r
+  pub second : n / 8 ≡ 0 → Lanes (λ u. at supports (256 * k + n % 8 + 16 * u)) r
+  pub third : n / 8 ≡ 1 → Lanes (between supports k (n % 8)) r
+
+-- bit v of each lane is bit w of that lane of number v
+abbrev pub Turned : (ℕ → ℕ) → ℕ → ℕ → Type 0
+Turned words w r = (u v : ℕ) → u < 8 → v < 8 → has r (8 * u + v) ≡ has (words v) (8 * u + w)
 
 -- the union of those of four numbers that are in m
 pub record United (m : ℕ) (words : ℕ → ℕ) (r : ℕ) : Type 0 where

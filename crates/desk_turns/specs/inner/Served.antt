@@ -3,7 +3,7 @@ use Rattle.model.specs.Kit.{_≡_, List, ℕ, _+_, _^_, _≤_, _<_, eqb, length
 use Rattle.model.specs.{Lists.at, Lists.flat, Lists.choose, Problem.Problem, Sheet.problemOf, Written.placed, Run.nodesIn, Run.Result, Run.Tally, Run.settledBy, Run.countsBy}
 use Rattle.arrays.specs.inner.Places.{PLANS, LAST}
 use Rattle.run_cut.specs.Parts.{goOn, madeIn, lastAfter}
-use Rattle.run_state.specs.{inner.Pair.prefixOf, Walk.stopIn}
+use Rattle.run_state.specs.{inner.Pair.prefixOf, inner.Walk.stopIn}
 use Rattle.desk.specs.{Places.LIST, Places.LIST-PLANS, Queue.Job, Queue.listRoom, Queue.given, Queue.due, Queue.dueAt, Layout.slotPlace, Layout.sheetAt, Layout.jobAt}
 use Rattle.desk.specs.Layout.{slotOf, standingByte, withRun}
 use Rattle.desk_turns.specs.declared.serve.Served.{Served}

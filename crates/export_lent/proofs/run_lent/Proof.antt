@@ -2,7 +2,7 @@
 use Rattle.model.specs.Kit.{refl, sym, ap, _∙_, List, _++_, ℕ, needs}
 use Rattle.model.specs.Run.{refusal, ended}
 use Rattle.run_input.specs.Lent.{verdictLent}
-use Rattle.run_state.specs.{Meaning.tallyIn, Meaning.endingOf, Walk.noNodes}
+use Rattle.run_state.specs.{Meaning.tallyIn, Meaning.endingOf, inner.Walk.noNodes}
 use Rattle.run.specs.Meaning.{means}
 use Rattle.export_run.specs.Run.{endingBytes}
 use Rattle.export_counts.specs.Tallied.{numbersOf}

@@ -1,5 +1,4 @@
 -- What the functions that count families are lent, of which problem.
---
 use Rattle.model.specs.Kit.{_≡_, List, ℕ, zero, suc, _+_, _-_, _*_, _/_, _%_, _^_, _≤_, _<_, length, T}
 use Rattle.model.specs.{Lists.at, Problem.Problem, Problem.isSolution, WellFormed.WellFormed, WellFormed.Respected}
 use Rattle.arrays.specs.inner.Layout.{Images}

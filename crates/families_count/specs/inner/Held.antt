@@ -1,9 +1,10 @@
 -- What the functions are lent and leave.
 use Rattle.model.specs.Kit.{_≡_, List, ℕ, _*_, _≤_, _<_, length, take}
-use Rattle.model.specs.{Lists.at, Problem.Problem, Verdict.accepted, Sheet.verdictOf, Sheet.problemOf, Run.plansIn, Run.nodesIn, Run.resultOf, Run.written, Run.Tally}
+use Rattle.model.specs.{Lists.at, Problem.Problem, WellFormed.Respected, Verdict.accepted, Sheet.verdictOf, Sheet.problemOf, Run.plansIn, Run.nodesIn, Run.resultOf, Run.written}
+use Rattle.model.specs.Run.{Tally}
 use Rattle.run_input.specs.{Lent.verdictLent, Lent.problemLent, inner.Compile.WithinLimits}
 use Rattle.arrays.specs.{inner.Places.LIMIT, inner.Places.PLANS, inner.Places.NUMBERS, inner.Layout.Compiled}
-use Rattle.run_state.specs.Walk.{stopIn}
+use Rattle.run_state.specs.inner.Walk.{stopIn}
 use Rattle.run_search.specs.inner.Begun.{Writable}
 use Rattle.run.specs.Calls.{Call}
 use Rattle.families_figure.specs.Figure.{reportFigure}
@@ -24,6 +25,7 @@ pub record Roomy (b : List ℕ) (n : ℕ) (list : List ℕ) : Type 0 where
 pub record Runs (p : Problem) (stack work supports tables numbers images list : List ℕ) : Type 0 where
   pub compiled : Compiled p numbers supports images
   pub limits : WithinLimits p
+  pub respected : Respected p
   pub long : length numbers ≡ NUMBERS
   pub writable : Writable stack work tables
   pub begun : at work PLANS ≡ 0

@@ -1,5 +1,4 @@
 -- What the functions of the crate say to each other: what one entry does to the sets, and what the entries passed so far come to.
---
 use Rattle.model.specs.Kit.{_≡_, Bool, true, false, List, ℕ, _^_, _≤_, _<_, length, set, take, T, eqb}
 use Rattle.model.specs.{Lists.any, Lists.at, ValueSets.withoutMask, ValueSets.onlyMask, ValueSets.Inside, Nogood.Entry, Nogood.equality, Nogood.disequality, Nogood.obeying}
 use Rattle.model.specs.Nogood.{filtered, endingBy, filterEnding}

@@ -1,5 +1,4 @@
 -- Loops over the first numbers: each turn stores one number, or unites a set with one member more.
---
 use Rattle.model.specs.Kit.{_≡_, Bool, List, ℕ, _<_, ltb, length}
 use Rattle.model.specs.{Lists.both, Lists.at, ValueSets.has}
 

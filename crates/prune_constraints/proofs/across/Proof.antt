@@ -1,9 +1,9 @@
--- The first two sets each along the lanes by its variable, the third along those by the second. Assumes nothing.
+-- All three sets along the lanes by the first variable. Assumes nothing.
 use Rattle.model.specs.Kit.{refl, subst, List, ℕ, _<_, arith, needs}
 use Rattle.model.specs.Lists.{at}
 use Rattle.arrays.specs.inner.Tables.{Spreads, Words}
 use Rattle.prune_constraints.specs.inner.Lanes.{LaneUnion, InLanes}
-use Rattle.prune_constraints.proofs.{Scopes.of-three, Unions.of-first, Unions.of-second, Unions.union-both, Stores.three-same, across.Statement.statement}
+use Rattle.prune_constraints.proofs.{Scopes.of-three, Unions.of-second, Unions.of-third, Unions.union-both, Stores.three-same, across.Statement.statement}
 use Rattle.prune_constraints.proofs.across.Tie as tie
 
 inside : (c : tie.Start) → (c .args .x < 16) × (c .args .y < 16) × (c .args .z < 16)
@@ -14,36 +14,35 @@ spread : (c : tie.Start) → Spreads (c .args .numbers .now)
 unfolding at
 spread c = let q = c .pre .1 .0 in q .1 .spread _ (q .4 .room) (q .2)
 
--- the lanes by the first variable
-first-lanes : (c : tie.After-in-lanes) → let d = c .before .before .before .before .args in (su : List ℕ) → Words (d .numbers .now) su → InLanes (at (d .sets .now) (d .y))
-    (at (d .sets .now) (d .x)) (at (d .sets .now) (d .z)) (of-second su (d .k)) (c .in-lanes .result)
+-- by the second variable's values
+seconds : (c : tie.After-in-lanes) → let d = c .before .before .before .before .args in (su : List ℕ) → Words (d .numbers .now) su → InLanes (at (d .sets .now) (d .y)) (at (d .sets .now) (d .x))
+    (at (d .sets .now) (d .z)) (of-second su (d .k)) (c .in-lanes .result)
 unfolding at
-first-lanes c su w = let d = c .before .before .before .before in c .in-lanes .ensures (of-second su (d .args .k)) (λ h m. w .by-second (d .args .k) h m (d .pre .1 .0 .4 .room) (d .pre .1 .0 .2))
+seconds c su w = let d = c .before .before .before .before in c .in-lanes .ensures (of-second su (d .args .k)) (λ h m. w .by-second (d .args .k) h m (d .pre .1 .0 .4 .room) (d .pre .1 .0 .2))
 
--- those by the second
-second-lanes : (c : tie.After-in-lanes2) → let d = c .before .before .before .before .before .args in (su : List ℕ) → Words (d .numbers .now) su → InLanes (at (d .sets .now) (d .x))
-    (at (d .sets .now) (d .y)) (at (d .sets .now) (d .z)) (of-first su (d .k)) (c .in-lanes2 .result)
+-- by the third's
+thirds : (c : tie.After-in-lanes2) → let d = c .before .before .before .before .before .args in (su : List ℕ) → Words (d .numbers .now) su → InLanes (at (d .sets .now) (d .z))
+    (at (d .sets .now) (d .x)) (at (d .sets .now) (d .y)) (of-third su (d .k)) (c .in-lanes2 .result)
 unfolding at
-second-lanes c su w = let d = c .before .before .before .before .before in c .in-lanes2 .ensures (of-first su (d .args .k))
-    (λ h m. w .by-first (d .args .k) h m (d .pre .1 .0 .4 .room) (d .pre .1 .0 .2))
+thirds c su w = let d = c .before .before .before .before .before in c .in-lanes2 .ensures (of-third su (d .args .k)) (λ h m. w .by-third (d .args .k) h m (d .pre .1 .0 .4 .room) (d .pre .1 .0 .2))
 
-mul-t14 : tie.Need-mul-t14
-mul-t14 c = omega (arith, inside c)
+mul-t15 : tie.Need-mul-t15
+mul-t15 c = omega (arith, inside c)
 
-element-copy-out-t17 : tie.Need-element-copy-out-t17
-element-copy-out-t17 c = inside c .0
+element-copy-out-t18 : tie.Need-element-copy-out-t18
+element-copy-out-t18 c = inside c .0
 
-mul-t14-2 : tie.Need-mul-t14-2
-mul-t14-2 c = omega (arith, inside (c .before))
+mul-t15-2 : tie.Need-mul-t15-2
+mul-t15-2 c = omega (arith, inside (c .before))
 
-element-copy-out-t17-2 : tie.Need-element-copy-out-t17-2
-element-copy-out-t17-2 c = inside (c .before) .1
+element-copy-out-t18-2 : tie.Need-element-copy-out-t18-2
+element-copy-out-t18-2 c = inside (c .before) .1
 
-mul-t14-3 : tie.Need-mul-t14-3
-mul-t14-3 c = omega (arith, inside (c .before .before))
+mul-t15-3 : tie.Need-mul-t15-3
+mul-t15-3 c = omega (arith, inside (c .before .before))
 
-element-copy-out-t17-3 : tie.Need-element-copy-out-t17-3
-element-copy-out-t17-3 c = inside (c .before .before) .2
+element-copy-out-t18-3 : tie.Need-element-copy-out-t18-3
+element-copy-out-t18-3 c = inside (c .before .before) .2
 
 in-lanes-requires : tie.Need-in-lanes-requires
 unfolding at
@@ -51,26 +50,22 @@ in-lanes-requires c κs = let d = c .before .before .before in let h = d .pre .1
 
 in-lanes-requires-2 : tie.Need-in-lanes-requires-2
 unfolding at
-in-lanes-requires-2 c κs = let d = c .before .before .before .before in (omega (arith, d .pre .1 .0 .4 .room), (d .pre .1 .1 .1, spread d))
+in-lanes-requires-2 c κs = let d = c .before .before .before .before in let h = d .pre .1 .1 .1 in (omega (arith, d .pre .1 .0 .4 .room), ((h .2, h .0, h .1), spread d))
 
 fills-requires : tie.Need-fills-requires
 unfolding at
-fills-requires c κs = let d = c .before .before .before .before .before .before in (d .pre .1 .1 .1 .0, spread d)
-
-fills-requires-2 : tie.Need-fills-requires-2
-unfolding at
-fills-requires-2 c κs = let d = c .before .before .before .before .before .before .before .before in (d .pre .1 .1 .1 .1, spread d)
+fills-requires c κs = let d = c .before .before .before .before .before .before .before in (d .pre .1 .1 .1 .0, spread d)
 
 returns : tie.Need-returns
 unfolding at
 returns c =
-    let o = c .before .before .before .before .before .before .before in
-    let d = o .before .before .before .before .before .before in
+    let f = c .before .before .before .before .before .before .before in
+    let o = f .before .before .before in
+    let d = o .before .before .before .before .before in
     let h = d .pre .1 .1 .1 in λ e su w q.
-    three-same q _ (d .pre .0) _ _ _ (d .pre .0 .1 _) (d .pre .0 .1 _) (d .pre .0 .1 _) (union-both su _ _ _ _ (h .1) (h .2) (second-lanes (o .before) su w)
-    (c .before .before .before .before .fills2 .ensures (c .before .before .before .if2 .taken)) (subst (LaneUnion _) (c .if3 .taken) (o .union-of .ensures)) (h .0)
-    (first-lanes (o .before .before) su w) (c .before .before .before .before .before .before .fills .ensures (c .before .before .before .before .before .if1 .taken))) refl refl refl
-    (d .pre .1 .1 .0)
+    three-same q _ (d .pre .0) _ _ _ (d .pre .0 .1 _) (d .pre .0 .1 _) (d .pre .0 .1 _) (union-both su _ _ _ _ (h .1) (h .0) (h .2) (seconds (o .before) su w) (thirds o su w)
+    (f .fills .ensures (c .before .before .before .before .before .before .if1 .taken)) (subst (LaneUnion _) (c .before .before .before .if2 .taken) (f .before .before .union-of .ensures))
+    (subst (LaneUnion _) (c .if3 .taken) (f .before .union-of2 .ensures))) refl refl refl (d .pre .1 .1 .0)
 
 leave-requires : tie.Need-leave-requires
 unfolding at
@@ -79,16 +74,16 @@ leave-requires c κs = let d = c .before .before .before .before .before .before
 returns-2 : tie.Need-returns-2
 unfolding at
 returns-2 c =
-    let o = c .before .before .before .before .before .before in
-    let d = o .before .before .before .before .before .before in
+    let o = c .before .before .before .before .before .before .before in
+    let d = o .before .before .before .before .before in
     let h = d .pre .1 .1 .1 in λ e su w q.
-    c .leave .ensures _ _ _ q (union-both su _ _ _ _ (h .1) (h .2) (second-lanes (o .before) su w) (c .before .before .full-lanes2 .ensures) (o .union-of .ensures) (h .0)
-    (first-lanes (o .before .before) su w) (c .before .before .before .full-lanes .ensures))
+    c .leave .ensures _ _ _ q (union-both su _ _ _ _ (h .1) (h .0) (h .2) (seconds (o .before) su w) (thirds o su w) (c .before .before .full-lanes .ensures)
+    (c .before .before .before .before .before .before .union-of .ensures) (c .before .before .before .before .before .union-of2 .ensures))
 
 pub across-spec : {M : Type 1} → statement M
 across-spec =
     tie.close
     (tie.spec
-    mul-t14 element-copy-out-t17 mul-t14-2 element-copy-out-t17-2 mul-t14-3 element-copy-out-t17-3 (λ c. search needs) (λ c. search needs) (λ c. search needs)
-    in-lanes-requires (λ c. search needs) (λ c. search needs) in-lanes-requires-2 (λ c κs. search needs) fills-requires fills-requires-2 returns
-    (λ c κs. search needs) (λ c κs. search needs) leave-requires returns-2)
+    mul-t15 element-copy-out-t18 mul-t15-2 element-copy-out-t18-2 mul-t15-3 element-copy-out-t18-3 (λ c. search needs) (λ c. search needs) in-lanes-requires
+    (λ c. search needs) (λ c. search needs) (λ c. search needs) in-lanes-requires-2 (λ c κs. search needs) (λ c κs. search needs) fills-requires returns
+    (λ c κs. search needs) leave-requires returns-2)

@@ -1,24 +1,21 @@
--- Both ways along the lanes by the second variable. Assumes nothing.
-use Rattle.model.specs.Kit.{refl, List, ℕ, _<_, arith, needs}
+-- The second set and the third along the lane of the first's value. Assumes nothing.
+use Rattle.model.specs.Kit.{refl, sym, _∙_, List, ℕ, _+_, _*_, _<_, arith, needs, eqb-true, eqb-false}
 use Rattle.model.specs.Lists.{at}
-use Rattle.arrays.specs.inner.Tables.{Spreads, Words}
-use Rattle.prune_constraints.specs.inner.Lanes.{InLanes}
-use Rattle.prune_constraints.proofs.{Scopes.of-three, Unions.of-first, OneWord.along-dead, OneWord.along-same, OneWord.along-cut, along.Statement.statement}
+use Rattle.arrays.specs.{inner.Places.UNIONS, inner.Tables.Words}
+use Rattle.prune_constraints.specs.inner.Lanes.{Halves}
+use Rattle.prune_constraints.proofs.{Scopes.of-three, Unions.of-second, Unions.of-third, along.Statement.statement}
+use Rattle.prune_constraints.proofs.OneWord.{one-below, along-dead, along-same, along-cut}
 use Rattle.prune_constraints.proofs.along.Tie as tie
 
 inside : (c : tie.Start) → (c .args .x < 16) × (c .args .y < 16) × (c .args .z < 16)
 inside c = of-three refl (c .pre .1 .0 .4 .inside)
 
--- the lanes of each set
-spread : (c : tie.Start) → Spreads (c .args .numbers .now)
-unfolding at
-spread c = let q = c .pre .1 .0 in q .1 .spread _ (q .4 .room) (q .2)
+-- the unions
+seconds : (d : tie.Start) (su : List ℕ) → Words (d .args .numbers .now) su → Halves (d .args .numbers .now) (UNIONS + 64 * d .args .k) (of-second su (d .args .k))
+seconds d su w h m = w .by-second (d .args .k) h m (d .pre .1 .0 .4 .room) (d .pre .1 .0 .2)
 
--- the lanes
-lanes : (c : tie.After-in-lanes) → let d = c .before .before .before .before .args in (su : List ℕ) → Words (d .numbers .now) su → InLanes (at (d .sets .now) (d .x)) (at (d .sets .now) (d .y))
-    (at (d .sets .now) (d .z)) (of-first su (d .k)) (c .in-lanes .result)
-unfolding at
-lanes c su w = let d = c .before .before .before .before in c .in-lanes .ensures (of-first su (d .args .k)) (λ h m. w .by-first (d .args .k) h m (d .pre .1 .0 .4 .room) (d .pre .1 .0 .2))
+thirds : (d : tie.Start) (su : List ℕ) → Words (d .args .numbers .now) su → Halves (d .args .numbers .now) (UNIONS + 64 * d .args .k + 32) (of-third su (d .args .k))
+thirds d su w h m = w .by-third (d .args .k) h m (d .pre .1 .0 .4 .room) (d .pre .1 .0 .2)
 
 mul-t13 : tie.Need-mul-t13
 mul-t13 c = omega (arith, inside c)
@@ -38,56 +35,66 @@ mul-t13-3 c = omega (arith, inside (c .before .before))
 element-copy-out-t16-3 : tie.Need-element-copy-out-t16-3
 element-copy-out-t16-3 c = inside (c .before .before) .2
 
-in-lanes-requires : tie.Need-in-lanes-requires
+in-lane-requires : tie.Need-in-lane-requires
 unfolding at
-in-lanes-requires c κs = let d = c .before .before .before in (omega (arith, d .pre .1 .0 .4 .room), (d .pre .1 .1 .1, spread d))
+in-lane-requires c κs = let d = c .before .before .before .before in let h = d .pre .1 .1 .1 in
+    (omega (arith, d .pre .1 .0 .4 .room), (h .1, one-below (h .0) (d .pre .1 .1 .0) (c .lowest .ensures), h .2))
 
 returns : tie.Need-returns
 unfolding at
-returns c = let d = c .before .before .before .before .before in λ e su w q. along-dead q (d .args .sets .now) (d .pre .0) (d .pre .1 .1 .0) (d .pre .1 .1 .1) (lanes (c .before) su w) (c .if1 .taken)
+returns c =
+    let i = c .before .before in
+    let d = i .before .before .before .before .before in λ e su w q.
+    along-dead q (d .args .sets .now) (d .pre .0) (d .pre .1 .1 .0) (i .before .lowest .ensures) (i .in-lane .ensures _ (seconds d su w))
+    (eqb-true _ _ (sym (c .before .is-empty .ensures) ∙ c .if1 .taken))
 
-fills-requires : tie.Need-fills-requires
+in-lane-requires-2 : tie.Need-in-lane-requires-2
 unfolding at
-fills-requires c κs = let d = c .before .before .before .before .before .before .before .before .before in (d .pre .1 .1 .1 .1, spread d)
+in-lane-requires-2 c κs = let l = c .before .before .before in let d = l .before .before .before .before in let h = d .pre .1 .1 .1 in
+    (omega (arith, d .pre .1 .0 .4 .room), (h .2, one-below (h .0) (d .pre .1 .1 .0) (l .lowest .ensures), h .1))
 
 returns-2 : tie.Need-returns-2
 unfolding at
 returns-2 c =
-    let i = c .before .before .before .before .before in
-    let d = i .before .before .before .before .before .before in λ e su w q.
-    along-same q (d .args .sets .now) (d .pre .0) (d .pre .1 .1 .0) (d .pre .1 .1 .1) (lanes (i .before .before) su w) (search needs) (i .before .if1 .left) (i .union-of .ensures)
-    (c .before .before .if2 .taken) (c .before .fills .ensures (c .if3 .taken))
+    let j = c .before .before .before .before .before .before in
+    let i = j .before .before .before in
+    let d = i .before .before .before .before .before in λ e su w q.
+    along-same q (d .args .sets .now) (d .pre .0) (d .pre .1 .1 .0) (i .before .lowest .ensures) (i .in-lane .ensures _ (seconds d su w))
+    (eqb-false _ _ (sym (j .before .before .is-empty .ensures) ∙ j .before .if1 .left)) (search needs) (d .pre .1 .1 .1 .1) (search needs) (j .in-lane2 .ensures _ (thirds d su w))
+    (c .before .before .before .if2 .taken) (c .if3 .taken)
 
 mul-sets : tie.Need-mul-sets
-mul-sets c = omega (arith, inside (c .before .before .before .before .before .before .before .before .before .before))
+mul-sets c = omega (arith, inside (c .before .before .before .before .before .before .before .before .before .before .before))
 
 element-write-sets : tie.Need-element-write-sets
-element-write-sets c = inside (c .before .before .before .before .before .before .before .before .before .before) .1
+element-write-sets c = inside (c .before .before .before .before .before .before .before .before .before .before .before) .1
 
 mul-sets-2 : tie.Need-mul-sets-2
-mul-sets-2 c = omega (arith, inside (c .before .before .before .before .before .before .before .before .before .before))
+mul-sets-2 c = omega (arith, inside (c .before .before .before .before .before .before .before .before .before .before .before))
 
 element-write-sets-2 : tie.Need-element-write-sets-2
-element-write-sets-2 c = inside (c .before .before .before .before .before .before .before .before .before .before) .2
+element-write-sets-2 c = inside (c .before .before .before .before .before .before .before .before .before .before .before) .2
 
 moved-requires : tie.Need-moved-requires
-moved-requires c κs = inside (c .before .before .before .before .before .before .before .before .before .before) .1
+moved-requires c κs = inside (c .before .before .before .before .before .before .before .before .before .before .before) .1
 
 moved-requires-2 : tie.Need-moved-requires-2
-moved-requires-2 c κs = inside (c .before .before .before .before .before .before .before .before .before .before .before) .2
+moved-requires-2 c κs = inside (c .before .before .before .before .before .before .before .before .before .before .before .before) .2
 
 returns-3 : tie.Need-returns-3
 unfolding at
 returns-3 c =
-    let i = c .before .before .before .before .before .before in
-    let d = i .before .before .before .before .before .before in λ e su w q.
-    along-cut q (d .args .sets .now) (d .pre .0) (d .pre .1 .1 .0) (d .pre .1 .1 .1) (lanes (i .before .before) su w) (search needs) (i .before .if1 .left) (i .union-of .ensures) _ _ _
-    (search needs) (search needs) (c .before .before .full-lanes .ensures) (c .before .moved .ensures) (c .moved2 .ensures)
+    let j = c .before .before .before .before .before in
+    let i = j .before .before .before in
+    let d = i .before .before .before .before .before in λ e su w q.
+    along-cut q (d .args .sets .now) (d .pre .0) (d .pre .1 .1 .0) (i .before .lowest .ensures) (i .in-lane .ensures _ (seconds d su w))
+    (eqb-false _ _ (sym (j .before .before .is-empty .ensures) ∙ j .before .if1 .left)) (search needs) (d .pre .1 .1 .1 .1) (search needs) (j .in-lane2 .ensures _ (thirds d su w)) _ _
+    (c .before .moved .ensures) (c .moved2 .ensures)
 
 pub along-spec : {M : Type 1} → statement M
 along-spec =
     tie.close
     (tie.spec
-    mul-t13 element-copy-out-t16 mul-t13-2 element-copy-out-t16-2 mul-t13-3 element-copy-out-t16-3 (λ c. search needs) (λ c. search needs) in-lanes-requires
-    returns (λ c κs. search needs) fills-requires returns-2 (λ c κs. search needs) mul-sets element-write-sets mul-sets-2 element-write-sets-2 moved-requires
-    moved-requires-2 returns-3)
+    mul-t13 element-copy-out-t16 mul-t13-2 element-copy-out-t16-2 mul-t13-3 element-copy-out-t16-3 (λ c κs. search needs) (λ c. search needs) (λ c. search needs)
+    (λ c. search needs) in-lane-requires (λ c κs. search needs) returns (λ c. search needs) (λ c. search needs) (λ c. search needs) in-lane-requires-2 returns-2 mul-sets
+    element-write-sets mul-sets-2 element-write-sets-2 moved-requires moved-requires-2 returns-3)

@@ -1,34 +1,16 @@
--- The unions of both halves, under all lanes of one set and another in each. Assumes nothing.
-use Rattle.model.specs.Kit.{_<_, lt-of-le-of-lt, arith, needs, bitAnd, lit<}
-use lib.Bits.{and-le-r}
+-- What is together in each lane, under all lanes of one set and another in each. Assumes nothing.
+use Rattle.model.specs.Kit.{needs}
 use Rattle.model.specs.Lists.{at}
 use Rattle.prune_constraints.proofs.{Lanes.lanes-in, in_lanes.Statement.statement}
 use Rattle.prune_constraints.proofs.in_lanes.Tie as tie
 
--- the lower half is below 16
-low : (c : tie.Start) → bitAnd (c .args .a .bits) 15 < 16
-low c = lt-of-le-of-lt (and-le-r (c .args .a .bits) 15) (lit< tt)
-
-cast-lower : tie.Need-cast-lower
-cast-lower c = omega (arith, low (c .before))
-
-add-lower : tie.Need-add-lower
-add-lower c = omega (arith, low (c .before))
-
-mul-lower : tie.Need-mul-lower
-mul-lower c = omega (arith, low (c .before))
-
-element-copy-out-lower : tie.Need-element-copy-out-lower
-element-copy-out-lower c = omega (arith, low (c .before))
-
 returns : tie.Need-returns
 unfolding at
-returns c = let d = c .before .before .before .before .before .before .before in let h = d .pre .1 .0 in lanes-in (d .args .numbers .now) (d .args .base) _ _ _ _ (h .0) (h .1) (h .2)
-    (λ j w. d .pre .1 .1 _ j w (h .1))
+returns c = let t = c .before .before .before in let d = t .before in let h = d .pre .1 .0 in λ lane f. lanes-in _ _ _ _ _ lane (h .1) (h .2) (λ j w. d .pre .1 .1 _ j w (h .1))
+    (t .together .ensures lane f)
 
 pub in-lanes-spec : {M : Type 1} → statement M
 in-lanes-spec =
     tie.close
     (tie.spec
-    cast-lower add-lower mul-lower element-copy-out-lower (λ c. search needs) (λ c. search needs) (λ c. search needs) (λ c. search needs) (λ c. search needs)
-    (λ c. search needs) (λ c. search needs) (λ c. search needs) (λ c. search needs) (λ c. search needs) (λ c. search needs) returns)
+    (λ c κs. search needs) (λ c. search needs) (λ c. search needs) (λ c. search needs) (λ c. search needs) (λ c. search needs) (λ c. search needs) returns)

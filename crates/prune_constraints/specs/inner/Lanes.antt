@@ -22,7 +22,17 @@ pub record FullHeads (x r : ℕ) : Type 0 where
 abbrev pub Halves : List ℕ → ℕ → (ℕ → ℕ → ℕ) → Type 0
 Halves numbers base lane = (h m : ℕ) → h < 2 → m < 16 → UnionOf m (λ i j. lane (4 * h + i) j) (at numbers (base + 16 * h + m))
 
+-- lane j has what is in lane j of some member of a
+pub record TogetherIn (a : ℕ) (lane : ℕ → ℕ → ℕ) (r : ℕ) : Type 0 where
+  pub together-i : (i j w : ℕ) → j < 8 → w < 8 → T (has a i) → T (has (lane i j) w) → T (has r (8 * j + w))
+  pub together-e : (j w : ℕ) → j < 8 → w < 8 → T (has r (8 * j + w)) → (i : ℕ) × T (has a i) × T (has (lane i j) w)
+
 -- lane j, one of b, has the values of e that are in lane j of some member of a; no other lane has any
 pub record InLanes (a b e : ℕ) (lane : ℕ → ℕ → ℕ) (r : ℕ) : Type 0 where
   pub lanes-i : (i j w : ℕ) → T (has a i) → T (has b j) → T (has e w) → T (has (lane i j) w) → T (has r (8 * j + w))
   pub lanes-e : (j w : ℕ) → j < 8 → w < 8 → T (has r (8 * j + w)) → (i : ℕ) × T (has a i) × T (has b j) × T (has e w) × T (has (lane i j) w)
+
+-- the values of e that are in lane j of some member of a
+pub record InLane (a j e : ℕ) (lane : ℕ → ℕ → ℕ) (r : ℕ) : Type 0 where
+  pub lane-i : (i w : ℕ) → T (has a i) → T (has e w) → T (has (lane i j) w) → T (has r w)
+  pub lane-e : (w : ℕ) → T (has r w) → (i : ℕ) × T (has a i) × T (has e w) × T (has (lane i j) w)

@@ -1,6 +1,5 @@
 -- Constraints on three variables whose first two sets have one value each, the second the same for all: what the functions that look the third up ask and
 -- leave.
---
 use Rattle.model.specs.Kit.{_≡_, List, ℕ, _-_, _^_, _<_, T, length, bitAnd, bitOr}
 use Rattle.model.specs.{Lists.at, ValueSets.has, ValueSets.Inside, Problem.Problem, Problem.constraintAt, inner.Pruning.Sets}
 use Rattle.arrays.specs.{inner.Places.DEAD, inner.Pruning.Lessened, inner.Pruning.Ended}

@@ -1,5 +1,4 @@
 -- Pruning by the constraints alone: what one constraint leaves of the sets, and what the functions of this crate say of a problem.
---
 use Rattle.model.specs.Kit.{_≡_, false, not, List, List·Memᴰ, ℕ, _≤_, _<_, T, eqb, length}
 use Rattle.model.specs.{Lists.both, Lists.at, Lists.tabulate, ValueSets.has, ValueSets.maskOf, ValueSets.Inside, Problem.Problem, Problem.Constraint, Problem.constraintAt}
 use Rattle.model.specs.{Search.supported, inner.Pruning.Sets, WellFormed.WellFormed}

@@ -1,5 +1,4 @@
 -- What the functions inside this crate say to each other: tables of sets, and one constraint at a time.
---
 use Rattle.model.specs.Kit.{_≡_, not, _⊎_, List, [], _∷_, _++_, List·Memᴰ, ℕ, suc, _+_, _*_, _≤_, _<_, T, eqb, length, set}
 use Rattle.model.specs.{Lists.any, Lists.at, Lists.same, Lists.ascending, ValueSets.has, ValueSets.maskOf, ValueSets.oneIf, Problem.Problem, Problem.Constraint}
 use Rattle.model.specs.WellFormed.{WellFormed}

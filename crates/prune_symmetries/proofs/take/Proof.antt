@@ -5,19 +5,19 @@ use Rattle.prune_symmetries.proofs.{Cuts.Taking, Cuts.taking-none, Cuts
 use Rattle.prune_symmetries.proofs.take.Tie as tie
 
 abbrev Inv-loop : tie.InvT-loop
-Inv-loop sets₀ tables first empty₀ y₀ sets empty y = Taking sets₀ tables first sets empty y
+Inv-loop sets tables first left₀ empty₀ y₀ left empty y = Taking sets tables first left empty y
 
 abbrev μ-loop : tie.MeasureT-loop
-μ-loop sets₀ tables first empty₀ y₀ sets empty y = 16 - y
+μ-loop sets tables first left₀ empty₀ y₀ left empty y = 16 - y
 
 loop-holds : tie.Need-loop-holds Inv-loop μ-loop
-loop-holds c = taking-none (c .args .sets .now) (c .args .tables .now) (c .args .first)
+loop-holds c = taking-none (c .before .args .sets .now) (c .before .args .tables .now) (c .before .args .first)
 
 mul-t : tie.Need-mul-t Inv-loop μ-loop
 mul-t c = search needs
 
-element-copy-out-t : tie.Need-element-copy-out-t Inv-loop μ-loop
-element-copy-out-t c = search needs
+array-read-t : tie.Need-array-read-t Inv-loop μ-loop
+array-read-t c = search needs
 
 add-t : tie.Need-add-t Inv-loop μ-loop
 add-t c = search needs
@@ -25,14 +25,14 @@ add-t c = search needs
 mul-t-2 : tie.Need-mul-t-2 Inv-loop μ-loop
 mul-t-2 c = search needs
 
-element-copy-out-t-2 : tie.Need-element-copy-out-t-2 Inv-loop μ-loop
-element-copy-out-t-2 c = search needs
+element-copy-out-t : tie.Need-element-copy-out-t Inv-loop μ-loop
+element-copy-out-t c = search needs
 
-mul-sets : tie.Need-mul-sets Inv-loop μ-loop
-mul-sets c = search needs
+mul-left : tie.Need-mul-left Inv-loop μ-loop
+mul-left c = search needs
 
-element-write-sets : tie.Need-element-write-sets Inv-loop μ-loop
-element-write-sets c = search needs
+array-write-left : tie.Need-array-write-left Inv-loop μ-loop
+array-write-left c = search needs
 
 add-y : tie.Need-add-y Inv-loop μ-loop
 add-y c = search needs
@@ -42,7 +42,7 @@ loop-less c = search needs
 
 loop-again : tie.Need-loop-again Inv-loop μ-loop
 unfolding at
-loop-again c = taking-next (c .before .before .before .before .pre .0) (c .before .before .loop-test .taken) (c .before .before .before .loop .inv)
+loop-again c = taking-next (c .before .before .before .before .pre .0) (c .before .loop-test .taken) (c .before .before .loop .inv)
 
 returns : tie.Need-returns Inv-loop μ-loop
 returns c = taken (c .loop-test .left) (c .before .loop .inv)
@@ -51,4 +51,4 @@ pub take-spec : {M : Type 1} → statement M
 take-spec =
     tie.close
     (tie.spec
-    Inv-loop μ-loop loop-holds mul-t element-copy-out-t add-t mul-t-2 element-copy-out-t-2 mul-sets element-write-sets add-y loop-less loop-again returns)
+    Inv-loop μ-loop loop-holds mul-t array-read-t add-t mul-t-2 element-copy-out-t mul-left array-write-left add-y loop-less loop-again returns)

@@ -1,6 +1,5 @@
 -- The filter of one symmetry at a prefix: what the crate's function asks and answers, and what its parts say to each other.
 -- A level is what one variable of the prefix adds to the symmetry's list. No list is built: the entries are read from the tables.
---
 use Rattle.model.specs.Kit.{_≡_, Bool, true, false, List, [], _∷_, _++_, map, _⊎_, ℕ, _+_, _-_, _*_, _/_, _%_, _^_, _≤_, _<_, bitAnd, T, eqb, ltb, leb, length, take}
 use Rattle.model.specs.{Lists.at, Lists.choose, Lists.keep, Lists.flat, Lists.upFrom, ValueSets.has, ValueSets.members, ValueSets.anyEmpty, ValueSets.Inside, Problem.Problem}
 use Rattle.model.specs.{Problem.symmetryAt, Nogood.Entry, Nogood.equality, Nogood.disequality, Nogood.filtered, Nogood.FilterEnding, Nogood.failed, Nogood.entailed}

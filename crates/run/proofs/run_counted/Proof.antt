@@ -33,7 +33,7 @@ use denote.Triple.Table.{entered, cited}
 use denote.Triple.Walked.{says, Stays, stay-slice, stay-dropped, walkOf, Walks, ends-at, walked, goes-dropped, goes-slice, walk-meets}
 use denote.Struct.Steps.{spelt}
 use Rattle.run_input.specs.Lent.{answerLent, listLent, tallyLent}
-use Rattle.run_state.specs.{Walk.noNodes, inner.Pair.Cleared, Meaning.tallyIn, declared.Tally.Tally}
+use Rattle.run_state.specs.{inner.Walk.noNodes, inner.Pair.Cleared, Meaning.tallyIn, declared.Tally.Tally}
 use Rattle.run.specs.{Meaning.means, Calls.CallLent, declared.Answer.Answer, declared.CountedRun.CountedRun}
 use Rattle.loans.proofs.{Locals.lies-in, Locals.lies-out, Loans.One, Loans.Loans, Loans.at-sl, Loans.calls-lent}
 use Rattle.run_state.proofs.no_nodes.Symbol.{name as #run_state·no-nodes}

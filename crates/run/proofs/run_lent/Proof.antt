@@ -272,7 +272,7 @@ module _ {M : Type 1} (𝓤 : URA M) (H : Heap 𝓤) (A : Atoms 𝓤) (W : Given
           move ! (48 ∷ []) $
           -- the arrays
           assigns ! (rep ! STACK (lit ! tt)) (from ! (stop !)) (init ! 33 refl (zeros-typed 𝓤 H A W w16 STACK (omega arith))) $
-          assigns ! (rep ! 256 (lit ! tt)) (from ! (stop !)) (init ! 31 refl (zeros-typed 𝓤 H A W w64 WORK (omega arith))) $
+          assigns ! (rep ! WORK (lit ! tt)) (from ! (stop !)) (init ! 31 refl (zeros-typed 𝓤 H A W w64 WORK (omega arith))) $
           assigns ! (rep ! SUPPORTS (lit ! tt)) (from ! (stop !)) (init ! 29 refl (zeros-typed 𝓤 H A W w16 SUPPORTS (omega arith))) $
           assigns ! (rep ! TABLES (lit ! tt)) (from ! (stop !)) (init ! 27 refl (zeros-typed 𝓤 H A W w16 TABLES (omega arith))) $
           assigns ! (rep ! NUMBERS (lit ! tt)) (from ! (stop !)) (init ! 25 refl (zeros-typed 𝓤 H A W w64 NUMBERS (omega arith))) $

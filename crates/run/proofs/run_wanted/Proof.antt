@@ -1,6 +1,6 @@
 -- `run::run_wanted` meets its contract: proofs/Whole. Assumes nothing.
 use Rattle.model.specs.Kit.{refl, needs}
-use Rattle.run_state.specs.Walk.{noNodes}
+use Rattle.run_state.specs.inner.Walk.{noNodes}
 use Rattle.run_search.proofs.Explored.{explored-tree}
 use Rattle.run.proofs.{Whole.stopped, Whole.ran-so, Whole.wanted-blank, Whole.wanted-so, run_wanted.Statement.statement}
 use Rattle.run.proofs.run_wanted.Tie as tie

@@ -3,7 +3,7 @@ use Rattle.model.specs.Kit.{_≡_, List, ℕ, _-_, _*_, _^_, _<_}
 use Rattle.model.specs.{Lists.at, Verdict.accepted, Verdict.refused, Run.refusal, Run.ended, Run.plansIn, Run.nodesIn, Run.resultOf, Sheet.problemOf}
 use Rattle.run_input.specs.Lent.{verdictLent, problemLent}
 use Rattle.arrays.specs.inner.Places.{PLANS, NUMBER, ITEM, DEEPER, REFUSED}
-use Rattle.run_state.specs.Walk.{stopIn}
+use Rattle.run_state.specs.inner.Walk.{stopIn}
 use Rattle.run.specs.{Meaning.means, declared.Answer.Answer}
 use Rattle.model.specs.Run as Run
 

@@ -5,7 +5,7 @@ use borrow.Rule.Slice.PartAt.{part-to-end}
 use borrow.Fn.Kinds.{In}
 use borrow.Fn.PlainCycle.{Measures, is, falls, and}
 use Rattle.model.specs.Lists.{at}
-use Rattle.run_state.specs.{Walk.withNode, inner.Pair.Countable, Meaning.tallyIn}
+use Rattle.run_state.specs.{inner.Walk.withNode, inner.Pair.Countable, Meaning.tallyIn}
 use Rattle.run_part.proofs.Walks.{along, into-few, into-last, into-asks, into-ends, into-next, into-then, onto-few, onto-out, onto-absent, onto-there, onto-spent}
 use Rattle.run_part.proofs.Walks.{onto-counts, onto-asks, onto-dead, onto-next, onto-then, up-values, up-last, up-stops, up-asks, up-then, below-none, below-open}
 use Rattle.run_part.proofs.Walks.{below-open-asks, below-back, below-into, below-equal, below-stops, below-up-asks, below-then, falls-next, falls-in, falls-up, falls-on}

@@ -1,9 +1,9 @@
 -- What the inner functions ask and leave: a walk along the nodes of a part below a prefix, one value at a time.
---
 use Rattle.model.specs.Kit.{_≡_, Bool, true, false, List, [], _∷_, _++_, ℕ, suc, _+_, _-_, _*_, _≤_, _<_, min, T, length}
 use Rattle.model.specs.{Lists.at, Lists.both, ValueSets.has, ValueSets.maskOf, Problem.Problem, Search.setsAt, Search.isLive, Run.Tally}
 use Rattle.arrays.specs.inner.Places.{LIMIT, LAST, MARKS, ALL, DEEPER}
-use Rattle.run_state.specs.{Walk.withNode, Walk.noNodes, inner.Pair.prefixOf, inner.Pair.settling, inner.Pair.AtPrefix, inner.Pair.Walked}
+use Rattle.run_state.specs.{inner.Walk.withNode, inner.Walk.noNodes, inner.Memo.Remembers, inner.Pair.prefixOf, inner.Pair.settling, inner.Pair.AtPrefix, inner.Pair.Walked, inner.Pair.orderIn}
+use Rattle.run_state.specs.inner.Pair.{ownIn}
 use Rattle.run_ranges.specs.inner.Within.{within, leaves, intoNodes, inRange}
 
 -- the members from `low` up and below `high`
@@ -29,6 +29,7 @@ pub record Stepped (p : Problem) (stack work supports tables numbers list : List
   pub marks : (i : ℕ) → MARKS ≤ i → i < 16 * suc (suc k) → at work′ i ≡ at work i
   pub stack-length : length stack′ ≡ length stack
   pub work-length : length work′ ≡ length work
+  pub memo : Remembers p (ownIn p numbers) (orderIn numbers (p .variables)) work′ list
 
 -- ---- a node that is not of the last variable
 pub record AtPut (p : Problem) (stack work supports tables numbers list : List ℕ) (tally : Tally) (k v : ℕ) : Type 0 where

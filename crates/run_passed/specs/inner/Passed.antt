@@ -4,7 +4,7 @@ use Rattle.model.specs.{Lists.at, Lists.keep, Lists.tabulate, Problem.Problem, 
 use Rattle.order.specs.Reordered.{write}
 use Rattle.arrays.specs.inner.Places.{ALL}
 use Rattle.run_cut.specs.Parts.{lastOf}
-use Rattle.run_state.specs.Walk.{State, noted, walk}
+use Rattle.run_state.specs.inner.Walk.{State, noted, walk}
 use Rattle.run_alike.specs.{inner.Alike.moved, inner.Claims.SameBelow}
 
 -- twelve counts and twelve more

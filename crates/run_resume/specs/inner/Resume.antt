@@ -6,7 +6,7 @@ use Rattle.model.specs.Run.{countsBy}
 use Rattle.run_cut.specs.Parts.{Progress, goOn, madeIn, lastAfter}
 use Rattle.arrays.specs.inner.Places.{LIMIT, ROOM, PLANS, LAST, ALL, DEEPER, NUMBERS, STACK, SUPPORTS, TABLES, WORK}
 use Rattle.sheet.specs.{inner.Form.Zeros, Meaning.compilable}
-use Rattle.run_state.specs.{Walk.noNodes, Walk.stopIn, inner.Pair.prefixOf, inner.Pair.orderIn, inner.Pair.AtPrefix}
+use Rattle.run_state.specs.{inner.Walk.noNodes, inner.Walk.stopIn, inner.Pair.prefixOf, inner.Pair.orderIn, inner.Pair.AtPrefix}
 
 -- the problem of some bytes: those that questions 1 to 15 refuse count as the sheet of no bytes, which has no nodes
 abbrev pub treeOf : List ℕ → Problem

@@ -1,16 +1,16 @@
 -- What is made of a compiled problem before the search, and the search from there.
 use Rattle.model.specs.Kit.{_≡_, false, List, [], ℕ, _*_, _^_, _<_, T, length, take}
-use Rattle.model.specs.{Lists.at, ValueSets.has, Problem.Problem, Problem.withSymmetries, Search.isLive, Run.Tally}
+use Rattle.model.specs.{Lists.at, ValueSets.has, Problem.Problem, Problem.withSymmetries, Search.isLive, Run.Tally, WellFormed.WellFormed, WellFormed.Respected}
 use Rattle.order.specs.Order.{Ordering}
 use Rattle.block.specs.inner.BlockSets.{BlockIn}
 use Rattle.run_input.specs.inner.Compile.{WithinLimits}
 use Rattle.arrays.specs.inner.Places.{LIMIT, ROOM, ORDER, PLANS, ALL, DEEPER, NUMBERS, STACK, TABLES, WORK, DIAGONAL}
 use Rattle.arrays.specs.inner.Layout.{Compiled}
-use Rattle.run_state.specs.{Walk.noNodes, inner.Pair.orderIn, inner.Pair.ListRoom, inner.Pair.AtPrefix, inner.Pair.Walked, inner.Pair.tried}
+use Rattle.run_state.specs.{inner.Walk.noNodes, inner.Pair.orderIn, inner.Pair.ListRoom, inner.Pair.AtPrefix, inner.Pair.Walked, inner.Pair.tried}
 
 -- what stands in the arrays before the search's tables are made: own, which is p with the first of its symmetries; the bytes begin with the order by which
--- p's variables are a sheet's
-pub record Laid (p own : Problem) (order numbers supports images bytes : List ℕ) (positions : ℕ) : Type 0 where
+-- p's variables are a sheet's; the memo is asked where its symmetries are known to respect p
+pub record Laid (p own : Problem) (order numbers supports images bytes : List ℕ) (positions asks : ℕ) : Type 0 where
   pub compiled : Compiled own numbers supports images
   pub limits : WithinLimits own
   pub long : length numbers ≡ NUMBERS
@@ -20,6 +20,8 @@ pub record Laid (p own : Problem) (order numbers supports images bytes : List �
   pub own-is : withSymmetries p (take (length (own .symmetries)) (p .symmetries)) ≡ own
   pub block : BlockIn own (has positions) (p .symmetries)
   pub block-few : (x : ℕ) → T (has positions x) → x < own .variables
+  pub well : WellFormed p
+  pub respected : (asks ≡ 0 → ⊥) → Respected p
 
 -- and what is lent to write on
 pub record Writable (stack work tables : List ℕ) : Type 0 where

@@ -5,7 +5,7 @@ use Rattle.model.specs.Sheet.{problemOf}
 use Rattle.order.specs.Reordered.{write}
 use Rattle.run_input.specs.Lent.{verdictLent, orderLent, problemLent}
 use Rattle.arrays.specs.inner.Places.{PLANS, DEEPER, REFUSED, WANTED}
-use Rattle.run_state.specs.Walk.{Summed, kept, stopIn, tallyBy}
+use Rattle.run_state.specs.inner.Walk.{Summed, kept, stopIn, tallyBy}
 use Rattle.run_search.specs.inner.Prepared.{bytesFor, Refusal}
 
 abbrev pub resultFor : List ℕ → List ℕ → List ℕ → List ℕ → ℕ → ℕ → Result

@@ -4,7 +4,7 @@ use Rattle.model.specs.{Lists.at, Lists.choose, Search.isLive, Verdict.accepted
 use Rattle.run_input.specs.Lent.{verdictLent, orderLent, problemLent}
 use Rattle.arrays.specs.inner.Places.{LIMIT, ROOM, PLANS, NUMBER, ITEM, ALL, DEEPER, REFUSED, NUMBERS, STACK, SUPPORTS, TABLES, WORK, WANTED}
 use Rattle.sheet.specs.inner.Form.{Zeros}
-use Rattle.run_state.specs.{Walk.noNodes, inner.Pair.orderIn, inner.Pair.AtPrefix}
+use Rattle.run_state.specs.{inner.Walk.noNodes, inner.Pair.orderIn, inner.Pair.AtPrefix}
 use Rattle.run_task.specs.inner.Task.{roomFor}
 
 -- the room for plans of n bytes: the list's, else that for one plan less than are asked for

@@ -2,11 +2,11 @@
 -- value's node and those below it.
 use Rattle.model.specs.Kit.{_≡_, List, [], _∷_, _++_, ℕ, suc, _+_, _-_, _*_, _^_, _≤_, _<_, T, length, take}
 use Rattle.model.specs.{Lists.at, Lists.tabulate, ValueSets.has, ValueSets.lowestOf, Problem.Problem, Problem.withSymmetries, Search.setsAt, Search.isLive, Search.nodesBelow}
-use Rattle.model.specs.Run.{Tally}
+use Rattle.model.specs.{Run.Tally, WellFormed.WellFormed, WellFormed.Respected}
 use Rattle.order.specs.{Order.Ordering, Reordered.write}
-use Rattle.arrays.specs.inner.Places.{SYMMETRIES, LIMIT, ROOM, ORDER, PLANS, LAST, MARKS, ALL, DEEPER, DIAGONAL}
+use Rattle.arrays.specs.inner.Places.{SYMMETRIES, LIMIT, ROOM, ORDER, PLANS, LAST, MARKS, ALL, DEEPER, DIAGONAL, ASKS}
 use Rattle.prune.specs.inner.Node.{Ready, Holds, Marked}
-use Rattle.run_state.specs.Walk.{Summed, withNode, noNodes, State, listed, walk, nodesFor}
+use Rattle.run_state.specs.{inner.Memo.Remembers, inner.Walk.Summed, inner.Walk.withNode, inner.Walk.noNodes, inner.Walk.State, inner.Walk.listed, inner.Walk.walk, inner.Walk.nodesFor}
 
 -- the prefix: the first k numbers of `work`
 unfoldable pub prefixOf : List ℕ → ℕ → List ℕ
@@ -59,7 +59,7 @@ abbrev pub ownIn : Problem → List ℕ → Problem
 ownIn p numbers = withSymmetries p (take (at numbers SYMMETRIES) (p .symmetries))
 
 -- the prefix of k values in `work` is live, its sets and marks stand at depth k, and a run goes on that may make as many nodes as the numbers say,
--- whose counts add up, and go by an order of the variables
+-- whose counts add up, and go by an order of the variables; what its memo holds is so
 pub record AtPrefix (p : Problem) (stack work supports tables numbers list : List ℕ) (tally : Tally) (k : ℕ) : Type 0 where
   pub ready : Ready (ownIn p numbers) (p .symmetries) stack work supports tables numbers
   pub inner : k < p .variables
@@ -71,6 +71,9 @@ pub record AtPrefix (p : Problem) (stack work supports tables numbers list : Lis
   pub summed : Summed tally
   pub order : Ordering (p .variables) (orderIn numbers (p .variables))
   pub room : ListRoom (p .variables) (at numbers ROOM) list (at work PLANS)
+  pub well : WellFormed p
+  pub respected : (at numbers ASKS ≡ 0 → ⊥) → Respected p
+  pub memo : Remembers p (ownIn p numbers) (orderIn numbers (p .variables)) work list
 
 -- and m has values of variable k's set alone
 pub record AtValues (p : Problem) (stack work supports tables numbers list : List ℕ) (tally : Tally) (k m : ℕ) : Type 0 where
@@ -83,7 +86,8 @@ pub record AtValue (p : Problem) (stack work supports tables numbers list : List
   pub some : 0 < m
   pub due : tally .nodes ≡ at numbers LIMIT → ⊥
 
--- a walk along the nodes ts, after which the counts still add up; no set and no mark of a depth up to k and no value of the prefix is changed
+-- a walk along the nodes ts, after which the counts still add up; no set and no mark of a depth up to k and no value of the prefix is changed; what the
+-- memo holds is so
 pub record Walked (p : Problem) (ts : List (List ℕ)) (stack work numbers list : List ℕ) (tally : Tally) (k : ℕ) (stack′ work′ list′ : List ℕ) (tally′ : Tally) (stop : ℕ) : Type 0 where
   pub state : stateOf tally′ work′ stop list′ ≡ walk p (orderIn numbers (p .variables)) (at numbers LIMIT) (at numbers ROOM) ts (stateOf tally work ALL list)
   pub summed : Summed tally′
@@ -92,6 +96,7 @@ pub record Walked (p : Problem) (ts : List (List ℕ)) (stack work numbers list 
   pub marks : (i : ℕ) → MARKS ≤ i → i < 16 * suc (suc k) → at work′ i ≡ at work i
   pub stack-length : length stack′ ≡ length stack
   pub work-length : length work′ ≡ length work
+  pub memo : Remembers p (ownIn p numbers) (orderIn numbers (p .variables)) work′ list′
 
 -- the nodes of the values m of variable k, after the prefix in `work`; that of the lowest of them, and it with the nodes below it
 abbrev pub tried : Problem → List ℕ → ℕ → ℕ → List (List ℕ)

@@ -2,14 +2,14 @@
 use Rattle.model.specs.Kit.{_+_, _-_, _*_, arith, getD, needs}
 use Rattle.model.specs.Lists.{at}
 use Rattle.model.proofs.Masks.{byte-lt}
-use Rattle.arrays_tables.proofs.{Lanes.LanesSoFar, Lanes.lanes-begin, Lanes.lanes-fit, Lanes.lanes-turn, Lanes.lanes-end, Lanes.step-fits, words.lanes.Statement.statement}
+use Rattle.arrays_tables.proofs.{Lanes.LanesSoFar, Lanes.lanes-begin, Lanes.lanes-fit, Lanes.lanes-turn, Lanes.lanes-end, words.lanes.Statement.statement}
 use Rattle.arrays_tables.proofs.words.lanes.Tie as tie
 
 abbrev Inv-loop : tie.InvT-loop
-Inv-loop supports base step all₀ t₀ all t = LanesSoFar (λ v. at supports (base + step * v)) t all
+Inv-loop supports base all₀ t₀ all t = LanesSoFar (λ u. at supports (base + 16 * u)) t all
 
 abbrev μ-loop : tie.MeasureT-loop
-μ-loop supports base step all₀ t₀ all t = 8 - t
+μ-loop supports base all₀ t₀ all t = 8 - t
 
 loop-holds : tie.Need-loop-holds Inv-loop μ-loop
 loop-holds c = lanes-begin _
@@ -21,30 +21,30 @@ sub-all : tie.Need-sub-all Inv-loop μ-loop
 sub-all c = search needs
 
 mul-all-2 : tie.Need-mul-all-2 Inv-loop μ-loop
-mul-all-2 c = record { fits = omega (arith, step-fits (c .before .before .args .step) (c .before .loop .t) (c .before .before .pre .1)) }
+mul-all-2 c = search needs
 
 add-all : tie.Need-add-all Inv-loop μ-loop
-add-all c = record { fits = omega (arith, step-fits (c .before .before .args .step) (c .before .loop .t) (c .before .before .pre .1)) }
+add-all c = search needs
 
 mul-all-3 : tie.Need-mul-all-3 Inv-loop μ-loop
-mul-all-3 c = record { fits = omega (arith, step-fits (c .before .before .args .step) (c .before .loop .t) (c .before .before .pre .1)) }
+mul-all-3 c = search needs
 
 element-copy-out-all : tie.Need-element-copy-out-all Inv-loop μ-loop
-element-copy-out-all c = omega (arith, step-fits (c .before .before .args .step) (c .before .loop .t) (c .before .before .pre .1))
+element-copy-out-all c = search needs
 
 cast-all : tie.Need-cast-all Inv-loop μ-loop
 cast-all c = record {
   fits = omega (
     arith,
     byte-lt (getD (c .before .before .before .args .supports .now)
-        (c .before .before .before .args .base + c .before .before .before .args .step * (7 - c .before .before .loop .t)) 0),
+        (c .before .before .before .args .base + 16 * (7 - c .before .before .loop .t)) 0),
   );
 }
 
 add-all-2 : tie.Need-add-all-2 Inv-loop μ-loop
 add-all-2 c = record {
   fits = lanes-fit _ _ _ (getD (c .before .before .before .args .supports .now)
-      (c .before .before .before .args .base + c .before .before .before .args .step * (7 - c .before .before .loop .t)) 0) (c .before .before .loop .inv) (c .before .loop-test .taken);
+      (c .before .before .before .args .base + 16 * (7 - c .before .before .loop .t)) 0) (c .before .before .loop .inv) (c .before .loop-test .taken);
 }
 
 add-t : tie.Need-add-t Inv-loop μ-loop

@@ -16,7 +16,7 @@ loop-holds : tie.Need-loop-holds Inv-loop μ-loop
 loop-holds c = (search needs, filled-begin _ _ _)
 
 word-requires : tie.Need-word-requires Inv-loop μ-loop
-word-requires c κs = search needs
+word-requires c κs = (search needs, λ l v h. c .before .before .loop .inv .1 .here v (omega arith))
 
 mul-made : tie.Need-mul-made Inv-loop μ-loop
 mul-made c = search needs
@@ -31,7 +31,7 @@ loop-less : tie.Need-loop-less Inv-loop μ-loop
 loop-less c = search needs
 
 loop-again : tie.Need-loop-again Inv-loop μ-loop
-loop-again c = (search needs, filled-turn _ _ _ _ _ _ _ (c .before .before .loop .inv .1) refl (omega arith) (λ v l e. omega arith) (c .word .ensures))
+loop-again c = (search needs, filled-turn _ _ _ _ _ _ _ (c .before .before .before .loop .inv .1) refl (omega arith) (λ v l e. omega arith) (c .word .ensures))
 
 returns : tie.Need-returns Inv-loop μ-loop
 returns c = filled-end _ _ _ _ _ _ (search needs) (search needs) (c .before .loop .inv .1)

@@ -1,0 +1,3 @@
+-- What stands between proved functions: no reader has to believe it.
+pub mod Key
+pub mod Steps
