@@ -12,7 +12,8 @@ use Rattle.run_passed.specs.inner.Compared.{SameMark}
 use Rattle.run_passed.proofs.Compared.{key-below}
 use Rattle.run_state.specs.{inner.Memo.MarksRead, inner.Memo.Kept, inner.Pair.prefixOf, inner.Pair.ownIn, inner.Pair.AtPrefix}
 use Rattle.run_state.proofs.Prefix.{length-prefix}
-use Rattle.run_memo.specs.{inner.Key.Pending, inner.Key.compared, inner.Steps.Compared}
+use Rattle.run_key.specs.inner.Key.{Pending, compared}
+use Rattle.run_entry.specs.inner.Entry.{Compared}
 
 -- two of the variables that are left of a scope
 two-left : (l : List ℕ) → Sorted (λ (x y : ℕ). x < y) l → 2 ≤ length l → (i : ℕ) × (j : ℕ) × (i < j) × List·Memᴰ i l × List·Memᴰ j l

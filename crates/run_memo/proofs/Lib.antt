@@ -2,7 +2,6 @@
 pub mod Loops
 pub mod Found
 pub mod Walks
-pub mod Copies
 pub mod Recalled
 pub mod Noted
 pub mod Looked

@@ -4,7 +4,9 @@ use Rattle.model.specs.{Lists.at, Problem.Problem, Run.Tally}
 use Rattle.arrays.specs.inner.Places.{MARKS, DEPTH, SYMMETRIES, VARIABLES, VAIN}
 use Rattle.run_alike.specs.inner.Claims.{SameBelow}
 use Rattle.run_state.specs.{inner.Memo.MarksRead, inner.Memo.Kept, inner.Pair.prefixOf, inner.Pair.orderIn, inner.Pair.ownIn, inner.Pair.AtPrefix}
-use Rattle.run_memo.specs.{inner.Key.Pending, inner.Key.Placed, inner.Steps.Compared, inner.Steps.Copies, inner.Steps.Copied, inner.Steps.Taken, inner.Steps.grownBy}
+use Rattle.run_key.specs.inner.Key.{Pending, Placed}
+use Rattle.run_entry.specs.inner.Entry.{Compared, Copies, Copied, Taken}
+use Rattle.run_memo.specs.inner.Steps.{grownBy}
 use Rattle.run_memo.specs.inner.Steps.{AtLook, Looked}
 use Rattle.run_memo.proofs.{Found.found-below, Recalled.copies-ask, Recalled.grows, Recalled.recalled}
 

@@ -11,8 +11,11 @@ use Rattle.run_passed.proofs.Passed.{walk-over, plus-at}
 use Rattle.run_state.specs.{inner.Walk.State, inner.Memo.MarksRead, inner.Memo.subtree, inner.Memo.Stand, inner.Memo.plansBelow, inner.Memo.Kept, inner.Memo.entryAt, inner.Memo.Remembers}
 use Rattle.run_state.specs.inner.Pair.{prefixOf, orderIn, ownIn, stateOf, AtPrefix, Walked}
 use Rattle.run_state.proofs.{Memo.tabulate-ext, Memo.kept-on, Memo.memo-on, Prefix.length-prefix, Prefix.prefix-ext, Walk.length-write, Written.length-order}
-use Rattle.run_memo.specs.{inner.Key.Placed, inner.Steps.Charged, inner.Steps.Put, inner.Steps.PlansPut, inner.Steps.AtNote, inner.Steps.Noted}
-use Rattle.run_memo.proofs.{Walks.walk-all, Walks.last-any, Copies.all-before, Copies.all-stand}
+use Rattle.run_key.specs.inner.Key.{Placed}
+use Rattle.run_entry.specs.inner.Entry.{Charged, Put, PlansPut}
+use Rattle.run_memo.specs.inner.Steps.{AtNote, Noted}
+use Rattle.run_memo.proofs.Walks.{walk-all, last-any}
+use Rattle.run_entry.proofs.Copies.{all-before, all-stand}
 
 prefix-tabulate : (work : List ℕ) (n : ℕ) → prefixOf work n ≡ tabulate n (at work)
 unfolding prefixOf

@@ -14,8 +14,11 @@ use Rattle.run_passed.proofs.Passed.{walk-by}
 use Rattle.run_state.specs.{inner.Walk.Summed, inner.Walk.State, inner.Walk.walk, inner.Memo.subtree, inner.Memo.Stand, inner.Memo.plansBelow, inner.Memo.Kept, inner.Pair.prefixOf, inner.Pair.orderIn}
 use Rattle.run_state.specs.inner.Pair.{ownIn, stateOf, ListRoom, AtPrefix, Walked}
 use Rattle.run_state.proofs.{Memo.tabulate-ext, Memo.memo-stays, Prefix.length-prefix, Prefix.prefix-at, Prefix.prefix-is, Walk.length-write, Written.length-order}
-use Rattle.run_memo.specs.{inner.Key.Placed, inner.Steps.Copies, inner.Steps.Copied, inner.Steps.Stands, inner.Steps.Taken, inner.Steps.GrowsBy, inner.Steps.grownBy}
-use Rattle.run_memo.proofs.{Walks.order-small, Walks.walk-summed, Walks.last-there, Walks.live-values, Copies.all-before}
+use Rattle.run_key.specs.inner.Key.{Placed}
+use Rattle.run_entry.specs.inner.Entry.{Copies, Copied, Stands, Taken}
+use Rattle.run_memo.specs.inner.Steps.{GrowsBy, grownBy}
+use Rattle.run_memo.proofs.Walks.{order-small, walk-summed, last-there, live-values}
+use Rattle.run_entry.proofs.Copies.{all-before}
 
 module _ (p : Problem) (stack work supports tables numbers list : List ℕ) (tally : Tally) (k : ℕ) (h : AtPrefix p stack work supports tables numbers list tally k)
     (s : ℕ) (z : Placed s) (e : Kept p (ownIn p numbers) (orderIn numbers (p .variables)) work list s) (size-b : length (e .prefix) ≡ k)

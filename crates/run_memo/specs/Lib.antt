@@ -1,2 +1,2 @@
--- The memo of a run: the key of a prefix, and what the functions of the memo ask and leave.
+-- The memo of a run: what its functions ask and leave.
 pub mod inner

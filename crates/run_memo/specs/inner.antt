@@ -1,3 +1,2 @@
 -- What stands between proved functions: no reader has to believe it.
-pub mod Key
 pub mod Steps

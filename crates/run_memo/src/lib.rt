@@ -25,11 +25,8 @@ ghost use Rattle.model.specs.Problem.{Problem};
 ghost use Rattle.arrays.specs.inner.Places.{WORK};
 ghost use Rattle.loans.specs.inner.Slices.{SameSlice};
 ghost use Rattle.run_state.specs.Meaning.{tallyIn};
-ghost use Rattle.run_memo.specs.inner.Key.{Placed};
+ghost use Rattle.run_key.specs.inner.Key.{Placed};
 ghost use Rattle.run_memo.specs.inner.Steps.{Cleared, Turned, AtLook, Looked, GrowsBy, grownBy, AtNote, Noted, Visited};
-
-mod entry;
-mod key;
 
 // Empties the memo.
 pub fn clear(work: &mut Work)
@@ -82,14 +79,14 @@ fn recall(
         (now (now (list .entry))) (tallyIn before) k (now (work .exit)) (now (now (list .exit))) r) ⌝ }
     ensures { λ _. ⌜ SameSlice (now (list .entry)) (now (list .exit)) ⌝ }
 {
-    let pending = key::pending_at(numbers, k);
-    let marks = key::marks_at(work, numbers[SYMMETRIES] as usize, k);
-    let s = key::entry_for(stack, numbers, k, marks.low);
-    if !entry::is_same(stack, work, numbers, before.nodes, k, pending, marks, s) {
+    let pending = run_key::pending_at(numbers, k);
+    let marks = run_key::marks_at(work, numbers[SYMMETRIES] as usize, k);
+    let s = run_key::entry_for(stack, numbers, k, marks.low);
+    if !run_entry::is_same(stack, work, numbers, before.nodes, k, pending, marks, s) {
         return s + VAIN;
     }
-    entry::copy(work, numbers, list, k, s);
-    entry::take(work, k, s);
+    run_entry::copy(work, numbers, list, k, s);
+    run_entry::take(work, k, s);
     s
 }
 
@@ -144,13 +141,13 @@ fn note(
     if last > 12 {
         return;
     }
-    entry::charge(work, k);
+    run_entry::charge(work, k);
     if after.nodes == before.nodes {
         return;
     }
-    let marks = key::marks_at(work, numbers[SYMMETRIES] as usize, k);
-    entry::put(stack, work, before, after, k, marks, place - VAIN);
-    entry::put_plans(work, turn - 1, place - VAIN);
+    let marks = run_key::marks_at(work, numbers[SYMMETRIES] as usize, k);
+    run_entry::put(stack, work, before, after, k, marks, place - VAIN);
+    run_entry::put_plans(work, turn - 1, place - VAIN);
 }
 
 // Looks where no place is given, else keeps: one function that is called twice is not compiled into the search.

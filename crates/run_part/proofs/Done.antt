@@ -20,8 +20,8 @@ use Rattle.run.specs.{Meaning.means, inner.Whole.Stopped, inner.Whole.Answered}
 use Rattle.run.proofs.Whole.{nothing-of}
 use Rattle.run_ranges.specs.{Ranges.resultPart, Ranges.answerPart, Ranges.listPart, Ranges.nodesSaid, Ranges.tallyPart, Ranges.lastPart, Claims.Call, inner.Within.within}
 use Rattle.run_ranges.proofs.Within.{within-whole}
-use Rattle.run_part.specs.inner.Steps.{AtBelow, Valued, Parted}
-use Rattle.run_part.proofs.Ends.{Begun, put-last, put-short, put-asks, valued-last}
+use Rattle.run_between.specs.inner.Steps.{AtBelow, Valued, Parted}
+use Rattle.run_between.proofs.Ends.{Begun, put-last, put-short, put-asks, valued-last}
 use Rattle.model.specs.Verdict as model
 use Rattle.model.proofs.Runs as R
 use Rattle.run.specs.declared.Answer as S

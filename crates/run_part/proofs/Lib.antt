@@ -1,7 +1,3 @@
--- The laws, in the order of the argument.
-pub mod Prefixes
-pub mod Steps
-pub mod Walks
-pub mod Ends
+-- The laws, and the tie.
 pub mod Done
 pub mod Tied

@@ -1,3 +1,2 @@
--- A part of a run between two paths: what the functions ask and leave, and what a caller holds.
+-- A part of a run between two paths: what a caller holds.
 pub mod Calls
-pub mod inner

@@ -22,8 +22,8 @@ use Rattle.run_state.proofs.Prefix.{prefix-is}
 use Rattle.run_search.proofs.Prepared.{room-fits, room-most}
 use Rattle.run_ranges.specs.inner.Within.{within}
 use Rattle.run_ranges.proofs.{Within.within-whole, Between.rest-between}
-use Rattle.run_part.specs.inner.Steps.{AtBelow, PutPath, Valued, Parted}
-use Rattle.run_part.proofs.Ends.{valued-last}
+use Rattle.run_between.specs.inner.Steps.{AtBelow, PutPath, Valued, Parted}
+use Rattle.run_between.proofs.Ends.{valued-last}
 use Rattle.run_resume.specs.inner.Resume.{treeOf, Put, Stands, PreparedAgain, GoesOn, GoneOn}
 
 -- ---- `put_progress`

@@ -27,7 +27,7 @@ pub fn put_progress(work: &mut Work, plans: usize, last: &[u8])
     ensures { λ _. ⌜ Put plans (now (last .entry)) (now (work .entry)) (now (work .exit)) ⌝ }
 {
     work[PLANS] = plans as u64;
-    run_part::put_path(work, last);
+    run_between::put_path(work, last);
 }
 
 // Makes all that the search reads of a sheet again, for so many nodes more and a list of this size: ALL where there are no nodes (a sheet that questions 1 to
@@ -84,10 +84,10 @@ pub fn go_on(
         (now (tables .entry)) (now (numbers .entry)) (now (list .entry)) step → GoneOn p s limit room (now (list .entry)) (now (work .exit))
         (now (list .exit)) (r .stop) (tallyIn (r .tally))) ⌝ }
 {
-    let last = run_part::last_values(work);
+    let last = run_between::last_values(work);
     let length = work[LAST] as usize;
     let open = [255u8; 1];
-    run_part::walk_part(
+    run_between::walk_part(
         stack,
         work,
         supports,

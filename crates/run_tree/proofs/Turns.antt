@@ -17,7 +17,8 @@ use Rattle.run_tree.proofs.{Steps.below-is, Steps.step-none, Steps.step
 use Rattle.run_tree.proofs.Steps.{node-then}
 use Rattle.run_state.proofs.{Walk.Fits, Walk.walk-fits, Walk.walk-stopped, Walk.summed-more, Prefix.length-prefix, Prefix.prefix-at, Prefix.prefix-ext, Prefix.prefix-take}
 use Rattle.run_state.proofs.{Prefix.prefix-snoc, Memo.Stay, Memo.memo-stays, Memo.memo-on, Written.order-at, Written.length-order, Written.settling-inside}
-use Rattle.run_memo.proofs.{Walks.live-values, Copies.listed-stay}
+use Rattle.run_memo.proofs.Walks.{live-values}
+use Rattle.run_entry.proofs.Copies.{listed-stay}
 
 -- the arrays still hold p where what was lent kept its length
 pub ready-on : {p : Problem} {gs : List (List ℕ)} {stack work supports tables numbers stack′ work′ : List ℕ} → Ready p gs stack work supports tables numbers → length stack′ ≡ length stack

@@ -2,7 +2,8 @@
 use Rattle.model.specs.Kit.{refl, _∙_, arith, needs}
 use Rattle.model.specs.Lists.{at}
 use Rattle.run_state.specs.Meaning.{tallyIn}
-use Rattle.run_memo.proofs.{Loops.yes-of, Looked.symmetries-few, Looked.copies-so, Looked.looked, Looked.looked-none, recall.Statement.statement}
+use Rattle.run_key.proofs.Loops.{yes-of}
+use Rattle.run_memo.proofs.{Looked.symmetries-few, Looked.copies-so, Looked.looked, Looked.looked-none, recall.Statement.statement}
 use Rattle.run_memo.proofs.recall.Tie as tie
 
 marks-at-requires : tie.Need-marks-at-requires

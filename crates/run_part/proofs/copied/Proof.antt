@@ -3,7 +3,8 @@ use Rattle.model.specs.Kit.{_≡_, _∙_, ℕ, _-_, _<_, arith, needs, length, 
 use Rattle.model.specs.Lists.{at}
 use Rattle.arrays.specs.inner.Places.{WORK}
 use Rattle.sheet.proofs.Whole.{zeros}
-use Rattle.run_part.proofs.{Ends.copying, copied.Statement.statement}
+use Rattle.run_between.proofs.Ends.{copying}
+use Rattle.run_part.proofs.copied.Statement.{statement}
 use Rattle.run_part.proofs.copied.Tie as tie
 
 abbrev Inv-loop : tie.InvT-loop

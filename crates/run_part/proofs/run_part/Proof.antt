@@ -3,7 +3,8 @@ use Rattle.model.specs.Kit.{refl, needs}
 use Rattle.model.specs.Lists.{at}
 use Rattle.arrays.specs.inner.Places.{PLANS, NUMBERS, STACK, SUPPORTS, TABLES, WORK, WANTED}
 use Rattle.sheet.proofs.Whole.{zeros}
-use Rattle.run_part.proofs.{Ends.begun-so, Done.part-asks, Done.part-stopped, Done.part-short, Done.part-bytes, Done.part-call, run_part.Statement.statement}
+use Rattle.run_between.proofs.Ends.{begun-so}
+use Rattle.run_part.proofs.{Done.part-asks, Done.part-stopped, Done.part-short, Done.part-bytes, Done.part-call, run_part.Statement.statement}
 use Rattle.run_part.proofs.run_part.Tie as tie
 
 prepare-requires : tie.Need-prepare-requires

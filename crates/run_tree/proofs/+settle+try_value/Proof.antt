@@ -73,8 +73,9 @@ use Rattle.arrays.specs.inner.Places.{LIMIT, NUMBERS, STACK, SUPPORTS, TABLES, 
 use Rattle.run_state.specs.inner.Pair.{settling, Countable, Counted, AtValues, AtValue, Walked, Entered, tried, lowestTried}
 use Rattle.run_state.specs.{Meaning.tallyIn, declared.Tally.Tally}
 use Rattle.loans.specs.inner.Slices.{SameSlice}
-use Rattle.run_memo.specs.{inner.Key.Placed, inner.Steps.Turned, inner.Steps.AtLook, inner.Steps.GrowsBy, inner.Steps.grownBy, inner.Steps.Looked, inner.Steps.AtNote, inner.Steps.Noted}
-use Rattle.run_memo.specs.{inner.Steps.Visited}
+use Rattle.run_key.specs.inner.Key.{Placed}
+use Rattle.run_memo.specs.inner.Steps.{Turned, AtLook, GrowsBy, grownBy, Looked, AtNote, Noted}
+use Rattle.run_memo.specs.inner.Steps.{Visited}
 use Rattle.run_tree.proofs.{Turns.turn-none, Turns.turn-spent, Turns.turn-stops, Turns.μ-settle, Turns.μ-try, Turns.try-falls, Turns.next-falls, Facts.ne-of, Facts.eq-of, Facts.lt-of}
 use Rattle.run_tree.proofs.{Facts.ge-of}
 use Rattle.run_tree.proofs.Facts.{rest-asks, rest-goes, others-fall, variable-few, node-counts, entered-stops, next-few, next-asks, next-goes, turn-asks-for, look-asks}

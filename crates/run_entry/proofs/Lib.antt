@@ -1,0 +1,3 @@
+-- The laws of an entry.
+pub mod Loops
+pub mod Copies

@@ -1,0 +1,2 @@
+-- An entry of the memo.
+pub mod inner

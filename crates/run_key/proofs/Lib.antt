@@ -1,0 +1,2 @@
+-- The laws of a key.
+pub mod Loops

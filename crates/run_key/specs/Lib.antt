@@ -1,0 +1,2 @@
+-- The key of a prefix.
+pub mod inner
