@@ -72,7 +72,7 @@ module _ (p : Problem) (rows : List ℕ) (row first m : ℕ) (numbers : List ℕ
     stays-out t o =
         let o′ : (q / p .values < first) ⊎ (first + m ≤ q / p .values) = subst (λ (d : ℕ). (q / d < first) ⊎ (first + m ≤ q / d)) values-are o in (
           sym (moved-pair p w (imageOf first m (ordering row)) q (T-of (isPair p q) t) ∙ ap (λ (x : ℕ). pair p x (q % p .values)) (image-outside first m few-of (ordering row) (q / p .values) o′)
-              ∙ P.pair-of p w q),
+              ∙ P.pair-of p q),
           small,
         )
 
@@ -88,7 +88,7 @@ module _ (p : Problem) (rows : List ℕ) (row first m : ℕ) (numbers : List ℕ
       goes-small t =
           let x< : y < p .variables = subst (λ (x : ℕ). x < p .variables) (sym image-of) (image-variable p w first m few-of (b .inside) row (b .uses .used) (q / p .values)
           (P.isPair-var p w q (T-of (isPair p q) t))) in
-          let k = P.pair-lt p w y (q % p .values) x< (P.mod-small p w q) in
+          let k = P.pair-lt p y (q % p .values) x< (P.mod-small p w q) in
           let s = size-few in
           subst (λ (d : ℕ). y * d + q % d < 192) (sym values-are) (omega arith)
 

@@ -30,7 +30,7 @@ module _ (p : Problem) (rows : List ℕ) (row first m : ℕ) (numbers : List ℕ
           let w = b .wellFormed in
           let t = T-of (isPair p q) e in
           subst (λ (k : ℕ). k < p .variables * p .values) (sym (moved-pair p w (imageOf first m (ordering row)) q t))
-          (P.pair-lt p w (imageOf first m (ordering row) (q / p .values)) (q % p .values)
+          (P.pair-lt p (imageOf first m (ordering row) (q / p .values)) (q % p .values)
           (image-variable p w first m (few rows row m (b .uses)) (b .inside) row (b .uses .used) (q / p .values) (P.isPair-var p w q t)) (P.mod-small p w q))
       go false e = subst (λ (k : ℕ). k < p .variables * p .values) (sym (unmoved p (b .wellFormed) (imageOf first m (ordering row)) q h (of-not (isPair p q) e))) h
 
@@ -112,9 +112,9 @@ module _ (p : Problem) (first m : ℕ) where
         go e x v l h k (no s) =
             let w = i .wellFormed in
             let y : e ≡ n = omega arith in
-            let c : pairCode (p .values) (pair p x v) ≡ 16 * x + v = ap₂ (λ (i j : ℕ). 16 * i + j) (P.pair-div p w x v k) (P.pair-mod p w x v k) in
+            let c : pairCode (p .values) (pair p x v) ≡ 16 * x + v = ap₂ (λ (i j : ℕ). 16 * i + j) (P.pair-div p x v k) (P.pair-mod p x v k) in
             ap (at new) (let z : 192 * e + 16 * x + v ≡ 192 * n + pairCode (p .values) (pair p x v) = omega arith in z)
-            ∙ r .here (pair p x v) (P.pair-lt p w x v h k)
+            ∙ r .here (pair p x v) (P.pair-lt p x v h k)
             ∙ ap (λ (t : List ℕ). imageCode p t x v) (sym (ap (symmetryAt (withBlock first m p)) (y ∙ en) ∙ table-is row u))
 
     tables-count : length (blockTables p first m) ≡ factorial m

@@ -58,7 +58,7 @@ module _ (p : Problem) (order numbers supports images : List ℕ) (m : Movable p
   few-values = omega (arith, values-is, w .sixteen)
 
   pub few-constraints : at numbers 66 ≤ 32
-  few-constraints = omega (arith, m .compiled .numbered .constraints, m .constraints)
+  few-constraints = omega (arith, m .compiled .numbered .constraints, w .most)
 
   pub few-symmetries : at numbers 67 ≤ 136
   few-symmetries = omega (arith, m .compiled .numbered .symmetries, m .symmetries)
@@ -193,7 +193,7 @@ module _ (p : Problem) (order numbers supports images : List ℕ) (m : Movable p
 
     image-after : (x v : ℕ) → x < p .variables → v < p .values → at (symmetryAt q e) (pair q x v) ≡ renamed p (position ord) (at g (pair p (at order x) v))
     image-after x v l k =
-        ap₂ at symmetry-at (R.pair-same p ord o w x v) ∙ R.table-at p ord o w g g-good (pair p x v) (P.pair-lt p w x v l k)
+        ap₂ at symmetry-at (R.pair-same p ord o w x v) ∙ R.table-at p ord o w g g-good (pair p x v) (P.pair-lt p x v l k)
         ∙ ap (λ (z : ℕ). renamed p (position ord) (at g z)) (R.from-pair p ord o w x v k ∙ ap (λ (z : ℕ). pair p z v) (sym (order-at x l)))
 
   -- ---- the parts together
@@ -297,7 +297,7 @@ module _ (p : Problem) (order numbers supports images : List ℕ) (m : Movable p
             ap (at images′) s ∙ b .here e (16 * x + v) z j
             ∙ ap (λ (i : ℕ). renamedTo stands (at images i)) (ap₂ (λ (c u : ℕ). 192 * e + (16 * at order c + u)) d r ∙ t)
             ∙ ap (renamedTo stands) (m .compiled .imaged e (at order x) v e′ (order-lt x l) k)
-            ∙ renamed-image (at (symmetryAt p e) (pair p (at order x) v)) (R.image-lt p ord o w (symmetryAt p e) (g-good e e′) (pair p (at order x) v) (P.pair-lt p w (at order x) v (order-lt x l) k))
+            ∙ renamed-image (at (symmetryAt p e) (pair p (at order x) v)) (R.image-lt p ord o w (symmetryAt p e) (g-good e e′) (pair p (at order x) v) (P.pair-lt p (at order x) v (order-lt x l) k))
             ∙ ap (λ (i : ℕ). 16 * (i / p .values) + i % p .values) (sym (image-after e e′ x v l k))
 
         pub moved : Moved p order numbers supports images numbers′ supports′ images′

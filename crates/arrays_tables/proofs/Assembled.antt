@@ -11,14 +11,14 @@ use Rattle.arrays_tables.specs.inner.Steps.{LinkNumbers, RowsSource, Loo
 use Rattle.arrays_tables.proofs.{Initial.initial-is, LookScopes.look-scopes-from, LookScopes.looks-up, ImageTables.imageTables}
 
 -- ---- what the numbers before LINKED say, where these stay
-pub numbers-kept : (p : Problem) (old new : List ℕ) → WellFormed p → length (p .constraints) ≤ 32 → ((j : ℕ) → j < LINKED → at new j ≡ at old j) → Numbers p old → Numbers p new
-numbers-kept p old new wf few k nb = record {
+pub numbers-kept : (p : Problem) (old new : List ℕ) → WellFormed p → ((j : ℕ) → j < LINKED → at new j ≡ at old j) → Numbers p old → Numbers p new
+numbers-kept p old new wf k nb = record {
   touching = λ x c l h. ap (λ (n : ℕ). has n c) (k x (omega arith)) ∙ nb .touching x c l h;
   touching-few = λ x l. subst (λ (n : ℕ). n < 2 ^ length (p .constraints)) (sym (k x (omega arith))) (nb .touching-few x l);
   initial = λ x l. k (INITIAL + x) (omega (arith, wf .few)) ∙ nb .initial x l;
   unused = λ x h l. k (INITIAL + x) (omega arith) ∙ nb .unused x h l;
-  arity = λ c h. ap (λ (n : ℕ). n % 256) (k (SCOPES + c) (omega arith)) ∙ nb .arity c h;
-  scope = λ c i h l. ap (λ (n : ℕ). n / 256 ^ suc i % 256) (k (SCOPES + c) (omega arith)) ∙ nb .scope c i h l;
+  arity = λ c h. ap (λ (n : ℕ). n % 256) (k (SCOPES + c) (omega (arith, wf .most))) ∙ nb .arity c h;
+  scope = λ c i h l. ap (λ (n : ℕ). n / 256 ^ suc i % 256) (k (SCOPES + c) (omega (arith, wf .most))) ∙ nb .scope c i h l;
   variables = k VARIABLES (omega arith) ∙ nb .variables;
   values = k VALUES (omega arith) ∙ nb .values;
   constraints = k CONSTRAINTS (omega arith) ∙ nb .constraints;
@@ -65,7 +65,7 @@ module _ (p : Problem) (wf : WellFormed p) (numbers tables : List ℕ) (nb : Num
 -- ---- the end
 module _ (p : Problem) (n0 supports images t0 : List ℕ) (c : Compact p n0 supports images t0) (n1 : List ℕ) (l : LinkNumbers n0 n1) where
   numbered-1 : Numbers p n1
-  numbered-1 = numbers-kept p n0 n1 (c .wellFormed) (c .constraints) (l .kept) (c .compiled .numbered)
+  numbered-1 = numbers-kept p n0 n1 (c .wellFormed) (l .kept) (c .compiled .numbered)
 
   rows-source : RowsSource p n1 supports
   rows-source = record { numbered = numbered-1; supported = c .compiled .supported; wellFormed = c .wellFormed; linked = l .linked p (c .compiled .numbered) (c .wellFormed) }
@@ -83,7 +83,7 @@ module _ (p : Problem) (n0 supports images t0 : List ℕ) (c : Compact p n0 supp
     at-loose = lanes .kept LOOSE (omega arith) ∙ looks .other LOOSE (λ v k e. omega arith) ∙ at-set n1 LOOSE r (omega (arith, l .size, c .numbers-length))
 
     numbered : Numbers p n4
-    numbered = numbers-kept p n0 n4 (c .wellFormed) (c .constraints) kept (c .compiled .numbered)
+    numbered = numbers-kept p n0 n4 (c .wellFormed) kept (c .compiled .numbered)
 
     first-at : (j : ℕ) → j < LOOSE → at n4 j ≡ at (set n1 LOOSE 0) j
     first-at j h = low j h ∙ sym (at-set-other n1 LOOSE 0 j (λ e. omega arith))
@@ -110,7 +110,7 @@ module _ (p : Problem) (n0 supports images t0 : List ℕ) (c : Compact p n0 supp
         rowed = λ x v y hx hv hy. stored .kept .low (256 * x + 16 * v + y) (omega arith) ∙ rows .1 p rows-source x v y hx hv hy;
         worded = lanes .words;
         looks = λ k j h t. looks-up p n1 k (at n2 (LOOKS + k)) numbered-1 (look-scopes-from n1 (set n1 LOOSE r) k (at n2 (LOOKS + k)) (λ i l. at-set-other n1 LOOSE r i (λ e. omega arith))
-            (omega (arith, numbered-1 .constraints, c .constraints)) (looks .here k h)) j
+            (omega (arith, numbered-1 .constraints, c .wellFormed .most)) (looks .here k h)) j
             (subst (λ (z : ℕ). T (has z j)) (lanes .kept (LOOKS + k) (omega arith)) t);
         imageTables = imageTables p n4 images t1 t2 (c .wellFormed) numbered (c .compiled .imaged) stored;
       };
@@ -124,7 +124,7 @@ module _ (p : Problem) (n0 supports images t0 : List ℕ) (c : Compact p n0 supp
   pub bounds : (at n0 VARIABLES ≤ 12) × (at n0 CONSTRAINTS ≤ 32) × (at n0 SYMMETRIES ≤ 16)
   bounds = (
     omega (arith, c .compiled .numbered .variables, c .wellFormed .few),
-    omega (arith, c .compiled .numbered .constraints, c .constraints),
+    omega (arith, c .compiled .numbered .constraints, c .wellFormed .most),
     omega
         (arith, c .compiled .numbered .symmetries, c .symmetries),
   )

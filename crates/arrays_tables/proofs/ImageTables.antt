@@ -25,12 +25,12 @@ module _ (p : Problem) (numbers images old new : List ℕ) (wf : WellFormed p) (
     (s : SymmetriesStored numbers images (at numbers VARIABLES) (at numbers SYMMETRIES) old new) where
   point : (e x v : ℕ) → e < length (p .symmetries) → x < p .variables → T (has (at (p .initial) x) v) → PairStored images (initialOf numbers x) (192 * e + 16 * x) v new
   point e x v k l t =
-      let d = Pairs.init-lt p wf x v l t in
+      let d = Pairs.init-lt p (wf .narrow) x v l t in
       let q : v < 16 = omega (arith, wf .sixteen) in
       s .stored e x (omega (arith, nb .symmetries)) (omega (arith, nb .variables)) v q (subst (λ (z : ℕ). T (has z v)) (sym (initial-is p numbers wf nb x l)) t)
 
   image-is : (e x u : ℕ) → e < length (p .symmetries) → x < p .variables → T (has (at (p .initial) x) u) → at images (192 * e + 16 * x + u) ≡ imageOf p e x u
-  image-is e x u k l t = im e x u k l (Pairs.init-lt p wf x u l t)
+  image-is e x u k l t = im e x u k l (Pairs.init-lt p (wf .narrow) x u l t)
 
   pub imageTables : ImageTables p new
   imageTables = record {

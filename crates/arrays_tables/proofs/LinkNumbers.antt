@@ -1,10 +1,10 @@
 -- The numbers of the constraints that are pruned by variable. Assumes nothing.
-use Rattle.model.specs.Kit.{_≡_, sym, ap, ap₂, _∙_, subst, true, not, List, ℕ, _+_, _-_, _^_, _≤_, _<_, lt-of-le-of-lt, arith, bitAnd, and-le-l, T, eqb, length, set, length-set}
+use Rattle.model.specs.Kit.{_≡_, sym, ap, ap₂, _∙_, subst, true, not, List, ℕ, _+_, _-_, _^_, _<_, lt-of-le-of-lt, arith, bitAnd, and-le-l, T, eqb, length, set, length-set}
 use Rattle.model.specs.Kit.{ne-eqb}
 use Rattle.model.specs.{Lists.any, Lists.at, Lists.both, ValueSets.has, Problem.Problem, Problem.constraintAt, WellFormed.WellFormed, inner.Filling.Filled, inner.Filling.Gathered}
 use Rattle.model.proofs.{Lists.T-of, Lists.among-e, Lists.at-set, Lists.at-set-other, Masks.has-and, Masks.has-not, Members.has-0, Members.and-i, Filling.gathered-is}
 use Rattle.model.proofs.Filling.{gathered-lt}
-use Rattle.arrays.specs.inner.Places.{BY-ROWS, CONSTRAINTS, LINKED, LOOSE, OTHERS, VARIABLES, NUMBERS}
+use Rattle.arrays.specs.inner.Places.{BY-ROWS, LINKED, LOOSE, OTHERS, VARIABLES, NUMBERS}
 use Rattle.arrays.specs.{inner.Layout.Numbers, inner.Tables.byRows}
 use Rattle.arrays.proofs.Links.{good}
 use Rattle.arrays_tables.specs.inner.Steps.{LinkedFirst, LinkNumbers}
@@ -48,8 +48,8 @@ module _ (old : List ℕ) (m vars : ℕ) (long : length old ≡ NUMBERS) (small 
   none-loose : (x : ℕ) → T (has (at first LOOSE) x) → ⊥
   none-loose x t = has-0 x (subst (λ (n : ℕ). T (has n x)) (at-set new LOOSE 0 (omega (arith, new-long))) t)
 
-  linked-first : (p : Problem) → Numbers p old → WellFormed p → length (p .constraints) ≤ 32 → LinkedFirst p new
-  linked-first p nb wf few = record {
+  linked-first : (p : Problem) → Numbers p old → WellFormed p → LinkedFirst p new
+  linked-first p nb wf = record {
     by-rows = λ k h. ap (λ (n : ℕ). has n k) by-rows ∙ gathered-is (byRows p) _ m k (gm p nb) h;
     linked = λ x k h b t.
         (let l = scope-below p wf k x h t in
@@ -58,7 +58,7 @@ module _ (old : List ℕ) (m vars : ℕ) (long : length old ≡ NUMBERS) (small 
         ∙ meet (at old x) m k (subst T (sym (nb .touching x k l16 h)) t) (subst T (sym (gathered-is (byRows p) _ m k (gm p nb) h)) b)));
     linked-few = λ x t. (let l = gathered-lt _ _ vars x gv (subst (λ (n : ℕ). T (has n x)) linked t) in omega (arith, nb .variables));
     touching = λ x k l h.
-        (let k64 : k < 64 = omega arith in
+        (let k64 : k < 64 = omega (arith, wf .most) in
         ap (λ (n : ℕ). has n k) (others x l) ∙ has-and (at old x) ((2 ^ 64 - 1) - m) k
         ∙ ap₂ both (nb .touching x k l h) (has-not 64 m k small k64 ∙ ap not (gathered-is (byRows p) _ m k (gm p nb) h)));
     touching-few = λ x l. subst (λ (n : ℕ). n < 2 ^ length (p .constraints)) (sym (others x l)) (lt-of-le-of-lt (and-le-l (at old x) ((2 ^ 64 - 1) - m)) (nb .touching-few x l));
@@ -74,9 +74,9 @@ module _ (old : List ℕ) (m vars : ℕ) (long : length old ≡ NUMBERS) (small 
       others : (x : ℕ) → x < 16 → at first (OTHERS + x) ≡ bitAnd (at old x) ((2 ^ 64 - 1) - m)
       others x l = first-at (OTHERS + x) (λ e. omega arith) ∙ at-others x l
 
-  pub link-numbers : at old CONSTRAINTS ≤ 32 → LinkNumbers old new
-  link-numbers few = record {
-    linked = λ p nb wf. linked-first p nb wf (omega (arith, nb .constraints));
+  pub link-numbers : LinkNumbers old new
+  link-numbers = record {
+    linked = linked-first;
     size = new-long ∙ sym long;
     kept = low;
   }

@@ -19,11 +19,11 @@ module _ (p : Problem) (w : WellFormed p) (order : List ℕ) (o : Ordering (p .v
       at (symmetryIn order p g) (pair (reordered order p) i v) ≡ pair (reordered order p) (position order y) v
   unfolding symmetryIn renamed
   moved-in g i y v l t e =
-      let small = P.init-lt p w (at order i) v (R.place-lt p order o i l) (has-in i v l t) in
+      let small = P.init-lt p (w .narrow) (at order i) v (R.place-lt p order o i l) (has-in i v l t) in
       ap (at (symmetryIn order p g)) (R.pair-same p order o w i v) ∙ at-below (λ q. renamed p (position order) (at g (renamed p (at order) q))) (p .variables * p .values) (pair p i v)
-      (P.pair-lt p w i v l small)
+      (P.pair-lt p i v l small)
       ∙ ap (λ (q : ℕ). renamed p (position order) (at g q)) (R.from-pair p order o w i v small) ∙ ap (renamed p (position order)) e
-      ∙ ap₂ (λ (a b : ℕ). pair p (position order a) b) (P.pair-div p w y v small) (P.pair-mod p w y v small) ∙ sym (R.pair-same p order o w (position order y) v)
+      ∙ ap₂ (λ (a b : ℕ). pair p (position order a) b) (P.pair-div p y v small) (P.pair-mod p y v small) ∙ sym (R.pair-same p order o w (position order y) v)
 
   module _ (block : ℕ → Bool) where
     abbrev pub blockIn : ℕ → Bool

@@ -76,16 +76,16 @@ module _ (p : Problem) (w : WellFormed p) (prefix : List ℕ) where
   -- a symmetry that takes (x, v) to (y, v) meets an assignment in that pair where the assignment has v at y
   meets-e : (g a : List ℕ) (x y v : ℕ) → x < p .variables → T (has (at (p .initial) x) v) → at g (pair p x v) ≡ pair p y v → y < length a → T (meetsIn p g prefix a x v) → at a y ≡ v
   meets-e g a x y v l t e b m =
-      let small = P.init-lt p w x v l t in
-      let z : at g (pair p x v) / p .values ≡ y = ap (λ (q : ℕ). q / p .values) e ∙ P.pair-div p w y v small in
-      let r : at g (pair p x v) % p .values ≡ v = ap (λ (q : ℕ). q % p .values) e ∙ P.pair-mod p w y v small in
+      let small = P.init-lt p (w .narrow) x v l t in
+      let z : at g (pair p x v) / p .values ≡ y = ap (λ (q : ℕ). q / p .values) e ∙ P.pair-div p y v small in
+      let r : at g (pair p x v) % p .values ≡ v = ap (λ (q : ℕ). q % p .values) e ∙ P.pair-mod p y v small in
       sym (getD-at a y 16 b) ∙ eqb→eq (getD a y 16) v (subst (λ (k : ℕ). T (eqb (getD a y 16) k)) r (subst (λ (k : ℕ). T (eqb (getD a k 16) (at g (pair p x v) % p .values))) z m))
 
   meets-i : (g a : List ℕ) (x y v : ℕ) → x < p .variables → T (has (at (p .initial) x) v) → at g (pair p x v) ≡ pair p y v → y < length a → at a y ≡ v → T (meetsIn p g prefix a x v)
   meets-i g a x y v l t e b q =
-      let small = P.init-lt p w x v l t in
-      let z : at g (pair p x v) / p .values ≡ y = ap (λ (q : ℕ). q / p .values) e ∙ P.pair-div p w y v small in
-      let r : at g (pair p x v) % p .values ≡ v = ap (λ (q : ℕ). q % p .values) e ∙ P.pair-mod p w y v small in
+      let small = P.init-lt p (w .narrow) x v l t in
+      let z : at g (pair p x v) / p .values ≡ y = ap (λ (q : ℕ). q / p .values) e ∙ P.pair-div p y v small in
+      let r : at g (pair p x v) % p .values ≡ v = ap (λ (q : ℕ). q % p .values) e ∙ P.pair-mod p y v small in
       subst (λ (k : ℕ). T (eqb (getD a k 16) (at g (pair p x v) % p .values))) (sym z)
       (subst (λ (k : ℕ). T (eqb (getD a y 16) k)) (sym r) (subst (λ (k : ℕ). T (eqb k v)) (sym (getD-at a y 16 b ∙ q)) (eqb-refl v)))
 
@@ -151,7 +151,7 @@ module _ (p : Problem) (w : WellFormed p) (prefix : List ℕ) where
             let long : length a ≡ p .variables = d .0 ∙ sized in
             let hy : T (has (at (p .initial) y) v) = subst (λ (u : ℕ). T (has (at (p .initial) y) u)) (r .3) (drawn-has a d y y< .0) in
             let hx : T (has (at (p .initial) x) v) = subst (λ (s : ℕ). T (has s v)) (sym equal) hy in
-            let v< : v < 16 = (let c = P.init-lt p w x v x< hx in let f = w .sixteen in omega arith) in
+            let v< : v < 16 = (let c = P.init-lt p (w .narrow) x v x< hx in let f = w .sixteen in omega arith) in
             absurd (prefix-e p g prefix a (r .2) x v b
             (λ i c. let i< : i < p .variables = omega arith in
             let s = drawn-has a d i i< in

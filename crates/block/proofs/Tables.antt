@@ -58,7 +58,7 @@ module _ (p : Problem) where
     scope-pair [] vs l d q m = absurd (List·Memᴰ·not-nil m)
     scope-pair (x ∷ xs) [] l d q m = absurd (List·Memᴰ·not-nil m)
     scope-pair (x ∷ xs) (v ∷ vs) l d q m =
-        ⊎-elim {C = T (isPair p q)} (λ e. subst (λ (k : ℕ). T (isPair p k)) (sym e) (P.isPair-i p w x v (l x (List·Memᴰ·head refl)) (d .1 0 (omega arith))))
+        ⊎-elim {C = T (isPair p q)} (λ e. subst (λ (k : ℕ). T (isPair p k)) (sym e) (P.isPair-i p (w .narrow) x v (l x (List·Memᴰ·head refl)) (d .1 0 (omega arith))))
         (scope-pair xs vs (λ y k. l y (List·Memᴰ·tail k)) (omega (arith, d .0), λ j h. d .1 (suc j) (omega arith)) q) (List·Memᴰ·cases-cons m)
 
     pub forbidden-pair : (f : List ℕ) → List·Memᴰ f (forbidden p) → (q : ℕ) → List·Memᴰ q f → T (isPair p q)
@@ -67,8 +67,8 @@ module _ (p : Problem) where
         in-doubled : (x : ℕ) × (x < p .variables) × List·Memᴰ f (doubled p x) → T (isPair p q)
         in-doubled (x, l, i) =
             let r = P.doubled-e p x f i in
-            ⊎-elim {C = T (isPair p q)} (λ e. subst (λ (j : ℕ). T (isPair p j)) (sym e) (P.isPair-i p w x (r .0) l (r .2)))
-            (λ j. subst (λ (j : ℕ). T (isPair p j)) (sym (List·Memᴰ·eq-of-singleton j)) (P.isPair-i p w x (r .1) l (r .3)))
+            ⊎-elim {C = T (isPair p q)} (λ e. subst (λ (j : ℕ). T (isPair p j)) (sym e) (P.isPair-i p (w .narrow) x (r .0) l (r .2)))
+            (λ j. subst (λ (j : ℕ). T (isPair p j)) (sym (List·Memᴰ·eq-of-singleton j)) (P.isPair-i p (w .narrow) x (r .1) l (r .3)))
             (List·Memᴰ·cases-cons (subst (List·Memᴰ q) (r .5) k))
 
         in-excluded : (c : Constraint) × List·Memᴰ c (p .constraints) × List·Memᴰ f (excluded p c) → T (isPair p q)
@@ -97,7 +97,7 @@ module _ (p : Problem) where
           record {
             sized = sized;
             permutes = permutes-i (composed g h) sized record {
-              pairs = λ q i. subst (λ (r : ℕ). T (isPair p r)) (sym (step q (P.isPair-lt p w q i))) (S.to-pair p w h b (at g q) (S.to-pair p w g a q i));
+              pairs = λ q i. subst (λ (r : ℕ). T (isPair p r)) (sym (step q (P.isPair-lt p q i))) (S.to-pair p w h b (at g q) (S.to-pair p w g a q i));
               others = λ q l i. step q l ∙ ap (at h) (S.to-self p w g a q l i) ∙ S.to-self p w h b q l i;
               different = λ i j k l e.
                   S.injective p w g a i j k l (S.injective p w h b (at g i) (at g j) (S.image-lt p w g a i k) (S.image-lt p w g a j l) (sym (step i k) ∙ e ∙ step j l));
@@ -115,7 +115,7 @@ module _ (p : Problem) where
             λ q k.
                 let y = Memᴰ·of-map (at h) (c .0) (d .2 q k) in
                 let x = Memᴰ·of-map (at g) f (c .2 (y .0) (y .1)) in
-                (x .0, x .1, step (x .0) (P.isPair-lt p w (x .0) (forbidden-pair f m (x .0) (x .1))) ∙ ap (at h) (x .2) ∙ y .2),
+                (x .0, x .1, step (x .0) (P.isPair-lt p (x .0) (forbidden-pair f m (x .0) (x .1))) ∙ ap (at h) (x .2) ∙ y .2),
           ))
 
     pub passes-composed : (g h : List ℕ) → Passes p g → Passes p h → Passes p (composed g h)
@@ -127,12 +127,12 @@ module _ (p : Problem) where
       good = record {
         sized = n;
         permutes = permutes-i g n record {
-          pairs = λ q t. subst (λ (k : ℕ). T (isPair p k)) (sym (e q (P.isPair-lt p w q t))) t;
+          pairs = λ q t. subst (λ (k : ℕ). T (isPair p k)) (sym (e q (P.isPair-lt p q t))) t;
           others = λ q l t. e q l;
           different = λ i j a b q. sym (e i a) ∙ q ∙ e j b;
         };
       };
-      respectful = respects-i g (λ f m. (f, m, λ q k. (q, k, e q (P.isPair-lt p w q (forbidden-pair f m q k)))));
+      respectful = respects-i g (λ f m. (f, m, λ q k. (q, k, e q (P.isPair-lt p q (forbidden-pair f m q k)))));
     }
 
     -- ---- tables that move variables
@@ -149,7 +149,7 @@ module _ (p : Problem) where
 
     pub moved-pair : (f : ℕ → ℕ) (q : ℕ) → T (isPair p q) → at (variableTable p f) q ≡ pair p (f (q / p .values)) (q % p .values)
     moved-pair f q t =
-        at-variableTable f q (P.isPair-lt p w q t) ∙ choose-yes (isPair p q) (pair p (f (q / p .values)) (q % p .values)) q (of-T (isPair p q) t)
+        at-variableTable f q (P.isPair-lt p q t) ∙ choose-yes (isPair p q) (pair p (f (q / p .values)) (q % p .values)) q (of-T (isPair p q) t)
 
     pub unmoved : (f : ℕ → ℕ) (q : ℕ) → q < size → (T (isPair p q) → ⊥) → at (variableTable p f) q ≡ q
     unmoved f q h t = at-variableTable f q h ∙ choose-no (isPair p q) (pair p (f (q / p .values)) (q % p .values)) q (not-of (isPair p q) t)
@@ -157,8 +157,8 @@ module _ (p : Problem) where
     -- (x, v) goes to (f x, v)
     pub moved : (f : ℕ → ℕ) (x v : ℕ) → x < p .variables → T (has (at (p .initial) x) v) → at (variableTable p f) (pair p x v) ≡ pair p (f x) v
     moved f x v h t =
-        let l = P.init-lt p w x v h t in
-        moved-pair f (pair p x v) (P.isPair-i p w x v h t) ∙ ap₂ (λ (y u : ℕ). pair p (f y) u) (P.pair-div p w x v l) (P.pair-mod p w x v l)
+        let l = P.init-lt p (w .narrow) x v h t in
+        moved-pair f (pair p x v) (P.isPair-i p (w .narrow) x v h t) ∙ ap₂ (λ (y u : ℕ). pair p (f y) u) (P.pair-div p x v l) (P.pair-mod p x v l)
 
     pub variableTable-ext : (f g : ℕ → ℕ) → ((x : ℕ) → x < p .variables → f x ≡ g x) → variableTable p f ≡ variableTable p g
     variableTable-ext f g e =
@@ -174,7 +174,7 @@ module _ (p : Problem) where
     passes-unmoved f e = passes-still (variableTable p f) (length-variableTable f) (λ q h. each q h (T-dec (isPair p q)))
       where
         each : (q : ℕ) → q < size → T (isPair p q) ⊎ (T (isPair p q) → ⊥) → at (variableTable p f) q ≡ q
-        each q h (inl t) = moved-pair f q t ∙ ap (λ (y : ℕ). pair p y (q % p .values)) (e (q / p .values) (P.isPair-var p w q t)) ∙ P.pair-of p w q
+        each q h (inl t) = moved-pair f q t ∙ ap (λ (y : ℕ). pair p y (q % p .values)) (e (q / p .values) (P.isPair-var p w q t)) ∙ P.pair-of p q
         each q h (inr t) = unmoved f q h t
 
     -- where the table of f passes question 15
@@ -185,9 +185,9 @@ module _ (p : Problem) where
       -- the initial set of x lies within that of f x
       pub moved-has : (x v : ℕ) → x < p .variables → T (has (at (p .initial) x) v) → T (has (at (p .initial) (f x)) v)
       moved-has x v h t =
-          let l = P.init-lt p w x v h t in
-          let k : T (isPair p (pair p (f x) v)) = subst (λ (q : ℕ). T (isPair p q)) (moved f x v h t) (to-pair (pair p x v) (P.isPair-i p w x v h t)) in
-          subst T (ap₂ (λ (y u : ℕ). has (at (p .initial) y) u) (P.pair-div p w (f x) v l) (P.pair-mod p w (f x) v l)) (P.isPair-has p w (pair p (f x) v) k)
+          let l = P.init-lt p (w .narrow) x v h t in
+          let k : T (isPair p (pair p (f x) v)) = subst (λ (q : ℕ). T (isPair p q)) (moved f x v h t) (to-pair (pair p x v) (P.isPair-i p (w .narrow) x v h t)) in
+          subst T (ap₂ (λ (y u : ℕ). has (at (p .initial) y) u) (P.pair-div p (f x) v l) (P.pair-mod p (f x) v l)) (P.isPair-has p (pair p (f x) v) k)
 
       -- the table of f and then that of g is the table of f and then g
       pub variableTable-composed : (g : ℕ → ℕ) → composed (variableTable p f) (variableTable p g) ≡ variableTable p (λ x. g (f x))
@@ -206,5 +206,5 @@ module _ (p : Problem) where
               let l = P.mod-small p w q in
               let k : T (isPair p (pair p x v)) = subst (λ (r : ℕ). T (isPair p r)) (moved-pair f q t) (to-pair q t) in
               ap (at (variableTable p g)) (moved-pair f q t) ∙ moved-pair g (pair p x v) k
-              ∙ ap₂ (λ (y u : ℕ). pair p (g y) u) (P.pair-div p w x v l) (P.pair-mod p w x v l) ∙ sym (moved-pair (λ x. g (f x)) q t)
+              ∙ ap₂ (λ (y u : ℕ). pair p (g y) u) (P.pair-div p x v l) (P.pair-mod p x v l) ∙ sym (moved-pair (λ x. g (f x)) q t)
           each q h (inr t) = ap (at (variableTable p g)) (unmoved f q h t) ∙ unmoved g q h t ∙ sym (unmoved (λ x. g (f x)) q h t)

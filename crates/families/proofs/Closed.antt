@@ -50,7 +50,7 @@ module _ (p : Problem) where
 
     module _ (a b c f g : List ℕ) (sa : T (isSolution p a)) (sc : T (isSolution p c)) (tf : T (takes p f a b)) (tg : T (takes p g b c)) where
       pair-below : (q : ℕ) → List·Memᴰ q (pairsOf p a) → q < size
-      pair-below q m = P.isPair-lt p w q (P.sol-pair p w a sa q m)
+      pair-below q m = P.isPair-lt p q (P.sol-pair p w a sa q m)
 
       through : (q : ℕ) → List·Memᴰ q (pairsOf p a) → List·Memᴰ (at g (at f q)) (pairsOf p c)
       through q m = takes-in p g b c tg (at f q) (takes-in p f a b tf q m)

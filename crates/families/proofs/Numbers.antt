@@ -132,9 +132,9 @@ module _ (p : Problem) (w : WellFormed p) (respected : Respected p) where
     image-pair x lx =
         let m = takes-in p (symmetryAt p k) (solutionAt p i) image (image-good k i lk li .1) (pair p x (at (solutionAt p i) x)) (P.pairs-i p (solutionAt p i) x lx) in
         let t = P.sol-pair p w image solves (goes x) m in (
-          P.isPair-lt p w (goes x) t,
+          P.isPair-lt p (goes x) t,
           P.isPair-var p w (goes x) t,
-          P.sol-at p w image solves (goes x / p .values) (goes x % p .values) (P.mod-small p w (goes x)) (Memᴰ·cast (P.pair-of p w (goes x)) m),
+          P.sol-at p w image solves (goes x / p .values) (goes x % p .values) (P.mod-small p w (goes x)) (Memᴰ·cast (P.pair-of p (goes x)) m),
         )
 
     -- every variable of the image gets its value so
@@ -142,4 +142,4 @@ module _ (p : Problem) (w : WellFormed p) (respected : Respected p) where
     image-onto y ly =
         let r = takes-on p (symmetryAt p k) (solutionAt p i) image (image-good k i lk li .1) (pair p y (at image y)) (P.pairs-i p image y ly) in
         let x = P.pairs-e p (solutionAt p i) (r .0) (r .1) in
-        (x .0, x .1, ap (λ (z : ℕ). z / p .values) (ap (at (symmetryAt p k)) (sym (x .2)) ∙ r .2) ∙ P.pair-div p w y (at image y) (P.sol-lt p w image solves y ly))
+        (x .0, x .1, ap (λ (z : ℕ). z / p .values) (ap (at (symmetryAt p k)) (sym (x .2)) ∙ r .2) ∙ P.pair-div p y (at image y) (P.sol-lt p w image solves y ly))

@@ -122,11 +122,11 @@ module _ {p : Problem} {rows images : List ℕ} {variables i k : ℕ} (a : Imagi
   imaging-apart x h l m e =
       let v : goes x / p .values ≡ goes h / p .values = sym (sent-variable x l) ∙ e ∙ sent-variable h m in
       let w : goes x % p .values ≡ goes h % p .values = sym (sent-value x l) ∙ sym (imaging-same x l) ∙ ap (at (solutionAt p (imageAt p k i))) e ∙ imaging-same h m ∙ sent-value h m in
-      let g : goes x ≡ goes h = sym (P.pair-of p good (goes x)) ∙ ap₂ (pair p) v w ∙ P.pair-of p good (goes h) in
+      let g : goes x ≡ goes h = sym (P.pair-of p (goes x)) ∙ ap₂ (pair p) v w ∙ P.pair-of p (goes h) in
       let q = S.injective p good (symmetryAt p k) (good .symmetric (symmetryAt p k) (symmetry-among p good respected k (a .symmetry)))
-      (pair p x (at (solutionAt p i) x)) (pair p h (at (solutionAt p i) h)) (P.pair-lt p good x (at (solutionAt p i) x) (lx x l) (value-lt x l))
-      (P.pair-lt p good h (at (solutionAt p i) h) (lx h m) (value-lt h m)) g in
-      sym (P.pair-div p good x (at (solutionAt p i) x) (value-lt x l)) ∙ ap (λ (z : ℕ). z / p .values) q ∙ P.pair-div p good h (at (solutionAt p i) h) (value-lt h m)
+      (pair p x (at (solutionAt p i) x)) (pair p h (at (solutionAt p i) h)) (P.pair-lt p x (at (solutionAt p i) x) (lx x l) (value-lt x l))
+      (P.pair-lt p h (at (solutionAt p i) h) (lx h m) (value-lt h m)) g in
+      sym (P.pair-div p x (at (solutionAt p i) x) (value-lt x l)) ∙ ap (λ (z : ℕ). z / p .values) q ∙ P.pair-div p h (at (solutionAt p i) h) (value-lt h m)
 
   -- every variable of the image is gone to
   pub imaging-onto : (y : ℕ) → y < variables → (x : ℕ) × (x < variables) × (sent rows images variables i k x / 16 ≡ y)

@@ -2,7 +2,7 @@
 use Rattle.model.specs.Kit.{_≡_, refl, sym, ap, ap₂, _∙_, subst₂, Bool, true, false, List, [], _∷_, ℕ, _*_, _/_, _%_, _≤_, _<_, arith, T, length, getD, length-append, lt-ltb}
 use Rattle.model.specs.Kit.{le-ltb}
 use Rattle.model.specs.{Lists.at, Problem.Problem, Verdict.Verdict, Verdict.accepted, Verdict.refused, Verdict.isAccepted, Verdict.reply, Sheet.problemOf, WellFormed.WellFormed}
-use Rattle.model.proofs.{Lists.length-below, Accepted.constraints-are, Accepted.symmetries-are, Accepted.accepted-is, Accepted.is-accepted, Lists.never}
+use Rattle.model.proofs.{Lists.length-below, Accepted.stated, Accepted.symmetries-are, Accepted.accepted-is, Accepted.is-accepted, Lists.never}
 use Rattle.sheet.specs.{declared.Answer.Answer, declared.Answer.the-variants.Accepted}
 use Rattle.block.specs.Block.{factorial, orderingTable, blockTables, tablesLent, blockLent, withLent}
 use Rattle.block.proofs.{Orderings.factorial-le, Block.block-e}
@@ -39,14 +39,12 @@ module _ (b pairs block numbers images : List ℕ) (h : Passed b pairs block num
   imaged-of =
       let w = well-sheet b pairs block good in
       let x = lent-passed b pairs block good .sheet .header in
-      let l = constraints-are b in
       let m = symmetries-are b in
-      let f = x .constraints in
       let g = x .symmetries in
       record {
         wellFormed = w;
         framed = record {
-          stated = record { few = w .few; one = w .one; sixteen = w .sixteen; narrow = w .narrow; most = omega arith; constrained = w .constrained };
+          stated = stated w;
           numbered = h .numbered;
         };
         symmetries = omega arith;

@@ -27,7 +27,7 @@ module _ (p : Problem) (stack work supports tables numbers images list : List �
 
   compiled₀ : Compiled p bounded supports images
   compiled₀ = record {
-    numbered = numbers-kept p numbers bounded (h .limits .wellFormed .few) (h .limits .constraints) (λ i l. same₀ i l)
+    numbered = numbers-kept p numbers bounded (h .limits .wellFormed .few) (h .limits .wellFormed .most) (λ i l. same₀ i l)
         (h .compiled .numbered);
     supported = h .compiled .supported;
     imaged = h .compiled .imaged;

@@ -1,17 +1,17 @@
 -- The figure from a bare run on the arrays (specs/Held). Assumes nothing.
-use Rattle.model.specs.Kit.{_≡_, refl, sym, ap, _∙_, subst, inl, ⊎-elim, List, [], _∷_, List·Memᴰ·not-nil, ℕ, _*_, _≤_, arith, T, length, set, replicate, length-map, length-set}
+use Rattle.model.specs.Kit.{_≡_, refl, sym, ap, _∙_, subst, inl, ⊎-elim, List, [], _∷_, List·Memᴰ·not-nil, ℕ, _*_, _≤_, arith, T, length, set, replicate, length-set}
 use Rattle.model.specs.Kit.{length-replicate}
 use types.Run.{OneOf}
 use denote.Enum.Declared.{tagOf}
 use Rattle.model.specs.{Lists.at, Problem.Problem, WellFormed.WellFormed, Verdict.Verdict, Verdict.accepted, Verdict.refused, Verdict.isAccepted, Verdict.reply, Sheet.problemOf}
 use Rattle.model.specs.{Sheet.verdictOf, Run.Ending, Run.finished, Run.spent, Run.full, Run.plansIn, Run.nodesIn, Run.resultOf, Run.Tally}
-use Rattle.model.proofs.{Accepted.passed, Accepted.constraints-are, Accepted.symmetries-are, Accepted.is-accepted, Asked.well-formed-with, Lists.at-set, Lists.never}
-use Rattle.order.specs.{Reordered.constraintIn, RunBy.Input, RunBy.resultBy}
+use Rattle.model.proofs.{Accepted.passed, Accepted.symmetries-are, Accepted.is-accepted, Asked.well-formed-with, Lists.at-set, Lists.never}
+use Rattle.order.specs.{RunBy.Input, RunBy.resultBy}
 use Rattle.order.proofs.Reordered.{well-reordered}
 use Rattle.arrays.specs.inner.Places.{VARIABLES, SYMMETRIES, PLANS, ALL, SPENT, FULL, STACK, TABLES, WORK}
 use Rattle.arrays.specs.inner.Layout.{Compiled}
 use Rattle.run_input.specs.Lent.{verdictLent, problemWith, orderLent, problemLent}
-use Rattle.run_input.proofs.Lent.{lent-passed, well-lent, ordering-lent, nothing-lent}
+use Rattle.run_input.proofs.Lent.{well-lent, ordering-lent, nothing-lent}
 use Rattle.families.specs.{Families.familiesOf, inner.Numbered.Counted}
 use Rattle.families_figure.specs.Figure.{number, dash, familiesLent, reportFigure}
 use Rattle.families_figure.proofs.{FamiliesLent.families-lent, Counting.bareLent, Counting.figure-counted, Counting.figure-number, Counting.figure-none, Counting.figure-dash}
@@ -46,13 +46,6 @@ module _ (b pairs block : List ℕ) (symmetries : ℕ) (stack work supports tabl
   well : WellFormed (problemLent b pairs block)
   well = well-reordered (problemWith b block) (orderLent b pairs) (ordering-lent b pairs block good) (well-lent b pairs block good)
 
-  few-constraints : length (problemLent b pairs block .constraints) ≤ 32
-  few-constraints =
-      let l = length-map (problemOf b .constraints) (constraintIn (orderLent b pairs)) in
-      let e = constraints-are b in
-      let f = lent-passed b pairs block good .sheet .header .constraints in
-      omega arith
-
   pub whole-few : at numbers VARIABLES ≤ 12
   whole-few = let e = h .put .compiled .numbered .variables in let f = well .few in omega arith
 
@@ -64,12 +57,12 @@ module _ (b pairs block : List ℕ) (symmetries : ℕ) (stack work supports tabl
     pub bare-runs : Runs (bareLent b pairs block) stack (set work PLANS 0) supports tables (set numbers SYMMETRIES 0) images list
     bare-runs = record {
       compiled = record {
-        numbered = numbers-with p [] numbers 0 (well .few) few-constraints (h .put .long) refl
+        numbered = numbers-with p [] numbers 0 (well .few) (well .most) (h .put .long) refl
             (h .put .compiled .numbered);
         supported = h .put .compiled .supported;
         imaged = λ e x v l. absurd (omega arith);
       };
-      limits = record { wellFormed = well-formed-with p [] well (λ g m. absurd (List·Memᴰ·not-nil m)); constraints = few-constraints; symmetries = omega arith };
+      limits = record { wellFormed = well-formed-with p [] well (λ g m. absurd (List·Memᴰ·not-nil m)); symmetries = omega arith };
       respected = record { respectful = λ g m. absurd (List·Memᴰ·not-nil m) };
       long = length-set numbers SYMMETRIES 0 ∙ h .put .long;
       writable = record { stack-length = h .writable .stack-length; work-length = length-set work PLANS 0 ∙ h .writable .work-length; tables-length = h .writable .tables-length };

@@ -1,7 +1,7 @@
 -- The images under all symmetries of a run, its variables in the settling order. Assumes nothing.
 use Rattle.model.specs.Kit.{_≡_, refl, sym, ap, _∙_, subst, List, [], _∷_, ℕ, suc, _+_, _/_, _%_, _^_, _≤_, _<_, arith, T, eqb, length, set, length-map, length-set}
 use Rattle.model.specs.{Lists.any, Lists.at, ValueSets.has, Problem.Problem, Problem.withSymmetries, Problem.constraintAt, Verdict.accepted, Verdict.isAccepted, Sheet.problemOf}
-use Rattle.model.proofs.{Lists.at-set, Lists.at-set-other, Accepted.constraints-are, Accepted.is-accepted}
+use Rattle.model.proofs.{Lists.at-set, Lists.at-set-other, Accepted.is-accepted}
 use Rattle.arrays.specs.inner.Places.{INITIAL, SCOPES, VARIABLES, VALUES, CONSTRAINTS, SYMMETRIES, NUMBERS}
 use Rattle.arrays.specs.inner.Layout.{Numbers, Compiled}
 use Rattle.order.specs.{Order.Ordering, Order.settlingOrder, Reordered.reordered, Reordered.symmetryIn}
@@ -11,7 +11,7 @@ use Rattle.sheet.specs.{declared.Answer.Answer, declared.Answer.the-variants.Ac
 use Rattle.block.specs.Block.{blockLent}
 use Rattle.arrays_block.specs.inner.Asked.{Imaged, Put}
 use Rattle.run_input.specs.{Lent.verdictLent, Lent.problemWith, Lent.orderLent, Lent.problemLent, inner.Compile.AskedLent}
-use Rattle.run_input.proofs.Lent.{lent-passed, well-lent, ordering-lent}
+use Rattle.run_input.proofs.Lent.{well-lent, ordering-lent}
 use Rattle.families_closed.proofs.Testing.{imaged-of, block-passed, passed-of}
 use Rattle.families_count.specs.inner.Held as Held
 
@@ -56,20 +56,17 @@ module _ (b pairs block numbers supports images order : List ℕ) (a : AskedLent
         let s = a .sizes refl in
         let c = a .compiled refl in
         let w = well-lent b pairs block good in
-        let l = constraints-are b in
-        let f = lent-passed b pairs block good .sheet .header .constraints in
         let m = put .few in
         let e = put .all in
         record {
           compiled = record {
-            numbered = numbers-with (problemOf b) (problemWith b block .symmetries) numbers n (w .few) (omega arith) (s .numbers-length) e
+            numbered = numbers-with (problemOf b) (problemWith b block .symmetries) numbers n (w .few) (w .most) (s .numbers-length) e
                 (c .numbered);
             supported = c .supported;
             imaged = put .imaged;
           };
           wellFormed = w;
           ordering = subst (Ordering (problemOf b .variables)) (sym (a .order-is refl)) (ordering-lent b pairs block good);
-          constraints = omega arith;
           symmetries = omega arith;
           numbers-length = length-set numbers SYMMETRIES n ∙ s .numbers-length;
           supports-length = s .supports-length;

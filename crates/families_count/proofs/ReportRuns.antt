@@ -1,9 +1,9 @@
 -- The run of a report on the arrays of its sheet (specs/Held). Assumes nothing.
-use Rattle.model.specs.Kit.{_≡_, refl, sym, ap, _∙_, subst, subst₂, List, _++_, ℕ, _*_, _≤_, _<_, arith, T, length, take, drop, replicate}
+use Rattle.model.specs.Kit.{_≡_, refl, sym, ap, _∙_, subst, subst₂, List, _++_, ℕ, _*_, _≤_, arith, T, length, take, drop, replicate}
 use lib.Seq.{take-at}
 use Rattle.model.specs.{Lists.at, Verdict.Verdict, Verdict.accepted, Verdict.refused, Verdict.isAccepted, Verdict.reply, Verdict.kept, Sheet.verdictOf, Sheet.problemOf, Run.Ending}
 use Rattle.model.specs.Run.{ended, plansIn, resultOf, answerOf, written, listOf, Tally}
-use Rattle.model.proofs.Accepted.{passed, well-formed, constraints-are, symmetries-are}
+use Rattle.model.proofs.Accepted.{passed, well-formed, symmetries-are}
 use Rattle.model.proofs.Lists.{never}
 use Rattle.arrays.specs.inner.Places.{VARIABLES, PLANS, STACK, TABLES, WORK}
 use Rattle.families_figure.specs.Figure.{reportFigure}
@@ -25,9 +25,6 @@ module _ (b : List ℕ) (limit : ℕ) (numbers supports images : List ℕ) (c : 
   good : T (isAccepted (verdictOf b))
   good = subst (λ (u : Verdict). T (isAccepted u)) (sym verdict) tt
 
-  few-constraints : length (problemOf b .constraints) < 33
-  few-constraints = let l = constraints-are b in let f = passed b good .header .constraints in omega arith
-
   pub report-few : at numbers VARIABLES ≤ 12
   report-few = let e = c .compiled refl .numbered .variables in let f = well-formed b good .few in omega arith
 
@@ -40,7 +37,6 @@ module _ (b : List ℕ) (limit : ℕ) (numbers supports images : List ℕ) (c : 
       compiled = c .compiled refl;
       limits = record {
         wellFormed = well-formed b good;
-        constraints = let l = few-constraints in omega arith;
         symmetries = let l = symmetries-are b in let f = passed b good .header .symmetries in
             omega arith;
       };
@@ -59,7 +55,7 @@ module _ (b : List ℕ) (limit : ℕ) (numbers supports images : List ℕ) (c : 
       report-listed = record {
         verdict = verdict;
         compiled = record {
-          numbered = numbers-kept (problemOf b) numbers numbers′ (well-formed b good .few) (let l = few-constraints in omega arith) (λ i l. a .same i l)
+          numbered = numbers-kept (problemOf b) numbers numbers′ (well-formed b good .few) (well-formed b good .most) (λ i l. a .same i l)
               (c .compiled refl .numbered);
           supported = c .compiled refl .supported;
           imaged = c .compiled refl .imaged;

@@ -5,7 +5,7 @@ use Rattle.model.specs.{Lists.all, Lists.both, Lists.below, Lists.at, Li
 use Rattle.model.specs.{Verdict.Verdict, Verdict.accepted, Verdict.refused, Verdict.ask, Verdict.isAccepted, Sheet.Header, Sheet.word, Sheet.words, Sheet.headerOf}
 use Rattle.model.specs.Sheet.{headerVerdict, offsetsFit, setsVerdict, scopeAt, rowsAt, afterAt, constraintVerdict, constraintsVerdict, constraintsFrom, tableAt, problemOf}
 use Rattle.model.specs.{Sheet.permutesPairs, Sheet.tablesFit, Sheet.formVerdict, Sheet.symmetriesVerdict, Sheet.verdictOf, Search.nodes, Search.nodesBelow}
-use Rattle.model.specs.WellFormed.{WellFormed, GoodConstraint, Respected}
+use Rattle.model.specs.WellFormed.{WellFormed, Stated, GoodConstraint, Respected}
 use Rattle.model.proofs.Lists.{both-l, both-r, T-of, all-e, below-i, length-below, at-below}
 
 -- a question that was passed
@@ -206,6 +206,7 @@ passed b t =
         sized = length-words b 16 n;
         nonempty = λ x l. subst (λ (s : ℕ). 0 < s) (sym (at-words b 16 n x l)) (q8 .0 x (below-i n x l) .1);
         narrow = λ x l. subst (λ (s : ℕ). s < 2 ^ d) (sym (at-words b 16 n x l)) (q8 .0 x (below-i n x l) .0);
+        most = omega (arith, constraints-are b, q7 .0 .constraints);
         constrained = q9 .0;
         symmetric = λ g m. record {
           sized = (let r = Memᴰ·of-map (tableAt b h) (below (h .symmetries)) m in ap length (sym (r .2)) ∙ length-words b (h .third + 2 * (r .0 * (n * d))) (n * d));
@@ -214,6 +215,9 @@ passed b t =
       };
       respected = record { respectful = λ g m. q15 g m .1 };
     }
+
+pub stated : {p : Problem} → WellFormed p → Stated p
+stated w = record { few = w .few; one = w .one; sixteen = w .sixteen; narrow = w .narrow; most = w .most; constrained = w .constrained }
 
 pub well-formed : (b : List ℕ) → T (isAccepted (verdictOf b)) → WellFormed (problemOf b)
 well-formed b t = passed b t .well

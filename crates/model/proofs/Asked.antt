@@ -148,6 +148,7 @@ module _ (p : Problem) (gs : List (List ℕ)) where
     sized = w .sized;
     nonempty = w .nonempty;
     narrow = w .narrow;
+    most = w .most;
     constrained = λ c i. (let g = w .constrained c i in record { some = g .some; few = g .few; inside = g .inside; ordered = g .ordered; sized = g .sized; valued = g .valued });
     symmetric = λ g i. good-other g (h g i);
   }

@@ -71,8 +71,8 @@ module _ (p : Problem) (w : WellFormed p) (respected : Respected p) where
         let r = P.pairs-e p s q m in
         let x = r .0 in
         let l = P.sol-lt p w s sol x (r .1) in
-        let ex : q / p .values ≡ x = ap (λ (k : ℕ). k / p .values) (r .2) ∙ P.pair-div p w x (at s x) l in
-        let ev : q % p .values ≡ at s x = ap (λ (k : ℕ). k % p .values) (r .2) ∙ P.pair-mod p w x (at s x) l in
+        let ex : q / p .values ≡ x = ap (λ (k : ℕ). k / p .values) (r .2) ∙ P.pair-div p x (at s x) l in
+        let ev : q % p .values ≡ at s x = ap (λ (k : ℕ). k % p .values) (r .2) ∙ P.pair-mod p x (at s x) l in
         T-of (is s (q / p .values) (q % p .values))
         (ap₂ (λ (y v : ℕ). is s y v) ex ev ∙ eq-eqb (getD s x 16) (at s x) (getD-at s x 16 (subst (λ (k : ℕ). x < k) (sym (solution-e p s sol .sized)) (r .1))))
 
@@ -81,7 +81,7 @@ module _ (p : Problem) (w : WellFormed p) (respected : Respected p) where
         let x = q / p .values in
         let l : x < p .variables = P.isPair-var p w q t in
         let e : at s x ≡ q % p .values = sym (getD-at s x 16 (subst (λ (k : ℕ). x < k) (sym (solution-e p s sol .sized)) l)) ∙ eqb→eq (getD s x 16) (q % p .values) h in
-        Memᴰ·cast (sym (P.pair-of p w q) ∙ ap (pair p x) (sym e)) (P.pairs-i p s x l)
+        Memᴰ·cast (sym (P.pair-of p q) ∙ ap (pair p x) (sym e)) (P.pairs-i p s x l)
 
     module _ (g : List ℕ) (m : List·Memᴰ g (p .symmetries)) where
       good : GoodSymmetry p g
@@ -91,10 +91,10 @@ module _ (p : Problem) (w : WellFormed p) (respected : Respected p) where
       sent : (t : List ℕ) → T (isSolution p t) → T (takes p g t s) → (x v : ℕ) → x < p .variables → T (has (at (p .initial) x) v) → T (O.meets p g s x v) → at t x ≡ v
       sent t st h x v l hv mt =
           let q = pair p x v in
-          let tq : T (isPair p q) = P.isPair-i p w x v l hv in
+          let tq : T (isPair p q) = P.isPair-i p (w .narrow) x v l hv in
           let k = takes-on p g t s h (at g q) (meets-e (at g q) (S.to-pair p w g good q tq) mt) in
-          let e : q ≡ k .0 = S.injective p w g good q (k .0) (P.isPair-lt p w q tq) (P.isPair-lt p w (k .0) (P.sol-pair p w t st (k .0) (k .1))) (sym (k .2)) in
-          P.sol-at p w t st x v (P.init-lt p w x v l hv) (Memᴰ·cast e (k .1))
+          let e : q ≡ k .0 = S.injective p w g good q (k .0) (P.isPair-lt p q tq) (P.isPair-lt p (k .0) (P.sol-pair p w t st (k .0) (k .1))) (sym (k .2)) in
+          P.sol-at p w t st x v (P.init-lt p (w .narrow) x v l hv) (Memᴰ·cast e (k .1))
 
       abbrev pub beaten : List ℕ → Bool
       beaten t = both (isSolution p t) (both (earlier t s) (takes p g t s))

@@ -1,6 +1,6 @@
--- The laws of pairs and of solutions in a well-formed problem. Assumes nothing.
+-- The laws of pairs, and of solutions of a well-formed problem. Assumes nothing.
 use Rattle.model.specs.Kit.{_≡_, refl, sym, ap, ap₂, _∙_, subst, not, List, [], _∷_, map, List·Memᴰ, List·Memᴰ·head, List·Memᴰ·tail, Memᴰ·append-left, Memᴰ·cast, Memᴰ·map}
-use Rattle.model.specs.Kit.{Memᴰ·of-map, _⊎_, inl, inr, ⊎-elim, ℕ, suc, _+_, _<_, _/_, _%_, _*_, mod-eq-of-lt, mul-le-mul-right, arith, T, T-not, not-T, eqb, ltb, eqb→eq}
+use Rattle.model.specs.Kit.{Memᴰ·of-map, _⊎_, inl, inr, ⊎-elim, ℕ, suc, _+_, _<_, _/_, _%_, _*_, _^_, mod-eq-of-lt, mul-le-mul-right, arith, T, T-not, not-T, eqb, ltb, eqb→eq}
 use Rattle.model.specs.Kit.{eqb-refl, ltb→lt, lt→ltb}
 use mathlib.Core.List.{List·Memᴰ·append-cases, Memᴰ·append-right}
 use native.Mathlib.Nat.{mul-add-div-right, mul-add-mod-self-right, div-eq-of-lt, div-add-mod', div-lt-iff-lt-mul, mod-lt, add-zero}
@@ -85,31 +85,41 @@ module _ (p : Problem) where
   unfolding forbidden
   forbidden-excluded c h l m = Memᴰ·append-right (flat (map (doubled p) (below (p .variables)))) (flat-i (map (excluded p) (p .constraints)) (excluded p c) h (Memᴰ·map (excluded p) l) m)
 
-  module _ (w : WellFormed p) where
+  -- pairs as numbers
+  pub pair-div : (x v : ℕ) → v < p .values → pair p x v / p .values ≡ x
+  unfolding pair
+  pair-div x v h = mul-add-div-right (omega arith) x v ∙ ap (λ (k : ℕ). x + k) (div-eq-of-lt h) ∙ add-zero x
+
+  pub pair-mod : (x v : ℕ) → v < p .values → pair p x v % p .values ≡ v
+  unfolding pair
+  pair-mod x v h = mul-add-mod-self-right x (p .values) v ∙ mod-eq-of-lt h
+
+  pub pair-of : (q : ℕ) → pair p (q / p .values) (q % p .values) ≡ q
+  unfolding pair
+  pair-of q = div-add-mod' q (p .values)
+
+  pub pair-lt : (x v : ℕ) → x < p .variables → v < p .values → pair p x v < p .variables * p .values
+  unfolding pair
+  pair-lt x v h l = omega (arith, mul-le-mul-right (p .values) h)
+
+  pub pair-first : (x v y u : ℕ) → v < p .values → u < p .values → pair p x v ≡ pair p y u → x ≡ y
+  pair-first x v y u h l e = sym (pair-div x v h) ∙ ap (λ (k : ℕ). k / p .values) e ∙ pair-div y u l
+
+  pub pair-second : (x v y u : ℕ) → v < p .values → u < p .values → pair p x v ≡ pair p y u → v ≡ u
+  pair-second x v y u h l e = sym (pair-mod x v h) ∙ ap (λ (k : ℕ). k % p .values) e ∙ pair-mod y u l
+
+  pub isPair-lt : (q : ℕ) → T (isPair p q) → q < p .variables * p .values
+  unfolding isPair
+  isPair-lt q t = ltb→lt q (p .variables * p .values) (both-l (ltb q (p .variables * p .values)) _ t)
+
+  pub isPair-has : (q : ℕ) → T (isPair p q) → T (has (at (p .initial) (q / p .values)) (q % p .values))
+  unfolding isPair
+  isPair-has q t = both-r (ltb q (p .variables * p .values)) _ t
+
+  -- where the sets hold values of the problem only
+  module _ (narrow : (x : ℕ) → x < p .variables → at (p .initial) x < 2 ^ p .values) where
     pub init-lt : (x v : ℕ) → x < p .variables → T (has (at (p .initial) x) v) → v < p .values
-    init-lt x v h t = has-lt (p .values) (at (p .initial) x) v (w .narrow x h) t
-
-    pub pair-div : (x v : ℕ) → v < p .values → pair p x v / p .values ≡ x
-    unfolding pair
-    pair-div x v h = mul-add-div-right (w .one) x v ∙ ap (λ (k : ℕ). x + k) (div-eq-of-lt h) ∙ add-zero x
-
-    pub pair-mod : (x v : ℕ) → v < p .values → pair p x v % p .values ≡ v
-    unfolding pair
-    pair-mod x v h = mul-add-mod-self-right x (p .values) v ∙ mod-eq-of-lt h
-
-    pub pair-of : (q : ℕ) → pair p (q / p .values) (q % p .values) ≡ q
-    unfolding pair
-    pair-of q = div-add-mod' q (p .values)
-
-    pub pair-lt : (x v : ℕ) → x < p .variables → v < p .values → pair p x v < p .variables * p .values
-    unfolding pair
-    pair-lt x v h l = omega (arith, mul-le-mul-right (p .values) h)
-
-    pub pair-first : (x v y u : ℕ) → v < p .values → u < p .values → pair p x v ≡ pair p y u → x ≡ y
-    pair-first x v y u h l e = sym (pair-div x v h) ∙ ap (λ (k : ℕ). k / p .values) e ∙ pair-div y u l
-
-    pub pair-second : (x v y u : ℕ) → v < p .values → u < p .values → pair p x v ≡ pair p y u → v ≡ u
-    pair-second x v y u h l e = sym (pair-mod x v h) ∙ ap (λ (k : ℕ). k % p .values) e ∙ pair-mod y u l
+    init-lt x v h t = has-lt (p .values) (at (p .initial) x) v (narrow x h) t
 
     pub isPair-i : (x v : ℕ) → x < p .variables → T (has (at (p .initial) x) v) → T (isPair p (pair p x v))
     unfolding isPair
@@ -118,14 +128,7 @@ module _ (p : Problem) where
         both-i (ltb (pair p x v) (p .variables * p .values)) _ (lt→ltb (pair p x v) (p .variables * p .values) (pair-lt x v h l))
         (subst T (ap₂ (λ (y u : ℕ). has (at (p .initial) y) u) (sym (pair-div x v l)) (sym (pair-mod x v l))) t)
 
-    pub isPair-lt : (q : ℕ) → T (isPair p q) → q < p .variables * p .values
-    unfolding isPair
-    isPair-lt q t = ltb→lt q (p .variables * p .values) (both-l (ltb q (p .variables * p .values)) _ t)
-
-    pub isPair-has : (q : ℕ) → T (isPair p q) → T (has (at (p .initial) (q / p .values)) (q % p .values))
-    unfolding isPair
-    isPair-has q t = both-r (ltb q (p .variables * p .values)) _ t
-
+  module _ (w : WellFormed p) where
     pub isPair-var : (q : ℕ) → T (isPair p q) → q / p .values < p .variables
     isPair-var q t = div-lt-iff-lt-mul (w .one) .1 (isPair-lt q t)
 
@@ -135,10 +138,10 @@ module _ (p : Problem) where
     -- a solution's pairs
     module _ (a : List ℕ) (s : T (isSolution p a)) where
       pub sol-lt : (x : ℕ) → x < p .variables → at a x < p .values
-      sol-lt x h = init-lt x (at a x) h (solution-e p a s .drawn x h)
+      sol-lt x h = init-lt (w .narrow) x (at a x) h (solution-e p a s .drawn x h)
 
       pub sol-pair : (q : ℕ) → List·Memᴰ q (pairsOf p a) → T (isPair p q)
-      sol-pair q m = let r = pairs-e a q m in subst (λ (k : ℕ). T (isPair p k)) (sym (r .2)) (isPair-i (r .0) (at a (r .0)) (r .1) (solution-e p a s .drawn (r .0) (r .1)))
+      sol-pair q m = let r = pairs-e a q m in subst (λ (k : ℕ). T (isPair p k)) (sym (r .2)) (isPair-i (w .narrow) (r .0) (at a (r .0)) (r .1) (solution-e p a s .drawn (r .0) (r .1)))
 
       pub sol-at : (x v : ℕ) → v < p .values → List·Memᴰ (pair p x v) (pairsOf p a) → at a x ≡ v
       sol-at x v l m =
@@ -151,8 +154,8 @@ module _ (p : Problem) where
       no-doubled x h l m i =
           let r = doubled-e x h m in
           let j : (q : ℕ) → List·Memᴰ q (pair p x (r .0) ∷ pair p x (r .1) ∷ []) → List·Memᴰ q (pairsOf p a) = λ q k. i q (subst (List·Memᴰ q) (sym (r .5)) k) in
-          let e : at a x ≡ r .0 = sol-at x (r .0) (init-lt x (r .0) l (r .2)) (j _ (List·Memᴰ·head refl)) in
-          let f : at a x ≡ r .1 = sol-at x (r .1) (init-lt x (r .1) l (r .3)) (j _ (List·Memᴰ·tail (List·Memᴰ·head refl))) in
+          let e : at a x ≡ r .0 = sol-at x (r .0) (init-lt (w .narrow) x (r .0) l (r .2)) (j _ (List·Memᴰ·head refl)) in
+          let f : at a x ≡ r .1 = sol-at x (r .1) (init-lt (w .narrow) x (r .1) l (r .3)) (j _ (List·Memᴰ·tail (List·Memᴰ·head refl))) in
           omega (arith, r .4)
 
       scope-values : (xs vs : List ℕ) → ((x : ℕ) → List·Memᴰ x xs → x < p .variables) → Drawn (map (at (p .initial)) xs) vs
@@ -162,7 +165,7 @@ module _ (p : Problem) where
       scope-values [] (v ∷ vs) l d i = absurd (omega (arith, d .0))
       scope-values (x ∷ xs) [] l d i = absurd (omega (arith, d .0))
       scope-values (x ∷ xs) (v ∷ vs) l d i =
-          ap₂ (λ (y : ℕ) (r : List ℕ). y ∷ r) (sol-at x v (init-lt x v (l x (List·Memᴰ·head refl)) (d .1 0 (omega arith))) (i (pair p x v) (List·Memᴰ·head refl)))
+          ap₂ (λ (y : ℕ) (r : List ℕ). y ∷ r) (sol-at x v (init-lt (w .narrow) x v (l x (List·Memᴰ·head refl)) (d .1 0 (omega arith))) (i (pair p x v) (List·Memᴰ·head refl)))
           (scope-values xs vs (λ y m. l y (List·Memᴰ·tail m)) (omega (arith, d .0), λ j h. d .1 (suc j) (omega arith)) (λ q m. i q (List·Memᴰ·tail m)))
 
       no-excluded : (c : Constraint) (h : List ℕ) → List·Memᴰ c (p .constraints) → List·Memᴰ h (excluded p c) → ((q : ℕ) → List·Memᴰ q h → List·Memᴰ q (pairsOf p a)) → ⊥

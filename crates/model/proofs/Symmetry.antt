@@ -52,7 +52,7 @@ module _ (p : Problem) where
 
     -- pairs go to pairs, and what is no pair stays
     pub to-pair : (q : ℕ) → T (isPair p q) → T (isPair p (at g q))
-    to-pair q t = pick-true (isPair p q) (isPair p (at g q)) (eqb (at g q) q) (moved q (P.isPair-lt p w q t)) t
+    to-pair q t = pick-true (isPair p q) (isPair p (at g q)) (eqb (at g q) q) (moved q (P.isPair-lt p q t)) t
 
     pub to-self : (q : ℕ) → q < size → (T (isPair p q) → ⊥) → at g q ≡ q
     to-self q h t = eqb→eq (at g q) q (pick-false (isPair p q) (isPair p (at g q)) (eqb (at g q) q) (moved q h) t)
@@ -64,7 +64,7 @@ module _ (p : Problem) where
     image-lt q h = go (T-dec (isPair p q))
       where
         go : T (isPair p q) ⊎ (T (isPair p q) → ⊥) → at g q < size
-        go (inl t) = P.isPair-lt p w (at g q) (to-pair q t)
+        go (inl t) = P.isPair-lt p (at g q) (to-pair q t)
         go (inr t) = subst (λ (k : ℕ). k < size) (sym (to-self q h t)) h
 
     -- every number below the size has a preimage, and a pair's is a pair
@@ -86,7 +86,7 @@ module _ (p : Problem) where
     back-pair q t = stable (isPair p (back q)) (λ n. n (subst (λ (k : ℕ). T (isPair p k)) (sym (back-at q l) ∙ to-self (back q) (back-lt q l) n) t))
       where
         l : q < size
-        l = P.isPair-lt p w q t
+        l = P.isPair-lt p q t
 
     module _ (respectful : T (respects p g)) where
       pub respected : (f : List ℕ) → List·Memᴰ f (forbidden p) → (h : List ℕ) × List·Memᴰ h (forbidden p) × ((q : ℕ) → List·Memᴰ q h → List·Memᴰ q (map (at g) f))
@@ -119,7 +119,7 @@ module _ (p : Problem) where
         r-pair x h = back-pair (pair p x (at s x)) (s-pair x h)
 
         r-at : (x : ℕ) → x < n → at g (r x) ≡ pair p x (at s x)
-        r-at x h = back-at (pair p x (at s x)) (P.isPair-lt p w _ (s-pair x h))
+        r-at x h = back-at (pair p x (at s x)) (P.isPair-lt p _ (s-pair x h))
 
         -- two of them share no variable
         clash : (x y : ℕ) → x < n → y < n → var x ≡ var y → r x < r y → ⊥
@@ -127,13 +127,13 @@ module _ (p : Problem) where
             let z = var x in
             let v = r x % p .values in
             let u = r y % p .values in
-            let ex : pair p z v ≡ r x = P.pair-of p w (r x) in
-            let ey : pair p z u ≡ r y = ap (λ (j : ℕ). pair p j u) e ∙ P.pair-of p w (r y) in
+            let ex : pair p z v ≡ r x = P.pair-of p (r x) in
+            let ey : pair p z u ≡ r y = ap (λ (j : ℕ). pair p j u) e ∙ P.pair-of p (r y) in
             let f = pair p z v ∷ pair p z u ∷ [] in
-            let hu : T (has (at (p .initial) z) u) = subst (λ (j : ℕ). T (has (at (p .initial) j) u)) (sym e) (P.isPair-has p w (r y) (r-pair y k)) in
+            let hu : T (has (at (p .initial) z) u) = subst (λ (j : ℕ). T (has (at (p .initial) j) u)) (sym e) (P.isPair-has p (r y) (r-pair y k)) in
             let small : u < 16 = lt-of-lt-of-le (P.mod-small p w (r y)) (w .sixteen) in
             never s sol f
-            (P.forbidden-doubled p z f (P.isPair-var p w (r x) (r-pair x h)) (P.doubled-i p z v u (less (r x) (r y) e l) small (P.isPair-has p w (r x) (r-pair x h)) hu))
+            (P.forbidden-doubled p z f (P.isPair-var p w (r x) (r-pair x h)) (P.doubled-i p z v u (less (r x) (r y) e l) small (P.isPair-has p (r x) (r-pair x h)) hu))
             (λ q m. ⊎-elim {C = List·Memᴰ (at g q) (pairsOf p s)} (λ c. Memᴰ·cast (ap (at g) (c ∙ ex) ∙ r-at x h) (P.pairs-i p s x h))
             (λ j. Memᴰ·cast (ap (at g) (List·Memᴰ·eq-of-singleton j ∙ ey) ∙ r-at y k) (P.pairs-i p s y k)) (List·Memᴰ·cases-cons m))
           where
@@ -148,7 +148,7 @@ module _ (p : Problem) where
         var-inj x y h k e = go (ℕ-discrete (r x) (r y)) (decLt (r x) (r y))
           where
             go : Dec (r x ≡ r y) → Dec (r x < r y) → x ≡ y
-            go (yes c) d = P.pair-first p w x (at s x) y (at s y) (P.sol-lt p w s sol x h) (P.sol-lt p w s sol y k) (sym (r-at x h) ∙ ap (at g) c ∙ r-at y k)
+            go (yes c) d = P.pair-first p x (at s x) y (at s y) (P.sol-lt p w s sol x h) (P.sol-lt p w s sol y k) (sym (r-at x h) ∙ ap (at g) c ∙ r-at y k)
             go (no c) (yes d) = absurd (clash x y h k e d)
             go (no c) (no d) = absurd (clash y x k h (sym e) (omega arith))
 
@@ -186,7 +186,7 @@ module _ (p : Problem) where
         source-at z h = at-below (λ z. r (who z) % p .values) n z h
 
         source-pair : (z : ℕ) → z < n → pair p z (at source z) ≡ r (who z)
-        source-pair z h = ap₂ (pair p) (sym (who-var z h)) (source-at z h) ∙ P.pair-of p w (r (who z))
+        source-pair z h = ap₂ (pair p) (sym (who-var z h)) (source-at z h) ∙ P.pair-of p (r (who z))
 
         source-image : (z : ℕ) → z < n → at g (pair p z (at source z)) ≡ pair p (who z) (at s (who z))
         source-image z h = ap (at g) (source-pair z h) ∙ r-at (who z) (who-lt z h)
@@ -209,14 +209,14 @@ module _ (p : Problem) where
         source-has : (z : ℕ) → z < n → T (has (at (p .initial) z) (at source z))
         source-has z h =
             subst T (ap₂ (λ (j u : ℕ). has (at (p .initial) j) u) (who-var z h) (sym (source-at z h)))
-            (P.isPair-has p w (r (who z)) (r-pair (who z) (who-lt z h)))
+            (P.isPair-has p (r (who z)) (r-pair (who z) (who-lt z h)))
 
         source-row : (c : Constraint) → List·Memᴰ c (p .constraints) → T (satisfies source c)
         unfolding satisfies
         source-row c m =
             stable (any (same (valuesAt source (c .scope))) (c .rows))
             (λ no-row. let l = w .constrained c m .inside in
-            let d = scope-drawn source (c .scope) (λ x k. (lt-of-lt-of-le (P.init-lt p w x (at source x) (l x k) (source-has x (l x k))) (w .sixteen), source-has x (l x k))) in
+            let d = scope-drawn source (c .scope) (λ x k. (lt-of-lt-of-le (P.init-lt p (w .narrow) x (at source x) (l x k) (source-has x (l x k))) (w .sixteen), source-has x (l x k))) in
             let f = pairsAt p (c .scope) (valuesAt source (c .scope)) in
             never s sol f (P.forbidden-excluded p c f m (P.excluded-i p c (valuesAt source (c .scope)) d no-row))
             (λ q k. image-in q (scope-pairs source (c .scope) l q k)))

@@ -145,7 +145,7 @@ module _ (p : Problem) (w : WellFormed p) where
 
   same-pair : (f : ℕ → ℕ) → ((i : ℕ) → i < n → f i ≡ i) → (q : ℕ) → q < n * d → renamed p f q ≡ q
   unfolding renamed
-  same-pair f h q l = ap (λ (x : ℕ). pair p x (q % d)) (h (q / d) (div-lt-iff-lt-mul (w .one) .1 l)) ∙ P.pair-of p w q
+  same-pair f h q l = ap (λ (x : ℕ). pair p x (q % d)) (h (q / d) (div-lt-iff-lt-mul (w .one) .1 l)) ∙ P.pair-of p q
 
   same-symmetry : (g : List ℕ) → List·Memᴰ g (p .symmetries) → symmetryIn (below n) p g ≡ g
   same-symmetry g m =

@@ -285,48 +285,48 @@ module _ (p : Problem) (order : List ℕ) (o : Ordering (p .variables) order) wh
 
     pub from-pair : (i v : ℕ) → v < p .values → renamed p (at order) (pair p i v) ≡ pair p (at order i) v
     unfolding renamed
-    from-pair i v h = ap₂ (λ (a b : ℕ). pair p (place a) b) (P.pair-div p w i v h) (P.pair-mod p w i v h)
+    from-pair i v h = ap₂ (λ (a b : ℕ). pair p (place a) b) (P.pair-div p i v h) (P.pair-mod p i v h)
 
     into-pair : (x v : ℕ) → v < d → into (pair p x v) ≡ pair p (stand x) v
     unfolding renamed
-    into-pair x v h = ap₂ (λ (a b : ℕ). pair p (stand a) b) (P.pair-div p w x v h) (P.pair-mod p w x v h)
+    into-pair x v h = ap₂ (λ (a b : ℕ). pair p (stand a) b) (P.pair-div p x v h) (P.pair-mod p x v h)
 
     pub var-lt : (q : ℕ) → q < size → q / d < n
     var-lt q h = div-lt-iff-lt-mul (w .one) .1 h
 
     from-lt : (q : ℕ) → q < size → from q < size
     unfolding renamed
-    from-lt q h = P.pair-lt p w (place (q / d)) (q % d) (place-lt (q / d) (var-lt q h)) (P.mod-small p w q)
+    from-lt q h = P.pair-lt p (place (q / d)) (q % d) (place-lt (q / d) (var-lt q h)) (P.mod-small p w q)
 
     into-lt : (q : ℕ) → q < size → into q < size
     unfolding renamed
-    into-lt q h = P.pair-lt p w (stand (q / d)) (q % d) (stand-lt (q / d) (var-lt q h)) (P.mod-small p w q)
+    into-lt q h = P.pair-lt p (stand (q / d)) (q % d) (stand-lt (q / d) (var-lt q h)) (P.mod-small p w q)
 
     into-from : (q : ℕ) → q < size → into (from q) ≡ q
     into-from q h =
-        ap (λ (z : ℕ). into (from z)) (sym (P.pair-of p w q)) ∙ ap into (from-pair (q / d) (q % d) (P.mod-small p w q)) ∙ into-pair (place (q / d)) (q % d) (P.mod-small p w q)
-        ∙ ap (λ (z : ℕ). pair p z (q % d)) (stand-place (q / d) (var-lt q h)) ∙ P.pair-of p w q
+        ap (λ (z : ℕ). into (from z)) (sym (P.pair-of p q)) ∙ ap into (from-pair (q / d) (q % d) (P.mod-small p w q)) ∙ into-pair (place (q / d)) (q % d) (P.mod-small p w q)
+        ∙ ap (λ (z : ℕ). pair p z (q % d)) (stand-place (q / d) (var-lt q h)) ∙ P.pair-of p q
 
     from-into : (q : ℕ) → q < size → from (into q) ≡ q
     from-into q h =
-        ap (λ (z : ℕ). from (into z)) (sym (P.pair-of p w q)) ∙ ap from (into-pair (q / d) (q % d) (P.mod-small p w q)) ∙ from-pair (stand (q / d)) (q % d) (P.mod-small p w q)
-        ∙ ap (λ (z : ℕ). pair p z (q % d)) (place-stand (q / d) (var-lt q h)) ∙ P.pair-of p w q
+        ap (λ (z : ℕ). from (into z)) (sym (P.pair-of p q)) ∙ ap from (into-pair (q / d) (q % d) (P.mod-small p w q)) ∙ from-pair (stand (q / d)) (q % d) (P.mod-small p w q)
+        ∙ ap (λ (z : ℕ). pair p z (q % d)) (place-stand (q / d) (var-lt q h)) ∙ P.pair-of p q
 
     from-div : (q : ℕ) → from q / d ≡ place (q / d)
     unfolding renamed
-    from-div q = P.pair-div p w (place (q / d)) (q % d) (P.mod-small p w q)
+    from-div q = P.pair-div p (place (q / d)) (q % d) (P.mod-small p w q)
 
     from-mod : (q : ℕ) → from q % d ≡ q % d
     unfolding renamed
-    from-mod q = P.pair-mod p w (place (q / d)) (q % d) (P.mod-small p w q)
+    from-mod q = P.pair-mod p (place (q / d)) (q % d) (P.mod-small p w q)
 
     pub into-div : (q : ℕ) → renamed p (position order) q / p .values ≡ position order (q / p .values)
     unfolding renamed
-    into-div q = P.pair-div p w (stand (q / d)) (q % d) (P.mod-small p w q)
+    into-div q = P.pair-div p (stand (q / d)) (q % d) (P.mod-small p w q)
 
     pub into-mod : (q : ℕ) → renamed p (position order) q % p .values ≡ q % p .values
     unfolding renamed
-    into-mod q = P.pair-mod p w (stand (q / d)) (q % d) (P.mod-small p w q)
+    into-mod q = P.pair-mod p (stand (q / d)) (q % d) (P.mod-small p w q)
 
     pub pair-same : (i v : ℕ) → pair (reordered order p) i v ≡ pair p i v
     unfolding pair
@@ -397,7 +397,7 @@ module _ (p : Problem) (order : List ℕ) (o : Ordering (p .variables) order) wh
 
     -- ---- forbidden sets, both ways
     init-16 : (x v : ℕ) → x < n → T (has (at (p .initial) x) v) → (v < d) × (v < 16)
-    init-16 x v h t = let l = P.init-lt p w x v h t in (l, lt-of-lt-of-le l (w .sixteen))
+    init-16 x v h t = let l = P.init-lt p (w .narrow) x v h t in (l, lt-of-lt-of-le l (w .sixteen))
 
     two-map : (f : ℕ → ℕ) (q a b c e : ℕ) → f a ≡ c → f b ≡ e → List·Memᴰ q (c ∷ e ∷ []) → List·Memᴰ q (map f (a ∷ b ∷ []))
     two-map f q a b c e x y m = subst₂ (λ (u v : ℕ). List·Memᴰ q (u ∷ v ∷ [])) (sym x) (sym y) m
@@ -468,7 +468,7 @@ module _ (p : Problem) (order : List ℕ) (o : Ordering (p .variables) order) wh
           λ q j. let z = Memᴰ·of-map (λ x. pair p x (valueOf ys′ vs (stand x))) xs (subst (List·Memᴰ q) (pairsAt-map p (λ x. valueOf ys′ vs (stand x)) xs) j) in
               let x = z .0 in
               let l = g .inside x (z .1) in
-              let small : valueOf ys′ vs (stand x) < d = P.init-lt p w x (valueOf ys′ vs (stand x)) l (members-e (at (p .initial) x) (valueOf ys′ vs (stand x)) (hold x (z .1)) .1) in
+              let small : valueOf ys′ vs (stand x) < d = P.init-lt p (w .narrow) x (valueOf ys′ vs (stand x)) l (members-e (at (p .initial) x) (valueOf ys′ vs (stand x)) (hold x (z .1)) .1) in
               let e : f ≡ map (λ i. pair p2 i (valueOf ys′ vs i)) ys′ = r .3 ∙ row-pairs p2 ys′ vs (sorted-apart ys′ (scope-sorted xs (g .inside) (g .ordered))) (D .0) in
               subst (λ (y : List ℕ). List·Memᴰ q (map from y)) (sym e)
               (Memᴰ·cast (sym (z .2) ∙ ap (λ (y : ℕ). pair p y (valueOf ys′ vs (stand x))) (sym (place-stand x l)) ∙ sym (from-pair (stand x) (valueOf ys′ vs (stand x)) small) ∙ ap from
@@ -500,7 +500,7 @@ module _ (p : Problem) (order : List ℕ) (o : Ordering (p .variables) order) wh
               let i = z .0 in
               let l = scope-e xs (g .inside) (g .ordered) i (z .1) in
               let v = valueOf xs vs (place i) in
-              let small : v < d = P.init-lt p w (place i) v (place-lt i (l .0)) (members-e (at (p .initial) (place i)) v (D .1 (place i) (l .1)) .1) in
+              let small : v < d = P.init-lt p (w .narrow) (place i) v (place-lt i (l .0)) (members-e (at (p .initial) (place i)) v (D .1 (place i) (l .1)) .1) in
               let e : f ≡ map (λ x. pair p x (valueOf xs vs x)) xs = r .3 ∙ row-pairs p xs vs (sorted-apart xs (ascending-sorted xs (g .ordered))) (D .0) in
               subst (λ (y : List ℕ). List·Memᴰ q (map into y)) (sym e)
               (Memᴰ·cast (sym (z .2) ∙ pair-same i v ∙ ap (λ (y : ℕ). pair p y v) (sym (stand-place i (l .0))) ∙ sym (into-pair (place i) v small))
@@ -526,7 +526,7 @@ module _ (p : Problem) (order : List ℕ) (o : Ordering (p .variables) order) wh
         ⊎-elim {C = q < size}
         (λ x. let r = P.doubled-e p2 (x .0) f (x .2) in
         let low : (v : ℕ) → T (has (at (read order (p .initial)) (x .0)) v) → pair p (x .0) v < size = λ v t.
-        P.pair-lt p w (x .0) v (x .1) (P.init-lt p w (place (x .0)) v (place-lt (x .0) (x .1)) (subst (λ (s : ℕ). T (has s v)) (set-at (x .0) (x .1)) t)) in
+        P.pair-lt p (x .0) v (x .1) (P.init-lt p (w .narrow) (place (x .0)) v (place-lt (x .0) (x .1)) (subst (λ (s : ℕ). T (has s v)) (set-at (x .0) (x .1)) t)) in
         ⊎-elim {C = q < size} (λ e. subst (λ (z : ℕ). z < size) (sym (e ∙ pair-same (x .0) (r .0))) (low (r .0) (r .2)))
         (λ j. subst (λ (z : ℕ). z < size) (sym (List·Memᴰ·eq-of-singleton j ∙ pair-same (x .0) (r .1))) (low (r .1) (r .3)))
         (List·Memᴰ·cases-cons (subst (List·Memᴰ q) (r .5) k)))
@@ -547,7 +547,7 @@ module _ (p : Problem) (order : List ℕ) (o : Ordering (p .variables) order) wh
             let l = scope-e (c .scope) (g .inside) (g .ordered) (z .0) (z .1) in
             let v = valueOf ys′ (r .0) (z .0) in
             subst (λ (y : ℕ). y < size) (sym (pair-same (z .0) v) ∙ z .2)
-            (P.pair-lt p w (z .0) v (l .0) (P.init-lt p w (place (z .0)) v (place-lt (z .0) (l .0))
+            (P.pair-lt p (z .0) v (l .0) (P.init-lt p (w .narrow) (place (z .0)) v (place-lt (z .0) (l .0))
             (subst (λ (s : ℕ). T (has s v)) (set-at (z .0) (l .0)) (members-e (at (read order (p .initial)) (z .0)) v (D .1 (z .0) (z .1)) .1))))
 
     -- ---- symmetries
@@ -567,7 +567,7 @@ module _ (p : Problem) (order : List ℕ) (o : Ordering (p .variables) order) wh
       image-lt q h = go (T-dec (isPair p q))
         where
           go : T (isPair p q) ⊎ (T (isPair p q) → ⊥) → at g q < size
-          go (inl t) = P.isPair-lt p w (at g q) (S.to-pair p w g good q t)
+          go (inl t) = P.isPair-lt p (at g q) (S.to-pair p w g good q t)
           go (inr t) = subst (λ (k : ℕ). k < size) (sym (S.to-self p w g good q h t)) h
 
       table-permutes : T (permutesPairs (reordered order p) (symmetryIn order p g))
@@ -640,7 +640,7 @@ module _ (p : Problem) (order : List ℕ) (o : Ordering (p .variables) order) wh
           let li = stand-lt x l in
           let e : into q ≡ pair (reordered order p) i (at (read order a) i) =
           ap into (r .2) ∙ into-pair x (at a x) (small x l) ∙ ap (pair p i) (ap (at a) (sym (place-stand x l)) ∙ sym (read-at a i li)) ∙ sym (pair-same i (at (read order a) i)) in
-          (subst (λ (z : ℕ). z < size) (sym (r .2)) (P.pair-lt p w x (at a x) l (small x l)), Memᴰ·cast e (P.pairs-i (reordered order p) (read order a) i li))
+          (subst (λ (z : ℕ). z < size) (sym (r .2)) (P.pair-lt p x (at a x) l (small x l)), Memᴰ·cast e (P.pairs-i (reordered order p) (read order a) i li))
 
       pairs-from : (a : List ℕ) → Small a → (q : ℕ) → List·Memᴰ q (pairsOf (reordered order p) (read order a)) → (q < size) × List·Memᴰ (from q) (pairsOf p a)
       pairs-from a small q m =
@@ -650,7 +650,7 @@ module _ (p : Problem) (order : List ℕ) (o : Ordering (p .variables) order) wh
           let v = at a (place i) in
           let sv = small (place i) (place-lt i l) in
           let e : q ≡ pair p i v = r .2 ∙ pair-same i (at (read order a) i) ∙ ap (pair p i) (read-at a i l) in
-          (subst (λ (z : ℕ). z < size) (sym e) (P.pair-lt p w i v l sv), Memᴰ·cast (ap from e ∙ from-pair i v sv) (P.pairs-i p a (place i) (place-lt i l)))
+          (subst (λ (z : ℕ). z < size) (sym e) (P.pair-lt p i v l sv), Memᴰ·cast (ap from e ∙ from-pair i v sv) (P.pairs-i p a (place i) (place-lt i l)))
 
       takes-of : (P2 : Problem) (k a b : List ℕ) → ((q : ℕ) → List·Memᴰ q (pairsOf P2 a) → List·Memᴰ (at k q) (pairsOf P2 b)) →
           ((q : ℕ) → List·Memᴰ q (pairsOf P2 b) → (r : ℕ) × List·Memᴰ r (pairsOf P2 a) × (at k r ≡ q)) → T (takes P2 k a b)
@@ -694,6 +694,7 @@ module _ (p : Problem) (order : List ℕ) (o : Ordering (p .variables) order) wh
       sized = read-length (p .initial);
       nonempty = λ i h. subst (λ (s : ℕ). 0 < s) (sym (set-at i h)) (w .nonempty (place i) (place-lt i h));
       narrow = λ i h. subst (λ (s : ℕ). s < 2 ^ p .values) (sym (set-at i h)) (w .narrow (place i) (place-lt i h));
+      most = let l = length-map (p .constraints) (constraintIn order) in let f = w .most in omega arith;
       constrained = λ c m. let r = Memᴰ·of-map (constraintIn order) (p .constraints) m in subst (GoodConstraint (reordered order p)) (r .2) (constraint-in (r .0) (r .1));
       symmetric = λ g m. let r = Memᴰ·of-map (symmetryIn order p) (p .symmetries) m in subst (GoodSymmetry (reordered order p)) (r .2) (symmetry-in (r .0) (w .symmetric (r .0) (r .1)));
     }

@@ -156,7 +156,7 @@ module _ (p : Problem) (order : List ℕ) (o : Ordering (p .variables) order) (w
 
       image-2 : (j v : ℕ) → j < n → v < d → at (symmetryIn order p g) (pair p2 j v) ≡ renamed p (position order) (image j v)
       image-2 j v h l =
-          ap (at (symmetryIn order p g)) (O.pair-same p order o w j v) ∙ O.table-at p order o w g good (pair p j v) (P.pair-lt p w j v h l)
+          ap (at (symmetryIn order p g)) (O.pair-same p order o w j v) ∙ O.table-at p order o w g good (pair p j v) (P.pair-lt p j v h l)
           ∙ ap (λ (q : ℕ). renamed p (position order) (at g q)) (O.from-pair p order o w j v l)
 
       image-div : (j v : ℕ) → j < n → v < d → at (symmetryIn order p g) (pair p2 j v) / d ≡ stand (image j v / d)
@@ -166,7 +166,7 @@ module _ (p : Problem) (order : List ℕ) (o : Ordering (p .variables) order) (w
       image-mod j v h l = ap (λ (q : ℕ). q % d) (image-2 j v h l) ∙ O.into-mod p order o w (image j v)
 
       image-var : (j v : ℕ) → j < n → v < d → image j v / d < n
-      image-var j v h l = O.var-lt p order o w (image j v) (O.image-lt p order o w g good (pair p (place j) v) (P.pair-lt p w (place j) v (O.place-lt p order o j h) l))
+      image-var j v h l = O.var-lt p order o w (image j v) (O.image-lt p order o w g good (pair p (place j) v) (P.pair-lt p (place j) v (O.place-lt p order o j h) l))
 
       entries-same : (j : ℕ) → j < length prefix → entriesOf p2 (symmetryIn order p g) j (at prefix j) ≡ map (ren stand) (entriesOf p g (at order j) (at prefix j))
       unfolding ren
@@ -180,7 +180,7 @@ module _ (p : Problem) (order : List ℕ) (o : Ordering (p .variables) order) (w
           (ap (λ (s : ℕ). map D2 (keep (λ v. ltb v (at prefix j)) (members s))) (O.set-at p order o w j l)
           ∙ map-ext D2 (λ v. ren stand (D v)) S
           (λ v m. let t = members-e (at (p .initial) (place j)) v (keep-e (λ v. ltb v (at prefix j)) (members (at (p .initial) (place j))) v m .0) in
-          let b : v < d = P.init-lt p w (place j) v (O.place-lt p order o j l) (t .1) in
+          let b : v < d = P.init-lt p (w .narrow) (place j) v (O.place-lt p order o j l) (t .1) in
           ap₂ disequality (image-div j v l b) (image-mod j v l b))
           ∙ sym (map-map (ren stand) D S))
           (ap₂ {C = List Entry} (λ a b. equality a b ∷ []) (image-div j u l (small j h)) (image-mod j u l (small j h)))
@@ -201,7 +201,7 @@ module _ (p : Problem) (order : List ℕ) (o : Ordering (p .variables) order) (w
           ⊎-elim {C = varOf e < n}
           (λ k. let r = Memᴰ·of-map D S k in
           let t = members-e (at (p .initial) (place j)) (r .0) (keep-e (λ v. ltb v (at prefix j)) (members (at (p .initial) (place j))) (r .0) (r .1) .0) in
-          subst (λ (z : Entry). varOf z < n) (r .2) (image-var j (r .0) l (P.init-lt p w (place j) (r .0) (O.place-lt p order o j l) (t .1))))
+          subst (λ (z : Entry). varOf z < n) (r .2) (image-var j (r .0) l (P.init-lt p (w .narrow) (place j) (r .0) (O.place-lt p order o j l) (t .1))))
           (λ k. subst (λ (z : Entry). varOf z < n) (sym (List·Memᴰ·eq-of-singleton k)) (image-var j (at prefix j) l (small j h)))
           (List·Memᴰ·append-cases (map D S) m)
 
@@ -299,7 +299,7 @@ module _ (p : Problem) (order : List ℕ) (o : Ordering (p .variables) order) (w
       let l : j < n = omega arith in
       let r = member (at es j) (c .sixteen j) (λ e. of-not (anyEmpty es) some (empty-i es j (omega (arith, c .sized)) e)) in
       let v = r .0 in
-      subst (λ (z : ℕ). z < d) (c .given j v h (r .2)) (P.init-lt p w (place j) v (O.place-lt p order o j l) (read-has (p .initial) j v (c .inside j v (r .2)) .1))
+      subst (λ (z : ℕ). z < d) (c .given j v h (r .2)) (P.init-lt p (w .narrow) (place j) v (O.place-lt p order o j l) (read-has (p .initial) j v (c .inside j v (r .2)) .1))
 
   small-by : (prefix es : List ℕ) → length prefix ≤ n → Consistent (at order) p prefix es → anyEmpty es ≡ false → (j : ℕ) → j < length prefix → at prefix j < d
   small-by prefix es short c some j h =
@@ -307,7 +307,7 @@ module _ (p : Problem) (order : List ℕ) (o : Ordering (p .variables) order) (w
       let k = O.place-lt p order o j l in
       let r = member (at es (place j)) (c .sixteen (place j)) (λ e. of-not (anyEmpty es) some (empty-i es (place j) (omega (arith, c .sized)) e)) in
       let v = r .0 in
-      subst (λ (z : ℕ). z < d) (c .given j v h (r .2)) (P.init-lt p w (place j) v k (c .inside (place j) v (r .2)))
+      subst (λ (z : ℕ). z < d) (c .given j v h (r .2)) (P.init-lt p (w .narrow) (place j) v k (c .inside (place j) v (r .2)))
 
   some-read : (es : List ℕ) → length es ≡ n → anyEmpty es ≡ false → anyEmpty (read order es) ≡ false
   some-read es e some =

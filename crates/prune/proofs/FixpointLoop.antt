@@ -317,8 +317,8 @@ module _ {p : Problem} {gs : List (List ℕ)} {supports tables numbers : List �
       (cut ≡ DEAD → ⊥) → t < 2 ^ 64 → Touched numbers (bitOr looked cut) t →
       BeforeFixpoint p gs work numbers hs k (bitOr (bitAnd todo ((2 ^ 64 - 1) - bitAnd todo (at numbers (LOOKS + k)))) t) 0
   cuts-done {looked = looked} {cut = cut} {t = t} l live a alive h u =
-      arcs-done st bl (looks-done st bl n l live) a alive (touched-of (st .indexed .linked) (st .constraints) cut few)
-      (touched-parts (st .indexed .linked) (st .constraints) looked cut t _ (looked-few st (n .startable .pending) l live) few (lt-of-le-of-lt (and-le-l todo _) wide) h u)
+      arcs-done st bl (looks-done st bl n l live) a alive (touched-of (st .indexed .linked) (st .wellFormed .most) cut few)
+      (touched-parts (st .indexed .linked) (st .wellFormed .most) looked cut t _ (looked-few st (n .startable .pending) l live) few (lt-of-le-of-lt (and-le-l todo _) wide) h u)
     where
       few : (x : ℕ) → T (has cut x) → x < 16
       few x q = let i = a .lessened alive .few x q in omega (arith, st .wellFormed .few)

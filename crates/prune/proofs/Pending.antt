@@ -114,7 +114,6 @@ module _ {p : Problem} {supports tables numbers : List ℕ} (s : ArraysHold p su
       tabled = s .indexed .supported;
       linked = s .indexed .linked;
       worded = s .indexed .worded;
-      constraints = s .constraints;
       known = w .known;
       others = w .others;
     }
@@ -125,7 +124,7 @@ module _ {p : Problem} {supports tables numbers : List ℕ} (s : ArraysHold p su
       looked-few x t = let i = l .lessened live .few x t in omega (arith, n-few)
 
       after : revised.ConstraintsPending p numbers supports fs (bitOr (bitAnd left ((2 ^ 64 - 1) - looks)) (touchedOf numbers looked))
-      after = l .pending live (touchedOf numbers looked) (touched-of (s .indexed .linked) (s .constraints) looked looked-few)
+      after = l .pending live (touchedOf numbers looked) (touched-of (s .indexed .linked) (s .wellFormed .most) looked looked-few)
 
       -- the variables that changed are dirty too
       pub looks-turn : Pending p numbers fs (bitOr (bitAnd left ((2 ^ 64 - 1) - looks)) (touchedOf numbers looked)) (bitOr moved (bitAnd looked (at numbers LINKED)))

@@ -76,7 +76,7 @@ module _ (p : Problem) (gs : List (List ℕ)) (few : p .variables ≤ 16) (prefi
       sets-are = a .sets-are refl ∙ ap (setsAt (withSymmetries p gs)) is
 
 pub arrays-hold : {p : Problem} {gs : List (List ℕ)} {stack work supports tables numbers : List ℕ} → Ready p gs stack work supports tables numbers → ArraysHold p supports tables numbers
-arrays-hold r = record { indexed = r .indexed; wellFormed = r .wellFormed; constraints = r .constraints; symmetries = r .symmetries }
+arrays-hold r = record { indexed = r .indexed; wellFormed = r .wellFormed; symmetries = r .symmetries }
 
 pub blocked : {p : Problem} {gs : List (List ℕ)} {stack work supports tables numbers : List ℕ} → Ready p gs stack work supports tables numbers → Blocked p gs numbers
 blocked r = record { block = r .block; few = r .block-few }

@@ -144,7 +144,7 @@ measure es left next = size es * 2 ^ 65 + (left + next)
 module _ (p : Problem) (numbers supports ds : List ℕ) where
   pub constrained-begin : (todo : ℕ) → todo < 2 ^ 64 → ConstraintsPending p numbers supports ds todo → ConstrainedSoFar p numbers supports ds ds todo 0 0
   constrained-begin todo h w = record {
-    held = record { wellFormed = w .wellFormed; numbered = w .numbered; tabled = w .tabled; worded = w .worded; constraints = w .constraints };
+    held = record { wellFormed = w .wellFormed; numbered = w .numbered; tabled = w .tabled; worded = w .worded };
     linked = w .linked;
     sixteen = w .given .sixteen;
     wide = h;
@@ -225,7 +225,7 @@ module _ {p : Problem} {numbers supports ds es : List ℕ} {left₀ next₀ left
   k-lt = t .known k (inl (low .0))
 
   pub k-few : trailingZeros 64 left < 32
-  k-few = omega (arith, k-lt, t .held .constraints)
+  k-few = omega (arith, k-lt, t .held .wellFormed .most)
 
   abbrev c : Constraint
   c = constraintAt p (trailingZeros 64 left)

@@ -63,7 +63,7 @@ module _ {p : Problem} {numbers supports ds : List ℕ} {todo some v : ℕ} (w :
       t = constrained-begin p numbers supports ds todo (w .wide) (w .pending)
 
       undue : (k : ℕ) → k < length (p .constraints) → has some k ≡ false → has (without todo some) k ≡ false → has todo k ≡ false
-      undue k l e f = not-of (has todo k) (λ q. of-not (has (without todo some) k) f (subst T (sym (without-has 64 todo some k h (omega (arith, w .pending .constraints))))
+      undue k l e f = not-of (has todo k) (λ q. of-not (has (without todo some) k) f (subst T (sym (without-has 64 todo some k h (omega (arith, w .pending .wellFormed .most))))
           (both-i (has todo k) (not (has some k)) q (T-of (not (has some k)) (ap not e)))))
 
       begin : ConstrainedSoFar p numbers supports ds ds some (without todo some) 0
@@ -98,7 +98,6 @@ module _ {p : Problem} {numbers supports ds : List ℕ} {todo some v : ℕ} (w :
         tabled = w .pending .tabled;
         linked = w .pending .linked;
         worded = w .pending .worded;
-        constraints = w .pending .constraints;
         known = λ k q. ⊎-elim (λ i. w .pending .known k (and-e todo _ k i .0)) (λ i. known g v k i) (or-e (without todo some) g k q);
         others = λ k l f b.
             fixed-take (p .variables) es (u .sixteen) n-few (constraintAt p k) (good (w .pending .wellFormed) k l .inside)
@@ -177,4 +176,4 @@ module _ {p : Problem} {numbers supports ds : List ℕ} {todo some v : ℕ} (w :
                 (subst (λ (m : List ℕ). T (has (at m x) v)) (r .sets l) (subst (λ (s : ℕ). T (has s v)) (sym e) q))))
 
             touched : Touched numbers changed (touchedOf numbers changed)
-            touched = touched-of (t .so-far .linked) (t .so-far .held .constraints) changed (changed-lt (t .so-far) on r l)
+            touched = touched-of (t .so-far .linked) (t .so-far .held .wellFormed .most) changed (changed-lt (t .so-far) on r l)

@@ -27,7 +27,7 @@ module _ {p : Problem} {numbers supports : List ℕ} (g : ConstraintsHeld p numb
     is = e;
     inside = λ x m. let i = good (g .wellFormed) k h .inside x (subst (λ (z : List ℕ). List·Memᴰ x z) (sym e) m) in omega (arith, g .wellFormed .few);
     ordered = subst (λ (z : List ℕ). T (ascending z)) e (good (g .wellFormed) k h .ordered);
-    room = omega (arith, g .constraints);
+    room = omega (arith, g .wellFormed .most);
     table = λ vs l b. g .tabled k h vs (l ∙ ap length (sym e)) b;
   }
 

@@ -83,10 +83,10 @@ module _ {p : Problem} {tables : List ℕ} {e : ℕ} (w : Tabled p tables e) (x 
       let g = symmetryAt p e in
       let good : GoodSymmetry p g = w .wellFormed .symmetric g (mem-getD (p .symmetries) e [] (w .symmetry)) in
       subst (λ (n : ℕ). n < p .variables) (sym (variable-is p (w .wellFormed) e x v))
-      (Pairs.isPair-var p (w .wellFormed) (at g (pair p x v)) (Symmetry.to-pair p (w .wellFormed) g good (pair p x v) (Pairs.isPair-i p (w .wellFormed) x v h t)))
+      (Pairs.isPair-var p (w .wellFormed) (at g (pair p x v)) (Symmetry.to-pair p (w .wellFormed) g good (pair p x v) (Pairs.isPair-i p (w .wellFormed .narrow) x v h t)))
 
   pub value-lt : v < 16
-  value-lt = lt-of-lt-of-le (Pairs.init-lt p (w .wellFormed) x v h t) (w .wellFormed .sixteen)
+  value-lt = lt-of-lt-of-le (Pairs.init-lt p (w .wellFormed .narrow) x v h t) (w .wellFormed .sixteen)
 
   pub image-asks : (e < 16) × (x < 12) × (v < 16)
   image-asks = (omega (arith, w .symmetry, w .few), omega (arith, h, w .wellFormed .few), value-lt)

@@ -22,7 +22,7 @@ module _ (p : Problem) (w : WellFormed p) (prefix ds : List ℕ) (cons : Consist
   Sole q = at ds (q / p .values) ≡ 2 ^ (q % p .values)
 
   sole-at : (x v : ℕ) → v < p .values → Sole (pair p x v) → at ds x ≡ 2 ^ v
-  sole-at x v l e = ap (at ds) (sym (P.pair-div p w x v l)) ∙ e ∙ ap (λ (u : ℕ). 2 ^ u) (P.pair-mod p w x v l)
+  sole-at x v l e = ap (at ds) (sym (P.pair-div p x v l)) ∙ e ∙ ap (λ (u : ℕ). 2 ^ u) (P.pair-mod p x v l)
 
   row-sole : (x v : ℕ) (ys vs ws : List ℕ) → length vs ≡ length ys → ((u : ℕ) → List·Memᴰ u vs → u < p .values) → ((q : ℕ) → List·Memᴰ q (pairsAt p ys vs) → Sole q) →
       T (rowWith ds x v ys ws) → ws ≡ vs
@@ -52,8 +52,8 @@ module _ (p : Problem) (w : WellFormed p) (prefix ds : List ℕ) (cons : Consist
       let v = r .0 in
       let u = r .1 in
       let j : (q : ℕ) → List·Memᴰ q (pair p x v ∷ pair p x u ∷ []) → Sole q = λ q i. f q (subst (List·Memᴰ q) (sym (r .5)) i) in
-      let ev = sole-at x v (P.init-lt p w x v l (r .2)) (j (pair p x v) (List·Memᴰ·head refl)) in
-      let eu = sole-at x u (P.init-lt p w x u l (r .3)) (j (pair p x u) (List·Memᴰ·tail (List·Memᴰ·head refl))) in
+      let ev = sole-at x v (P.init-lt p (w .narrow) x v l (r .2)) (j (pair p x v) (List·Memᴰ·head refl)) in
+      let eu = sole-at x u (P.init-lt p (w .narrow) x u l (r .3)) (j (pair p x u) (List·Memᴰ·tail (List·Memᴰ·head refl))) in
       let e : u ≡ v = single (at ds x) u v ev (single-has (at ds x) u eu) in
       omega (arith, r .4)
 
@@ -66,7 +66,7 @@ module _ (p : Problem) (w : WellFormed p) (prefix ds : List ℕ) (cons : Consist
         let o = at-mem vs u i in
         let k : o .0 < length (c .scope) = subst (λ (n : ℕ). o .0 < n) long (o .1) in
         let x = at (c .scope) (o .0) in
-        P.init-lt p w x u (w .constrained c l .inside x (mem-at (c .scope) (o .0) k))
+        P.init-lt p (w .narrow) x u (w .constrained c l .inside x (mem-at (c .scope) (o .0) k))
         (subst (λ (v : ℕ). T (has (at (p .initial) x) v)) (o .2) (subst (λ (s : ℕ). T (has s (at vs (o .0)))) (at-map (at (p .initial)) (c .scope) (o .0) k)
         (d .1 (o .0) (subst (λ (n : ℕ). o .0 < n) (d .0) (o .1)))))
 
@@ -135,7 +135,7 @@ module _ (p : Problem) (w : WellFormed p) (g : List ℕ) (gm : List·Memᴰ g (p
   image x v = at g (pair p x v)
 
   same-image : (q r : ℕ) → q / width ≡ r / width → q % width ≡ r % width → q ≡ r
-  same-image q r d m = sym (P.pair-of p w q) ∙ ap₂ (pair p) d m ∙ P.pair-of p w r
+  same-image q r d m = sym (P.pair-of p q) ∙ ap₂ (pair p) d m ∙ P.pair-of p r
 
   pub own-init : (c : List ℕ) → T (isLive p c) → (x : ℕ) → x < length c → x < p .variables → T (has (at (p .initial) x) (at c x))
   own-init c live x l n = live-consistent p c z live .inside x (at c x) (own-value p z c live x l n)
@@ -143,10 +143,10 @@ module _ (p : Problem) (w : WellFormed p) (g : List ℕ) (gm : List·Memᴰ g (p
   -- the symmetry takes no two pairs to one
   pub one-pair : (x v y u : ℕ) → x < p .variables → y < p .variables → T (has (at (p .initial) x) v) → T (has (at (p .initial) y) u) → image x v ≡ image y u → (x ≡ y) × (v ≡ u)
   one-pair x v y u lx ly hv hu e =
-      let bv = P.init-lt p w x v lx hv in
-      let bu = P.init-lt p w y u ly hu in
-      let q = S.injective p w g good (pair p x v) (pair p y u) (P.pair-lt p w x v lx bv) (P.pair-lt p w y u ly bu) e in
-      (P.pair-first p w x v y u bv bu q, P.pair-second p w x v y u bv bu q)
+      let bv = P.init-lt p (w .narrow) x v lx hv in
+      let bu = P.init-lt p (w .narrow) y u ly hu in
+      let q = S.injective p w g good (pair p x v) (pair p y u) (P.pair-lt p x v lx bv) (P.pair-lt p y u ly bu) e in
+      (P.pair-first p x v y u bv bu q, P.pair-second p x v y u bv bu q)
 
   -- where they differ, the sets of the one settle the image of its own pair
   abbrev pub Settles : List ℕ → List ℕ → Type 0
@@ -186,7 +186,7 @@ module _ (p : Problem) (w : WellFormed p) (g : List ℕ) (gm : List·Memᴰ g (p
         lx = omega arith
 
         small : (v : ℕ) → T (has (at (p .initial) x) v) → v < 16
-        small v t = lt-of-lt-of-le (P.init-lt p w x v lx t) (w .sixteen)
+        small v t = lt-of-lt-of-le (P.init-lt p (w .narrow) x v lx t) (w .sixteen)
 
         by : (v u : ℕ) → v < u → T (has (at (p .initial) x) v) → T (has (at (p .initial) x) u) → at (setsAt p b) (image x v / width) ≡ 2 ^ (image x v % width) → at (setsAt p b)
             (image x u / width) ≡ 2 ^ (image x u % width) → ⊥
@@ -219,7 +219,7 @@ module _ (p : Problem) (w : WellFormed p) (g : List ℕ) (gm : List·Memᴰ g (p
         u = image x (at a x) % width
 
         ly : y < p .variables
-        ly = P.isPair-var p w (image x (at a x)) (S.to-pair p w g good (pair p x (at a x)) (P.isPair-i p w x (at a x) (omega arith) (init-a x l)))
+        ly = P.isPair-var p w (image x (at a x)) (S.to-pair p w g good (pair p x (at a x)) (P.isPair-i p (w .narrow) x (at a x) (omega arith) (init-a x l)))
 
         e : at (setsAt p a) y ≡ 2 ^ u
         e = sa x l n
@@ -232,7 +232,7 @@ module _ (p : Problem) (w : WellFormed p) (g : List ℕ) (gm : List·Memᴰ g (p
         go (yes o) =
             let s = own-set p z a la y o ly in
             let q : at a y ≡ u = single (at (setsAt p a) y) (at a y) u e (own-value p z a la y o ly) in
-            (o, λ d. not-b (own-set p z b lb y (omega arith) ly ∙ ap (λ (v : ℕ). 2 ^ v) (sym d ∙ q)), sym (P.pair-of p w (image x (at a x))) ∙ ap (pair p y) (sym q))
+            (o, λ d. not-b (own-set p z b lb y (omega arith) ly ∙ ap (λ (v : ℕ). 2 ^ v) (sym d ∙ q)), sym (P.pair-of p (image x (at a x))) ∙ ap (pair p y) (sym q))
 
     -- one step along a's pairs, at the variables where they differ
     step : ℕ → ℕ
@@ -288,6 +288,6 @@ module _ (p : Problem) (w : WellFormed p) (g : List ℕ) (gm : List·Memᴰ g (p
         let x = image j u / width in
         let o = hit x lx n in
         let lo : o .0 < p .variables = omega (arith, o .1) in
-        let q : image (o .0) (at a (o .0)) ≡ image j u = o .3 ∙ ap (pair p x) e ∙ P.pair-of p w (image j u) in
+        let q : image (o .0) (at a (o .0)) ≡ image j u = o .3 ∙ ap (pair p x) e ∙ P.pair-of p (image j u) in
         let d : o .0 ≡ j = one-pair (o .0) (at a (o .0)) j u lo lj (init-a (o .0) (o .1)) t q .0 in
         o .2 (subst (λ (y : ℕ). at a y ≡ at b y) (sym d) (s (omega (arith, o .1))))

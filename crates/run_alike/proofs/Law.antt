@@ -99,7 +99,7 @@ module _ (p : Problem) (w : WellFormed p) (g : List ℕ) (gm : List·Memᴰ g (p
   of-bounded c j e l t m =
       let o = entry-e p g c j e t m in
       subst (λ (x : ℕ). x < p .variables) (sym (of-var p g c j (o .0) e (o .2)))
-      (P.isPair-var p w (at g (pair p j (o .0))) (S.to-pair p w g (w .symmetric g gm) (pair p j (o .0)) (P.isPair-i p w j (o .0) l (o .1))))
+      (P.isPair-var p w (at g (pair p j (o .0))) (S.to-pair p w g (w .symmetric g gm) (pair p j (o .0)) (P.isPair-i p (w .narrow) j (o .0) l (o .1))))
 
   pub bounded : (c : List ℕ) → T (isLive p c) → length c ≤ p .variables → (e : Entry) → List·Memᴰ e (nogoodsOf p g c) → varOf e < length (setsAt p c)
   unfolding nogoodsOf

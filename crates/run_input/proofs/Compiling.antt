@@ -1,9 +1,9 @@
 -- The answers to the questions from those of the parts, and the compiled problem in the settling order. Assumes nothing.
 use Rattle.model.specs.Kit.{_≡_, refl, sym, ap, _∙_, subst, Bool, List, [], _∷_, ℕ, _≤_, arith, T, eqb, length, take, length-map, eq-eqb, ne-eqb}
 use Rattle.model.specs.{Lists.at, Problem.Problem, Verdict.Verdict, Verdict.accepted, Verdict.ask, Verdict.isAccepted, Sheet.verdictOf, Sheet.problemOf}
-use Rattle.model.proofs.Accepted.{constraints-are, symmetries-are, passed, is-accepted}
+use Rattle.model.proofs.Accepted.{stated, symmetries-are, passed, is-accepted}
 use Rattle.model.proofs.Lists.{never}
-use Rattle.order.specs.{Order.settlingOrder, Order.orderVerdict, Order.Ordering, Reordered.constraintIn, Reordered.symmetryIn, Reordered.reordered, inner.Settled.Ordered}
+use Rattle.order.specs.{Order.settlingOrder, Order.orderVerdict, Order.Ordering, Reordered.symmetryIn, Reordered.reordered, inner.Settled.Ordered}
 use Rattle.order.proofs.{Order.no-pairs, Reordered.well-reordered, LeadersBy.reordered-below}
 use Rattle.arrays.specs.{inner.Layout.Compiled, inner.Places.VARIABLES}
 use Rattle.arrays_order.specs.inner.Reorder.{Movable, Moved}
@@ -64,15 +64,13 @@ module _ (b numbers supports images : List ℕ) (r : Answer) (c : Compilation b 
     held =
         let x = passed b (is-accepted (verdictOf b) accepts) in
         let w = x .well in
-        let l = constraints-are b in
         let m = symmetries-are b in
-        let f = x .header .constraints in
         let g = x .header .symmetries in
         record {
           wellFormed = w;
           ready = record {
             framed = record {
-              stated = record { few = w .few; one = w .one; sixteen = w .sixteen; narrow = w .narrow; most = omega arith; constrained = w .constrained };
+              stated = stated w;
               numbered = c .compiled e .numbered;
             };
             supported = c .compiled e .supported;
@@ -113,16 +111,12 @@ module _ (b pairs block numbers supports images order : List ℕ) (r : Answer) (
   ordered : Ordering (problemOf b .variables) (orderLent b pairs)
   ordered = ordering-lent b pairs block good
 
-  few-constraints : length (problemOf b .constraints) ≤ 32
-  few-constraints = let l = constraints-are b in let f = lent-passed b pairs block good .sheet .header .constraints in omega arith
-
   few-symmetries : length (problemOf b .symmetries) ≤ 16
   few-symmetries = let l = symmetries-are b in let f = lent-passed b pairs block good .sheet .header .symmetries in omega arith
 
   limits : WithinLimits (reordered (orderLent b pairs) (problemOf b))
   limits = record {
     wellFormed = well-reordered p (orderLent b pairs) ordered (well-sheet b pairs block good);
-    constraints = let l = length-map (p .constraints) (constraintIn (orderLent b pairs)) in let f = few-constraints in omega arith;
     symmetries = let l = length-map (p .symmetries) (symmetryIn (orderLent b pairs) p) in let f = few-symmetries in omega arith;
   }
 
@@ -143,7 +137,6 @@ module _ (b pairs block numbers supports images order : List ℕ) (r : Answer) (
     compiled = a .compiled e;
     wellFormed = well-sheet b pairs block good;
     ordering = subst (Ordering (p .variables)) (sym (a .order-is e)) ordered;
-    constraints = few-constraints;
     symmetries = let f = few-symmetries in omega arith;
     numbers-length = a .sizes e .numbers-length;
     supports-length = a .sizes e .supports-length;

@@ -3,7 +3,7 @@
 use Rattle.model.specs.Kit.{_≡_, refl, sym, ap, _∙_, subst, Bool, true, false, List, [], ℕ, _*_, _/_, _^_, _≤_, _<_, arith, T, eqb, length, set, length-set, eqb-true, eqb-false}
 use native.Mathlib.Nat.{div-mul-le-self, div-le-self, le-div-iff-mul-le}
 use Rattle.model.specs.{Lists.at, Lists.below, Lists.choose, Problem.Problem, Search.nodes, Sheet.problemOf, WellFormed.WellFormed}
-use Rattle.model.proofs.{Accepted.constraints-are, Accepted.symmetries-are, Accepted.no-nodes, Lists.T-of, Lists.at-set, Lists.at-set-other}
+use Rattle.model.proofs.{Accepted.symmetries-are, Accepted.no-nodes, Lists.T-of, Lists.at-set, Lists.at-set-other}
 use Rattle.run_input.specs.inner.Compile.{WithinLimits}
 use Rattle.arrays.specs.inner.Places.{VARIABLES, LIMIT, ROOM, PLANS, ALL, DEEPER, NUMBERS}
 use Rattle.arrays.specs.inner.Layout.{Compiled}
@@ -44,7 +44,6 @@ module _ (b numbers supports images : List ℕ) (r : Bool) (left : Recompilation
   fits : WithinLimits p
   fits = record {
     wellFormed = well;
-    constraints = let l = constraints-are b in let f = compilable-fits b good .constraints in omega arith;
     symmetries = let l = symmetries-are b in let f = compilable-fits b good .symmetries in omega arith;
   }
 
@@ -72,7 +71,7 @@ module _ (b numbers supports images : List ℕ) (r : Bool) (left : Recompilation
 
     compiled : Compiled p bounded supports images
     compiled = record {
-      numbered = numbers-kept p numbers bounded (well .few) (fits .constraints) (λ i l. ap (λ (l : List ℕ). at l i) put ∙ at-set-other (set numbers LIMIT more) ROOM room i (λ e. omega arith)
+      numbered = numbers-kept p numbers bounded (well .few) (well .most) (λ i l. ap (λ (l : List ℕ). at l i) put ∙ at-set-other (set numbers LIMIT more) ROOM room i (λ e. omega arith)
           ∙ at-set-other numbers LIMIT more i (λ e. omega arith)) (h₀ .numbered);
       supported = h₀ .supported;
       imaged = h₀ .imaged;

@@ -86,13 +86,12 @@ module _ (p own : Problem) (order numbers supports images bytes : List ℕ) (pos
         ∙ h .long
 
     numbered : Numbers own laid
-    numbered = numbers-kept own numbers laid (fits .wellFormed .few) (fits .constraints) (λ i l. before i (omega arith)) (h .compiled .numbered)
+    numbered = numbers-kept own numbers laid (fits .wellFormed .few) (fits .wellFormed .most) (λ i l. before i (omega arith)) (h .compiled .numbered)
 
     pub compact : (tables : List ℕ) → length tables ≡ TABLES → Compact own laid supports images tables
     compact tables lt = record {
       compiled = record { numbered = numbered; supported = h .compiled .supported; imaged = h .compiled .imaged };
       wellFormed = fits .wellFormed;
-      constraints = fits .constraints;
       symmetries = fits .symmetries;
       numbers-length = laid-long;
       tables-length = lt;
@@ -134,7 +133,6 @@ module _ (p own : Problem) (order numbers supports images bytes : List ℕ) (pos
         wellFormed = fits .wellFormed;
         block = subst (λ (s : ℕ). BlockIn own (has s) (p .symmetries)) at-block (h .block);
         block-few = subst (λ (s : ℕ). (x : ℕ) → T (has s x) → x < own .variables) at-block (h .block-few);
-        constraints = fits .constraints;
         symmetries = fits .symmetries;
         stack-length = ls;
         work-length = lw;

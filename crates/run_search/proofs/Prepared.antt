@@ -57,7 +57,7 @@ module _ (b pairs block : List ℕ) (numbers supports images bytes : List ℕ) (
     at-room = ap (λ (l : List ℕ). at l ROOM) put ∙ at-set (set numbers LIMIT limit) ROOM room (let l = length-set numbers LIMIT limit in let e = left .sizes is .numbers-length in omega arith)
 
     compiled₀ : Compiled sheets bounded supports images
-    compiled₀ = record { numbered = numbers-kept sheets numbers bounded (fits₀ .wellFormed .few) (fits₀ .constraints) kept₀ (h₀ .numbered); supported = h₀ .supported; imaged = h₀ .imaged }
+    compiled₀ = record { numbered = numbers-kept sheets numbers bounded (fits₀ .wellFormed .few) (fits₀ .wellFormed .most) kept₀ (h₀ .numbered); supported = h₀ .supported; imaged = h₀ .imaged }
 
     -- what stands in the arrays then
     pub laid : (positions : ℕ) → Gathered (λ i. inLent block (at bytes i)) (at numbers VARIABLES) positions → Laid (problemLent b pairs block) sheets

@@ -29,7 +29,6 @@ ready-on h s w = record {
   wellFormed = h .wellFormed;
   block = h .block;
   block-few = h .block-few;
-  constraints = h .constraints;
   symmetries = h .symmetries;
   stack-length = s ∙ h .stack-length;
   work-length = w ∙ h .work-length;

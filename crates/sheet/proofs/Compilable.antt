@@ -86,6 +86,7 @@ module _ (b : List ℕ) (t : T (compilable b)) where
         sized = length-words b 16 (h .variables);
         nonempty = f .nonempty;
         narrow = f .states .narrow;
+        most = f .states .most;
         constrained = f .states .constrained;
         symmetric = λ g m. record {
           sized = (let r = Memᴰ·of-map (tableAt b h) (below (h .symmetries)) m in ap length (sym (r .2)) ∙ length-words b (h .third + 2 * (r .0 * (h .variables * h .values)))

@@ -5,11 +5,13 @@ use Rattle.model.specs.Kit.{ltb-true, ltb-false}
 use mathlib.Core.List.{List·Memᴰ·eq-of-singleton}
 use Rattle.model.specs.{Lists.any, Lists.keep, Lists.at, Lists.same, ValueSets.has, ValueSets.members, Problem.Problem, Problem.Constraint, Problem.pair, Problem.pairsAt}
 use Rattle.model.specs.Problem.{within, assignments, excluded, forbidden, constraintAt}
+use Rattle.model.specs.WellFormed.{Stated}
 use Rattle.model.proofs.Lists.{T-of, T-ext, of-not, both-i, both-l, both-r, any-e, any-i, keep-e, keep-i, flat-i, flat-e}
-use Rattle.model.proofs.{Sets.members-i, Sets.members-e, Pairs.within-i, Pairs.within-e, Pairs.doubled-e, Pairs.doubled-i, Pairs.forbidden-e, Pairs.forbidden-doubled}
-use Rattle.sheet_table.specs.{inner.Table.Stated, inner.Forbidden.blocked, inner.Forbidden.numberOf, inner.Forbidden.PairCode, inner.Forbidden.MaybePair}
+use Rattle.model.proofs.{Sets.members-i, Sets.members-e, Pairs.within-i, Pairs.within-e, Pairs.doubled-e, Pairs.doubled-i, Pairs.forbidden-e, Pairs.forbidden-doubled, Pairs.init-lt}
+use Rattle.model.proofs.Pairs.{pair-lt}
+use Rattle.sheet_table.specs.{inner.Forbidden.blocked, inner.Forbidden.numberOf, inner.Forbidden.PairCode, inner.Forbidden.MaybePair}
 use Rattle.sheet_table.specs.inner.Forbidden.{Begun, clashes}
-use Rattle.sheet_table.proofs.Codes.{good, init-lt, init-16, pair-lt}
+use Rattle.sheet_table.proofs.Codes.{good, init-16}
 
 -- ---- lists
 pub mem-index : {A : Type 0} (l : List A) (d y : A) → List·Memᴰ y l → (i : ℕ) × (i < length l) × (getD l i d ≡ y)
@@ -88,7 +90,9 @@ module _ (p : Problem) where
     unfolding pairsAt
     at-pairs [] vs i b q m = absurd (List·Memᴰ·not-nil m)
     at-pairs (x ∷ xs) [] i b q m = absurd (List·Memᴰ·not-nil m)
-    at-pairs (x ∷ xs) (v ∷ vs) i b q (List·Memᴰ·head e) = let l = i x (List·Memᴰ·head refl) in subst (λ (z : ℕ). z < p .variables * p .values) (sym e) (pair-lt p w x v l (init-lt p w x v l (b .0)))
+    at-pairs (x ∷ xs) (v ∷ vs) i b q (List·Memᴰ·head e) =
+        let l = i x (List·Memᴰ·head refl) in
+        subst (λ (z : ℕ). z < p .variables * p .values) (sym e) (pair-lt p x v l (init-lt p (w .narrow) x v l (b .0)))
     at-pairs (x ∷ xs) (v ∷ vs) i b q (List·Memᴰ·tail m) = at-pairs xs vs (λ y k. i y (List·Memᴰ·tail k)) (b .1) q m
 
     pub forbidden-lt : (h : List ℕ) → List·Memᴰ h (forbidden p) → (q : ℕ) → List·Memᴰ q h → q < p .variables * p .values
@@ -102,7 +106,7 @@ module _ (p : Problem) where
         (forbidden-e p h m)
       where
         under : (x v : ℕ) → x < p .variables → T (has (at (p .initial) x) v) → q ≡ pair p x v → q < p .variables * p .values
-        under x v l t e = subst (λ (z : ℕ). z < p .variables * p .values) (sym e) (pair-lt p w x v l (init-lt p w x v l t))
+        under x v l t e = subst (λ (z : ℕ). z < p .variables * p .values) (sym e) (pair-lt p x v l (init-lt p (w .narrow) x v l t))
 
         twice : (a b q : ℕ) → List·Memᴰ q (a ∷ b ∷ []) → List·Memᴰ q (a ∷ b ∷ b ∷ [])
         twice a b q (List·Memᴰ·head e) = List·Memᴰ·head e

@@ -2,12 +2,13 @@
 use Rattle.model.specs.Kit.{_≡_, sym, ap, _∙_, subst, true, false, List, [], _∷_, List·Memᴰ, List·Memᴰ·head, List·Memᴰ·tail, List·Memᴰ·not-nil, ℕ, zero, suc, _+_, _*_, _/_, _%_}
 use Rattle.model.specs.Kit.{_^_, _≤_, _<_, lt-of-le-of-lt, lt-of-lt-of-le, not-suc-le-zero, le-of-suc-le-suc, arith, T, eqb, ltb, ltb→lt, length, bitAnd, and-le-l, trailingZeros}
 use lib.Pow.{pow-mono}
-use Rattle.model.specs.{Lists.any, Lists.at, Lists.same, Lists.ascending, ValueSets.has, Problem.Problem, Problem.pairsAt, Problem.constraintAt, WellFormed.GoodConstraint}
+use Rattle.model.specs.{Lists.any, Lists.at, Lists.same, Lists.ascending, ValueSets.has, Problem.Problem, Problem.pairsAt, Problem.constraintAt, WellFormed.Stated, WellFormed.GoodConstraint}
 use Rattle.model.proofs.{Lists.of-not, Lists.both-l, Lists.both-r, Lists.among-e, Sets.has-lt, Masks.has-and, Members.low-has, Pairs.forbidden-excluded}
 use Rattle.arrays.specs.inner.Places.{SUPPORTS}
-use Rattle.sheet_table.specs.{inner.Table.Stated, inner.Forbidden.blocked, inner.Forbidden.numberOf, inner.Forbidden.PairCode, inner.Forbidden.MaybePair}
+use Rattle.arrays.proofs.Links.{is-one}
+use Rattle.sheet_table.specs.{inner.Forbidden.blocked, inner.Forbidden.numberOf, inner.Forbidden.PairCode, inner.Forbidden.MaybePair}
 use Rattle.sheet_table.specs.inner.Forbidden.{Begun, Triple, packed, packedOn}
-use Rattle.sheet_table.proofs.{Codes.good, Codes.init-16, Codes.constraint-in, Codes.variable-lt}
+use Rattle.sheet_table.proofs.{Codes.good, Codes.init-16, Codes.variable-lt}
 use Rattle.sheet_carried.proofs.{Keys.Digits, Keys.row-test, Blocks.excluded-i, Blocks.blocked-i}
 use Rattle.sheet_carried.proofs.{Blocks.blocked-more, Scopes.first-two, Surely.real}
 
@@ -90,7 +91,7 @@ module _ (p : Problem) (numbers supports : List ℕ) (a b : ℕ) (t : Triple p n
         let c = constraintAt p k in
         let vs = a % 16 ∷ b % 16 ∷ [] in
         blocked-i p _ (pairsAt p (c .scope) vs)
-        (forbidden-excluded p c _ (constraint-in p w k couple-lt)
+        (forbidden-excluded p c _ (is-one p k couple-lt)
         (excluded-i p c vs (λ x v m i. init-16 p w x v (g .inside x m) i) (sym (ap length scope-is))
         (subst (λ (xs : List ℕ). Begun p xs vs) (sym scope-is) (pair-of a (t .second) (parts .0) .1, (pair-of b (t .third) (parts .1) .1, tt))) row-no))
         (λ q m. subst (λ (xs : List ℕ). List·Memᴰ q (pairsAt p xs vs)) scope-is m)

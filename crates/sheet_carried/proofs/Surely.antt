@@ -6,13 +6,14 @@ use native.Mathlib.Nat.{mul-comm}
 use lib.Bits.{or-zero-r}
 use lib.Pow.{pow-mono}
 use Rattle.model.specs.{Lists.any, Lists.at, Lists.same, Lists.both, Lists.ascending, ValueSets.has, ValueSets.maskOf, ValueSets.fullMask, ValueSets.onlyMask, ValueSets.unionMask}
-use Rattle.model.specs.{Problem.Problem, Problem.pairsAt, Problem.constraintAt, WellFormed.GoodConstraint}
+use Rattle.model.specs.{Problem.Problem, Problem.pairsAt, Problem.constraintAt, WellFormed.Stated, WellFormed.GoodConstraint}
 use Rattle.model.proofs.{Lists.T-of, Lists.of-T, Lists.both-l, Lists.both-r, Lists.among-e, Sets.has-lt, Sets.has-none, Sets.mask-e, Masks.has-and, Masks.has-one, Members.low-has}
 use Rattle.model.proofs.{Lowest.with-one, Filling.gathered-begin, Filling.gathered-more, Pairs.forbidden-excluded}
 use Rattle.arrays.specs.inner.Places.{SUPPORTS}
-use Rattle.sheet_table.specs.{inner.Table.Stated, inner.Table.Ready, inner.Forbidden.blocked, inner.Forbidden.numberOf, inner.Forbidden.PairCode}
+use Rattle.arrays.proofs.Links.{is-one}
+use Rattle.sheet_table.specs.{inner.Table.Ready, inner.Forbidden.blocked, inner.Forbidden.numberOf, inner.Forbidden.PairCode}
 use Rattle.sheet_table.specs.inner.Forbidden.{MaybePair, Begun, Lacking, On, Sure, packed, packedOn}
-use Rattle.sheet_table.proofs.{Codes.good, Codes.init-16, Codes.constraint-in, Codes.variable-lt}
+use Rattle.sheet_table.proofs.{Codes.good, Codes.init-16, Codes.variable-lt}
 use Rattle.sheet_carried.proofs.{Keys.Digits, Keys.row-test, Blocks.three, Blocks.excluded-i}
 use Rattle.sheet_carried.proofs.{Blocks.blocked-i, Blocks.blocked-more, Scopes.Among, Scopes.first-two, Scopes.ascends}
 
@@ -91,7 +92,7 @@ module _ (p : Problem) (w : Stated p) where
       let c = constraintAt p k in
       let vs = a % 16 ∷ b % 16 ∷ e % 16 ∷ [] in
       blocked-i p _ (pairsAt p (c .scope) vs)
-      (forbidden-excluded p c _ (constraint-in p w k h)
+      (forbidden-excluded p c _ (is-one p k h)
       (excluded-i p c vs (λ x v m t. init-16 p w x v (good p w k h .inside x m) t) (sym (ap length s)) (subst (λ (xs : List ℕ). Begun p xs vs) (sym s) (ca .1, (cb .1, (ce .1, tt)))) n))
       (λ q m. subst (λ (xs : List ℕ). List·Memᴰ q (pairsAt p xs vs)) s m)
 

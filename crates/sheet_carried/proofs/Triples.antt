@@ -1,12 +1,13 @@
 -- When three pairs hold a forbidden set: two of them clash, or a constraint refuses them. Assumes nothing.
 use Rattle.model.specs.Kit.{_≡_, refl, sym, ap, ap₂, _∙_, subst, Bool, true, false, not, List, [], _∷_, map, List·Memᴰ, List·Memᴰ·head, List·Memᴰ·tail, List·Memᴰ·not-nil}
 use Rattle.model.specs.Kit.{Memᴰ·cast, _⊎_, inl, inr, ⊎-elim, ℕ, _/_, _%_, _<_, arith, T, T-not, not-T, eqb, ltb, ltb→lt, lt→ltb, length, eqb-true, eqb-false}
-use Rattle.model.specs.{Lists.all, Lists.any, Lists.at, Lists.same, Lists.choose, ValueSets.has, Problem.Problem, Problem.Constraint, Problem.pair, Problem.pairsAt}
+use Rattle.model.specs.{Lists.all, Lists.any, Lists.at, Lists.same, Lists.choose, ValueSets.has, Problem.Problem, Problem.Constraint, Problem.pair, Problem.pairsAt, WellFormed.Stated}
 use Rattle.model.specs.Problem.{constraintAt}
-use Rattle.model.proofs.{Lists.both-i, Lists.both-l, Lists.both-r, Lists.all-e, Lists.all-i, Pairs.doubled-e, Pairs.forbidden-e, Pairs.forbidden-excluded}
-use Rattle.sheet_table.specs.{inner.Table.Stated, inner.Forbidden.blocked, inner.Forbidden.numberOf, inner.Forbidden.MaybePair, inner.Forbidden.Begun}
+use Rattle.model.proofs.{Lists.both-i, Lists.both-l, Lists.both-r, Lists.all-e, Lists.all-i, Pairs.doubled-e, Pairs.forbidden-e, Pairs.forbidden-excluded, Pairs.init-lt}
+use Rattle.arrays.proofs.Links.{is-one}
+use Rattle.sheet_table.specs.{inner.Forbidden.blocked, inner.Forbidden.numberOf, inner.Forbidden.MaybePair, inner.Forbidden.Begun}
 use Rattle.sheet_table.specs.inner.Forbidden.{clashes, valueIn, refusedBy}
-use Rattle.sheet_table.proofs.{Codes.good, Codes.init-lt, Codes.init-16, Codes.code-is, Codes.constraint-in}
+use Rattle.sheet_table.proofs.{Codes.good, Codes.init-16, Codes.code-is}
 use Rattle.sheet_carried.proofs.{Blocks.mem-index, Blocks.three, Blocks.excluded-e}
 use Rattle.sheet_carried.proofs.Blocks.{excluded-i, blocked-i, blocked-e, clash-no}
 
@@ -96,7 +97,7 @@ module _ (p : Problem) (w : Stated p) (a b e : ℕ) (ma : MaybePair p a) (mb : M
       let f = refused-all c t in
       let i = good p w k h .inside in
       blocked-i p _ (pairsAt p (c .scope) (map (valueIn a b e) (c .scope)))
-      (forbidden-excluded p c _ (constraint-in p w k h)
+      (forbidden-excluded p c _ (is-one p k h)
       (excluded-i p c (map (valueIn a b e) (c .scope)) (λ x v m s. init-16 p w x v (i x m) s) (lib.ListN.length-map (c .scope) (valueIn a b e)) (values-begun (c .scope) i f) (refused-row c t)))
       (values-in (c .scope) f)
 
@@ -113,7 +114,7 @@ module _ (p : Problem) (w : Stated p) (a b e : ℕ) (ma : MaybePair p a) (mb : M
     values-are (x ∷ xs) [] i l d m = absurd (omega arith)
     values-are (x ∷ xs) (v ∷ vs) i l d m =
         let h = i x (List·Memᴰ·head refl) in
-        ap₂ (λ (y : ℕ) (r : List ℕ). y ∷ r) (only x v h (init-lt p w x v h (d .0)) (m (pair p x v) (List·Memᴰ·head refl)))
+        ap₂ (λ (y : ℕ) (r : List ℕ). y ∷ r) (only x v h (init-lt p (w .narrow) x v h (d .0)) (m (pair p x v) (List·Memᴰ·head refl)))
         (values-are xs vs (λ y k. i y (List·Memᴰ·tail k)) (omega arith) (d .1) (λ q k. m q (List·Memᴰ·tail k)))
 
     all-small : (xs : List ℕ) → ((x : ℕ) → List·Memᴰ x xs → x < p .variables) → Begun p xs (map (valueIn a b e) xs) → (x : ℕ) → List·Memᴰ x xs → T (ltb (valueIn a b e x) 16)
@@ -133,8 +134,8 @@ module _ (p : Problem) (w : Stated p) (a b e : ℕ) (ma : MaybePair p a) (mb : M
     no-doubled : (x v u : ℕ) → x < p .variables → T (has (at (p .initial) x) v) → T (has (at (p .initial) x) u) → v < u →
         List·Memᴰ (pair p x v) (numberOf p a ∷ numberOf p b ∷ numberOf p e ∷ []) → List·Memᴰ (pair p x u) (numberOf p a ∷ numberOf p b ∷ numberOf p e ∷ []) → ⊥
     no-doubled x v u h s t l m n =
-        let f : valueIn a b e x ≡ v = only x v h (init-lt p w x v h s) m in
-        let g : valueIn a b e x ≡ u = only x u h (init-lt p w x u h t) n in
+        let f : valueIn a b e x ≡ v = only x v h (init-lt p (w .narrow) x v h s) m in
+        let g : valueIn a b e x ≡ u = only x u h (init-lt p (w .narrow) x u h t) n in
         omega (arith, sym f ∙ g)
 
     pub blocked-refused : T (blocked p (numberOf p a ∷ numberOf p b ∷ numberOf p e ∷ [])) → (k : ℕ) × (k < length (p .constraints)) × T (refusedBy (constraintAt p k) a b e)

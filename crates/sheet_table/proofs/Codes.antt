@@ -1,13 +1,15 @@
 -- Pairs, their numbers and their codes, in a problem that questions 1 to 14 passed. Assumes nothing.
-use Rattle.model.specs.Kit.{_≡_, refl, sym, ap, ap₂, _∙_, subst, Bool, true, false, List, [], List·Memᴰ, inl, inr, ℕ, _+_, _*_, _/_, _%_, _^_, _≤_, _<_, mod-eq-of-lt}
-use Rattle.model.specs.Kit.{mul-le-mul-right, lt-of-lt-of-le, arith, T, eqb, ltb, ltb→lt, lt→ltb, length}
-use native.Mathlib.Nat.{mul-add-div-right, mul-add-mod-self-right, div-eq-of-lt, div-add-mod', div-lt-iff-lt-mul, mod-lt, add-zero}
+use Rattle.model.specs.Kit.{_≡_, refl, sym, ap, ap₂, _∙_, subst, Bool, true, false, List, inl, inr, ℕ, _+_, _*_, _/_, _%_, _^_, _≤_, _<_}
+use Rattle.model.specs.Kit.{mul-le-mul-right, lt-of-lt-of-le, arith, T, eqb, length}
+use native.Mathlib.Nat.{div-add-mod', div-lt-iff-lt-mul, mod-lt}
 use lib.Pow.{pow-mono}
 use Rattle.model.specs.{Lists.at, Lists.all, Lists.below, ValueSets.has, Problem.Problem, Problem.pair, Problem.isPair, Problem.constraintAt, Sheet.permutesPairs, Sheet.distinct}
-use Rattle.model.specs.WellFormed.{GoodConstraint}
-use Rattle.model.proofs.{Lists.both-i, Lists.both-l, Lists.both-r, Lists.all-e, Lists.below-i, Lists.mem-getD, Sets.has-lt}
+use Rattle.model.specs.WellFormed.{Stated, GoodConstraint}
+use Rattle.model.proofs.{Lists.both-l, Lists.all-e, Lists.below-i}
+use Rattle.model.proofs.Pairs.{init-lt, pair-of, pair-lt, pair-first, pair-second, isPair-i, isPair-lt, isPair-has}
 use Rattle.arrays.specs.inner.Layout.{pairCode}
-use Rattle.sheet_table.specs.{inner.Table.Stated, inner.Forbidden.numberOf, inner.Forbidden.PairCode, inner.Forbidden.MaybePair, inner.Forbidden.Decoded}
+use Rattle.arrays.proofs.Links.{is-one}
+use Rattle.sheet_table.specs.{inner.Forbidden.numberOf, inner.Forbidden.PairCode, inner.Forbidden.MaybePair, inner.Forbidden.Decoded}
 use Rattle.sheet_table.specs.inner.Forbidden.{Coded}
 
 -- ---- the code of a pair number
@@ -23,72 +25,26 @@ code-inj q r d h k e =
     sym (div-add-mod' q d) ∙ ap₂ (λ (i j : ℕ). i * d + j) x y ∙ div-add-mod' r d
 
 module _ (p : Problem) (w : Stated p) where
-  pub constraint-in : (k : ℕ) → k < length (p .constraints) → List·Memᴰ (constraintAt p k) (p .constraints)
-  constraint-in k h = mem-getD (p .constraints) k (record { scope = []; rows = [] }) h
-
   pub good : (k : ℕ) → k < length (p .constraints) → GoodConstraint p (constraintAt p k)
-  good k h = w .constrained (constraintAt p k) (constraint-in k h)
+  good k h = w .constrained (constraintAt p k) (is-one p k h)
 
   -- ---- initial sets
-  pub init-lt : (x v : ℕ) → x < p .variables → T (has (at (p .initial) x) v) → v < p .values
-  init-lt x v h t = has-lt (p .values) (at (p .initial) x) v (w .narrow x h) t
-
   pub init-16 : (x v : ℕ) → x < p .variables → T (has (at (p .initial) x) v) → v < 16
-  init-16 x v h t = omega (arith, init-lt x v h t, w .sixteen)
+  init-16 x v h t = omega (arith, init-lt p (w .narrow) x v h t, w .sixteen)
 
   pub init-small : (x : ℕ) → x < p .variables → at (p .initial) x < 2 ^ 16
   init-small x h = lt-of-lt-of-le (w .narrow x h) (pow-mono (w .sixteen))
 
   -- ---- pairs as numbers
-  pub pair-div : (x v : ℕ) → v < p .values → pair p x v / p .values ≡ x
-  unfolding pair
-  pair-div x v h = mul-add-div-right (w .one) x v ∙ ap (λ (k : ℕ). x + k) (div-eq-of-lt h) ∙ add-zero x
-
-  pub pair-mod : (x v : ℕ) → v < p .values → pair p x v % p .values ≡ v
-  unfolding pair
-  pair-mod x v h = mul-add-mod-self-right x (p .values) v ∙ mod-eq-of-lt h
-
-  pub pair-of : (q : ℕ) → pair p (q / p .values) (q % p .values) ≡ q
-  unfolding pair
-  pair-of q = div-add-mod' q (p .values)
-
-  pub pair-lt : (x v : ℕ) → x < p .variables → v < p .values → pair p x v < p .variables * p .values
-  unfolding pair
-  pair-lt x v h l = omega (arith, mul-le-mul-right (p .values) h)
-
   pub div-small : (q : ℕ) → q < p .variables * p .values → q / p .values < p .variables
   div-small q h = div-lt-iff-lt-mul (w .one) .1 h
 
-  pub mod-small : (q : ℕ) → q % p .values < p .values
-  mod-small q = mod-lt q (w .one)
-
-  pub pair-first : (x v y u : ℕ) → v < p .values → u < p .values → pair p x v ≡ pair p y u → x ≡ y
-  pair-first x v y u h l e = sym (pair-div x v h) ∙ ap (λ (k : ℕ). k / p .values) e ∙ pair-div y u l
-
-  pub pair-second : (x v y u : ℕ) → v < p .values → u < p .values → pair p x v ≡ pair p y u → v ≡ u
-  pair-second x v y u h l e = sym (pair-mod x v h) ∙ ap (λ (k : ℕ). k % p .values) e ∙ pair-mod y u l
-
-  pub isPair-i : (x v : ℕ) → x < p .variables → T (has (at (p .initial) x) v) → T (isPair p (pair p x v))
-  unfolding isPair
-  isPair-i x v h t =
-      let l = init-lt x v h t in
-      both-i (ltb (pair p x v) (p .variables * p .values)) _ (lt→ltb (pair p x v) (p .variables * p .values) (pair-lt x v h l))
-      (subst T (ap₂ (λ (y u : ℕ). has (at (p .initial) y) u) (sym (pair-div x v l)) (sym (pair-mod x v l))) t)
-
-  pub isPair-lt : (q : ℕ) → T (isPair p q) → q < p .variables * p .values
-  unfolding isPair
-  isPair-lt q t = ltb→lt q (p .variables * p .values) (both-l (ltb q (p .variables * p .values)) _ t)
-
-  pub isPair-has : (q : ℕ) → T (isPair p q) → T (has (at (p .initial) (q / p .values)) (q % p .values))
-  unfolding isPair
-  isPair-has q t = both-r (ltb q (p .variables * p .values)) _ t
-
   -- ---- codes
   pub code-value : (a : ℕ) → PairCode p a → a % 16 < p .values
-  code-value a h = init-lt (a / 16) (a % 16) (h .0) (h .1)
+  code-value a h = init-lt p (w .narrow) (a / 16) (a % 16) (h .0) (h .1)
 
   pub code-lt : (a : ℕ) → PairCode p a → numberOf p a < p .variables * p .values
-  code-lt a h = pair-lt (a / 16) (a % 16) (h .0) (code-value a h)
+  code-lt a h = pair-lt p (a / 16) (a % 16) (h .0) (code-value a h)
 
   pub variable-lt : (a : ℕ) → MaybePair p a → a / 16 < 16
   variable-lt a (inl n) = omega arith
@@ -101,8 +57,8 @@ module _ (p : Problem) (w : Stated p) where
 
   -- a code that numbers the pair (x, v) has that variable and that value
   pub code-is : (a x v : ℕ) → MaybePair p a → x < p .variables → v < p .values → pair p x v ≡ numberOf p a → (a / 16 ≡ x) × (a % 16 ≡ v)
-  code-is a x v (inl n) h l e = absurd (let o : pair p x v ≡ numberOf p 255 = e ∙ ap (numberOf p) n in omega (arith, pair-lt x v h l, none-out))
-  code-is a x v (inr c) h l e = (sym (pair-first x v (a / 16) (a % 16) l (code-value a c) e), sym (pair-second x v (a / 16) (a % 16) l (code-value a c) e))
+  code-is a x v (inl n) h l e = absurd (let o : pair p x v ≡ numberOf p 255 = e ∙ ap (numberOf p) n in omega (arith, pair-lt p x v h l, none-out))
+  code-is a x v (inr c) h l e = (sym (pair-first p x v (a / 16) (a % 16) l (code-value a c) e), sym (pair-second p x v (a / 16) (a % 16) l (code-value a c) e))
 
   pub code-16 : (a x v : ℕ) → a ≡ 16 * x + v → v < 16 → (a / 16 ≡ x) × (a % 16 ≡ v)
   code-16 a x v e h = (omega arith, omega arith)
@@ -124,23 +80,23 @@ module _ (p : Problem) (w : Stated p) where
         stays (isPair p q) q h
         (all-e (λ q. elim (isPair p q) [ true ↦ isPair p (at g q) | false ↦ eqb (at g q) q ]) (below (p .variables * p .values))
         (both-l (all (λ q. elim (isPair p q) [ true ↦ isPair p (at g q) | false ↦ eqb (at g q) q ]) (below (p .variables * p .values))) (distinct g) t) q
-        (below-i (p .variables * p .values) q (isPair-lt q h)))
+        (below-i (p .variables * p .values) q (isPair-lt p q h)))
 
     -- the decoded images number the images
     module _ (codes : List ℕ) (d : Decoded p g codes) where
       whole : (x v : ℕ) → x < p .variables → T (has (at (p .initial) x) v) → (at codes (16 * x + v) / 16 ≡ at g (pair p x v) / p .values) × (at codes (16 * x + v) % 16 ≡ at g (pair p x v) % p .values)
       whole x v h i =
           let q = at g (pair p x v) in
-          let small : q % p .values < 16 = omega (arith, mod-small q, w .sixteen) in
+          let small : q % p .values < 16 = omega (arith, mod-lt q (w .one), w .sixteen) in
           code-16 (at codes (16 * x + v)) (q / p .values) (q % p .values) (d x v h i) small
 
       pub decoded-number : (x v : ℕ) → x < p .variables → T (has (at (p .initial) x) v) → numberOf p (at codes (16 * x + v)) ≡ at g (pair p x v)
-      decoded-number x v h i = let r = whole x v h i in ap₂ (pair p) (r .0) (r .1) ∙ pair-of (at g (pair p x v))
+      decoded-number x v h i = let r = whole x v h i in ap₂ (pair p) (r .0) (r .1) ∙ pair-of p (at g (pair p x v))
 
       pub decoded-coded : Coded p codes
       decoded-coded x v h i =
           let r = whole x v h i in
-          let t = image-pair (pair p x v) (isPair-i x v h i) in (
-            subst (λ (y : ℕ). y < p .variables) (sym (r .0)) (div-small (at g (pair p x v)) (isPair-lt (at g (pair p x v)) t)),
-            subst T (sym (ap₂ (λ (y u : ℕ). has (at (p .initial) y) u) (r .0) (r .1))) (isPair-has (at g (pair p x v)) t),
+          let t = image-pair (pair p x v) (isPair-i p (w .narrow) x v h i) in (
+            subst (λ (y : ℕ). y < p .variables) (sym (r .0)) (div-small (at g (pair p x v)) (isPair-lt p (at g (pair p x v)) t)),
+            subst T (sym (ap₂ (λ (y u : ℕ). has (at (p .initial) y) u) (r .0) (r .1))) (isPair-has p (at g (pair p x v)) t),
           )

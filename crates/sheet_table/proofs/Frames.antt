@@ -1,10 +1,10 @@
 -- What the numbers hold: scopes and pairs. Assumes nothing.
 use Rattle.model.specs.Kit.{_≡_, refl, sym, ap, ap₂, _∙_, subst, Bool, false, List, ℕ, zero, suc, _+_, _*_, _/_, _%_, _^_, _≤_, _<_, mul-le-mul, arith, length, lt-ltb, le-ltb}
-use native.Mathlib.Nat.{pow-suc}
+use native.Mathlib.Nat.{mod-lt, pow-suc}
 use lib.Pow.{pow-add}
 use Rattle.model.specs.{Lists.at, Lists.both, ValueSets.has, Problem.Problem, Problem.isPair, Problem.constraintAt}
 use Rattle.sheet_table.specs.inner.Table.{Framed}
-use Rattle.sheet_table.proofs.Codes.{good, div-small, mod-small, init-small}
+use Rattle.sheet_table.proofs.Codes.{good, div-small, init-small}
 
 pow-256 : (i : ℕ) → 256 ^ suc i ≡ 2 ^ (8 * i + 8)
 pow-256 zero = refl
@@ -40,7 +40,7 @@ module _ (p : Problem) (numbers : List ℕ) (f : Framed p numbers) where
     pair-variable l = let s = sizes n d e h in subst (λ (m : ℕ). q / m < p .variables) (sym (s .1)) (div-small p (f .stated) q (within l))
 
     pub pair-value : q % d < 16
-    pair-value = let s = sizes n d e h in subst (λ (m : ℕ). q % m < 16) (sym (s .1)) (omega (arith, mod-small p (f .stated) q, f .stated .sixteen))
+    pair-value = let s = sizes n d e h in subst (λ (m : ℕ). q % m < 16) (sym (s .1)) (omega (arith, mod-lt q (f .stated .one), f .stated .sixteen))
 
     pub is-pair : (r : ℕ) → q < n * d → ((x : ℕ) → x ≡ q / d → x < p .variables → r ≡ at (p .initial) x) → has r (q % d) ≡ isPair p q
     unfolding isPair

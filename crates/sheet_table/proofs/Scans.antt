@@ -1,13 +1,13 @@
 -- The loops over a table, one number further: whether it permutes the pairs, and the codes of its images. Assumes nothing.
 use Rattle.model.specs.Kit.{_≡_, refl, sym, ap, ap₂, _∙_, subst, Bool, true, false, List, ℕ, _+_, _*_, _%_, _≤_, _<_, not-suc-le-zero, mul-le-mul, mul-le-mul-right, lt-of-lt-of-le}
 use Rattle.model.specs.Kit.{arith, T, eqb, eqb→eq, length, set, eqb-true, eqb-false, eq-eqb, ne-eqb}
-use Rattle.model.specs.{Lists.all, Lists.below, Lists.at, ValueSets.has, Problem.Problem, Problem.isPair, Problem.pair, Sheet.word, Sheet.permutesPairs, Sheet.distinct}
+use Rattle.model.specs.{Lists.all, Lists.below, Lists.at, ValueSets.has, Problem.Problem, Problem.isPair, Problem.pair, Sheet.word, Sheet.permutesPairs, Sheet.distinct, WellFormed.Stated}
 use Rattle.model.proofs.Lists.{T-of, of-T, not-of, of-not, both-i, both-l, both-r, all-i, all-e, below-i, below-e, at-set, at-set-other}
-use Rattle.model.proofs.{Counting.distinct-at, Accepted.length-words, Accepted.at-words}
+use Rattle.model.proofs.{Counting.distinct-at, Accepted.length-words, Accepted.at-words, Pairs.init-lt, Pairs.isPair-i, Pairs.pair-div, Pairs.pair-mod, Pairs.pair-lt}
 use Rattle.arrays.specs.inner.Layout.{imageCode, pairCode}
-use Rattle.sheet_table.specs.{inner.Table.Stated, inner.Table.tableOf, inner.Forbidden.Decoded, inner.Forbidden.Back, inner.Forbidden.Blank, inner.Forbidden.Drawn}
+use Rattle.sheet_table.specs.{inner.Table.tableOf, inner.Forbidden.Decoded, inner.Forbidden.Back, inner.Forbidden.Blank, inner.Forbidden.Drawn}
 use Rattle.sheet_table.specs.inner.Scan.{fits, Seen, DrawnAt, DrawnTo}
-use Rattle.sheet_table.proofs.{Codes.code-inj, Codes.init-lt, Codes.isPair-i, Codes.pair-div, Codes.pair-mod, Codes.pair-lt, Laws.distinct-of}
+use Rattle.sheet_table.proofs.{Codes.code-inj, Laws.distinct-of}
 
 -- ---- the words of a table
 pub table-at : (p : Problem) (sheet : List ℕ) (offset q : ℕ) → q < p .variables * p .values → at (tableOf p sheet offset) q ≡ word sheet (offset + 2 * q)
@@ -172,15 +172,15 @@ module _ (p : Problem) (w : Stated p) (g codes moves : List ℕ) where
   module _ (d : DrawnTo p g codes moves (p .variables * p .values)) where
     drawn : (x v : ℕ) → x < p .variables → T (has (at (p .initial) x) v) →
         (at codes (pairCode (p .values) (pair p x v)) ≡ imageCode p g x v) × (at moves (imageCode p g x v) ≡ pair p x v % p .values)
-    drawn x v h t = d (pair p x v) (pair-lt p w x v h (init-lt p w x v h t)) (isPair-i p w x v h t)
+    drawn x v h t = d (pair p x v) (pair-lt p x v h (init-lt p (w .narrow) x v h t)) (isPair-i p (w .narrow) x v h t)
 
     pub drawn-decoded : Decoded p g codes
     drawn-decoded x v h t =
-        let l = init-lt p w x v h t in
-        ap₂ (λ (y u : ℕ). at codes (16 * y + u)) (sym (pair-div p w x v l)) (sym (pair-mod p w x v l)) ∙ drawn x v h t .0
+        let l = init-lt p (w .narrow) x v h t in
+        ap₂ (λ (y u : ℕ). at codes (16 * y + u)) (sym (pair-div p x v l)) (sym (pair-mod p x v l)) ∙ drawn x v h t .0
 
     pub drawn-back : Back p codes moves
-    drawn-back x v h t = ap (at moves) (drawn-decoded x v h t) ∙ drawn x v h t .1 ∙ pair-mod p w x v (init-lt p w x v h t)
+    drawn-back x v h t = ap (at moves) (drawn-decoded x v h t) ∙ drawn x v h t .1 ∙ pair-mod p x v (init-lt p (w .narrow) x v h t)
 
 -- a number of the table among d values
 pub number-lt : (p : Problem) → Stated p → (d : ℕ) → d ≡ p .values → (z : ℕ) → z < p .variables * p .values → z < 12 * d

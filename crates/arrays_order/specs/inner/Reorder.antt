@@ -8,12 +8,11 @@ use Rattle.arrays.specs.{inner.Layout.Compiled, inner.Places.IMAGES, inner.Plac
 abbrev pub orderOf : Problem → List ℕ → List ℕ
 orderOf p order = take (p .variables) order
 
--- the arrays hold p, which has no more constraints and symmetries than they have room for, and have their lengths
+-- the arrays hold p, which has no more symmetries than they have room for, and have their lengths
 pub record Movable (p : Problem) (order numbers supports images : List ℕ) : Type 0 where
   pub compiled : Compiled p numbers supports images
   pub wellFormed : WellFormed p
   pub ordering : Ordering (p .variables) (orderOf p order)
-  pub constraints : length (p .constraints) ≤ 32
   pub symmetries : length (p .symmetries) ≤ 136
   pub numbers-length : length numbers ≡ NUMBERS
   pub supports-length : length supports ≡ SUPPORTS

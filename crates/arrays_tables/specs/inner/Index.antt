@@ -3,11 +3,10 @@ use Rattle.model.specs.Kit.{_≡_, List, ℕ, _≤_, _<_, length}
 use Rattle.model.specs.{Lists.at, Problem.Problem, WellFormed.WellFormed}
 use Rattle.arrays.specs.{inner.Places.LINKED, inner.Places.NUMBERS, inner.Places.TABLES, inner.Layout.Compiled, inner.Tables.Indexed}
 
--- the arrays hold p, which has no more constraints and symmetries than they have room for; what is lent to write on has its length
+-- the arrays hold p, which has no more symmetries than they have room for; what is lent to write on has its length
 pub record Compact (p : Problem) (numbers supports images tables : List ℕ) : Type 0 where
   pub compiled : Compiled p numbers supports images
   pub wellFormed : WellFormed p
-  pub constraints : length (p .constraints) ≤ 32
   pub symmetries : length (p .symmetries) ≤ 16
   pub numbers-length : length numbers ≡ NUMBERS
   pub tables-length : length tables ≡ TABLES

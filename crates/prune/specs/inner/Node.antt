@@ -17,14 +17,13 @@ abbrev pub blockOf : List ℕ → ℕ → Bool
 blockOf numbers x = has (at numbers BLOCK) x
 
 -- The prefixes are those of p, which the arrays hold, with the symmetries gs: p's own and the orderings of the block.
--- the arrays hold p, which has no more constraints and symmetries than they have room for, and the block, whose orderings are among gs;
+-- the arrays hold p, which has no more symmetries than they have room for, and the block, whose orderings are among gs;
 -- what is lent to write on has its length (a reference to an array tells its length to no proof)
 pub record Ready (p : Problem) (gs : List (List ℕ)) (stack work supports tables numbers : List ℕ) : Type 0 where
   pub indexed : Indexed p numbers supports tables
   pub wellFormed : WellFormed p
   pub block : BlockIn p (blockOf numbers) gs
   pub block-few : (x : ℕ) → T (blockOf numbers x) → x < p .variables
-  pub constraints : length (p .constraints) ≤ 32
   pub symmetries : length (p .symmetries) ≤ 16
   pub stack-length : length stack ≡ STACK
   pub work-length : length work ≡ WORK

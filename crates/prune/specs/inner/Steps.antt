@@ -12,7 +12,6 @@ use Rattle.prune.specs.inner.Node.{MarksRight, blockOf}
 pub record ArraysHold (p : Problem) (supports tables numbers : List ℕ) : Type 0 where
   pub indexed : Indexed p numbers supports tables
   pub wellFormed : WellFormed p
-  pub constraints : length (p .constraints) ≤ 32
   pub symmetries : length (p .symmetries) ≤ 16
 
 -- ---- the constraints

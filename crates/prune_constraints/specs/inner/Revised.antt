@@ -1,5 +1,5 @@
 -- Pruning by the constraints alone: what one constraint leaves of the sets, and what the functions of this crate say of a problem.
-use Rattle.model.specs.Kit.{_≡_, false, not, List, List·Memᴰ, ℕ, _≤_, _<_, T, eqb, length}
+use Rattle.model.specs.Kit.{_≡_, false, not, List, List·Memᴰ, ℕ, _<_, T, eqb, length}
 use Rattle.model.specs.{Lists.both, Lists.at, Lists.tabulate, ValueSets.has, ValueSets.maskOf, ValueSets.Inside, Problem.Problem, Problem.Constraint, Problem.constraintAt}
 use Rattle.model.specs.{Search.supported, inner.Pruning.Sets, WellFormed.WellFormed}
 use Rattle.model.proofs.Sets.{size}
@@ -27,7 +27,6 @@ pub record ConstraintsPending (p : Problem) (numbers supports sets : List ℕ) (
   pub tabled : Supports p supports
   pub linked : Linked p numbers
   pub worded : at numbers VALUES < 9 → Words numbers supports
-  pub constraints : length (p .constraints) ≤ 32
   pub known : (k : ℕ) → T (has todo k) → k < length (p .constraints)
   pub others : (k : ℕ) → k < length (p .constraints) → has todo k ≡ false → byRows p k ≡ false → Fixed (setsOf p sets) (constraintAt p k)
 

@@ -1,5 +1,5 @@
 -- What the functions inside this crate say to each other: tables of sets, and one constraint at a time.
-use Rattle.model.specs.Kit.{_≡_, not, _⊎_, List, [], _∷_, _++_, List·Memᴰ, ℕ, suc, _+_, _*_, _≤_, _<_, T, eqb, length, set}
+use Rattle.model.specs.Kit.{_≡_, not, _⊎_, List, [], _∷_, _++_, List·Memᴰ, ℕ, suc, _+_, _*_, _<_, T, eqb, length, set}
 use Rattle.model.specs.{Lists.any, Lists.at, Lists.same, Lists.ascending, ValueSets.has, ValueSets.maskOf, ValueSets.oneIf, Problem.Problem, Problem.Constraint}
 use Rattle.model.specs.WellFormed.{WellFormed}
 use Rattle.arrays.specs.{inner.Places.VALUES, inner.Places.OTHERS, inner.Places.DEAD, inner.Layout.Numbers, inner.Layout.Supports, inner.Layout.place, inner.Tables.Words}
@@ -56,7 +56,6 @@ pub record ConstraintsHeld (p : Problem) (numbers supports : List ℕ) : Type 0 
   pub numbered : Numbers p numbers
   pub tabled : Supports p supports
   pub worded : at numbers VALUES < 9 → Words numbers supports
-  pub constraints : length (p .constraints) ≤ 32
 
 -- the set of x becomes t; at DEAD t is empty and nothing is stored
 pub record SetCut (ds es : List ℕ) (x t r : ℕ) : Type 0 where

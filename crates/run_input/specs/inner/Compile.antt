@@ -10,7 +10,6 @@ use Rattle.run_input.specs.Lent.{verdictLent, orderLent}
 -- a problem that the arrays have room for
 pub record WithinLimits (p : Problem) : Type 0 where
   pub wellFormed : WellFormed p
-  pub constraints : length (p .constraints) ≤ 32
   pub symmetries : length (p .symmetries) ≤ 16
 
 -- the answer to all questions; for an accepted lending the arrays hold the sheet's problem with its variables in the settling order, which stands in the first bytes

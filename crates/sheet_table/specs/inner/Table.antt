@@ -1,16 +1,7 @@
 -- Questions 15 and 16 for one table (paper 01): what is known of the problem before they are asked, and their answer.
-use Rattle.model.specs.Kit.{Bool, true, false, List, List·Memᴰ, ℕ, _+_, _*_, _^_, _≤_, _<_, length}
-use Rattle.model.specs.{Lists.at, Problem.Problem, Problem.Constraint, Problem.respects, Sheet.words, Sheet.permutesPairs, WellFormed.GoodConstraint}
+use Rattle.model.specs.Kit.{Bool, true, false, List, ℕ, _+_, _*_, _≤_, length}
+use Rattle.model.specs.{Problem.Problem, Problem.respects, Sheet.words, Sheet.permutesPairs, WellFormed.Stated}
 use Rattle.arrays.specs.inner.Layout.{Numbers, Supports}
-
--- what questions 1 to 14 show of the problem
-pub record Stated (p : Problem) : Type 0 where
-  pub few : p .variables ≤ 12
-  pub one : 1 ≤ p .values
-  pub sixteen : p .values ≤ 16
-  pub narrow : (x : ℕ) → x < p .variables → at (p .initial) x < 2 ^ p .values
-  pub most : length (p .constraints) ≤ 32
-  pub constrained : (c : Constraint) → List·Memᴰ c (p .constraints) → GoodConstraint p c
 
 -- the numbers hold those of the problem
 pub record Framed (p : Problem) (numbers : List ℕ) : Type 0 where

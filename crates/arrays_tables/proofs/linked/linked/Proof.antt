@@ -9,7 +9,7 @@ small c = search needs
 
 returns : tie.Need-returns
 returns c = link-numbers _ _ _ (c .before .before .before .before .before .before .pre .2) (small (c .before .before .before .before)) (c .before .before .before .before .all-first .ensures)
-    (c .before .before .variables-of .ensures) _ (c .others .ensures) (c .before .before .before .before .before .before .pre .1)
+    (c .before .before .variables-of .ensures) _ (c .others .ensures)
 
 pub linked-spec : {M : Type 1} → statement M
 linked-spec =

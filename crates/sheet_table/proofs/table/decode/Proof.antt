@@ -1,9 +1,9 @@
 use Rattle.model.specs.Kit.{⊎-elim, _≡_, refl, sym, ap, _∙_, subst, ℕ, _+_, _-_, _*_, _%_, _≤_, _<_, arith, needs, not-true, not-false, now, length, length-set}
 use native.Mathlib.Nat.{mod-lt}
 use Rattle.model.specs.{Lists.at, Problem.Problem}
-use Rattle.model.proofs.Lists.{T-of, at-replicate}
+use Rattle.model.proofs.{Lists.T-of, Lists.at-replicate, Pairs.isPair-lt}
 use Rattle.sheet_table.specs.{inner.Table.TableAt, inner.Table.tableOf, inner.Forbidden.Blank, inner.Scan.Seen, inner.Scan.DrawnTo}
-use Rattle.sheet_table.proofs.{Codes.isPair-lt, Frames.size-lt, Frames.size-is, Scans.seen-none, Scans.seen-all, Scans.read-out, Scans.read-twice, Scans.read-moved}
+use Rattle.sheet_table.proofs.{Frames.size-lt, Frames.size-is, Scans.seen-none, Scans.seen-all, Scans.read-out, Scans.read-twice, Scans.read-moved}
 use Rattle.sheet_table.proofs.Scans.{read-same, read-more, number-lt, table-length, table-small, drawn-none, drawn-same, read-drawn, drawn-no, drawn-yes}
 use Rattle.sheet_table.proofs.{Targets.blank-same, Targets.blank-moves, Targets.blank-codes, table.decode.Statement.statement}
 use Rattle.sheet_table.proofs.table.decode.Tie as tie
@@ -61,7 +61,7 @@ coded c z h =
 -- the image of a pair is a pair
 image-in : (c : tie.Else2 Inv-loop μ-loop) (p : Problem) → At (c .before .before .before .before .before .before .before .before .before .before) p →
     c .before .before .before .before .read-word .result < p .variables * p .values
-image-in c p l = isPair-lt p (l .framed .stated) _ (T-of _ (sym (c .before .is-pair2 .ensures p (l .framed)) ∙ not-false _ (c .if2 .left)))
+image-in c p l = isPair-lt p _ (T-of _ (sym (c .before .is-pair2 .ensures p (l .framed)) ∙ not-false _ (c .if2 .left)))
 
 image-small : (c : tie.Else2 Inv-loop μ-loop) → c .before .before .before .before .read-word .result < 192
 image-small c = let l = c .before .before .before .before .before .before .before .before .before .before .pre .0 in omega (arith, image-in c (l .0) (l .1), table-small (l .0) (l .1 .framed .stated))
