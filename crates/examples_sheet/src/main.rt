@@ -1,11 +1,14 @@
 // Puts the questions (paper 01) to the sheets that standard input names, one a line, and prints each line with the answer.
 // A line is a letter, A for sheet A of paper 01 or L for the longest sheet, the number of bytes lent, and any number of changes:
 // an offset and the number that stands there instead. What follows is a remark.
+use examples_lines::find;
+use examples_lines::number;
+use examples_lines::say;
+use examples_lines::say_number;
 use libc::STDIN_FILENO;
-use libc::STDOUT_FILENO;
 use model::wide;
 use sheet::Answer;
-ghost use Prim.Native.Nat.{_≤_, _<_};
+ghost use Prim.Native.Nat.{_≤_};
 ghost use lib.ListN.{length};
 
 // A 16-bit number, low byte first; nothing past the end.
@@ -107,57 +110,10 @@ fn longest(b: &mut [u8; 65536]) {
     put_series(b, 49512, 3072, 2);
 }
 
-// A number of the line, and where it ends; done where there is none.
-struct Found {
-    value: usize,
-    end: usize,
-    done: bool,
-}
-
-// The number after the spaces from a position on.
-fn number(line: &[u8], from: usize) -> Found
-    ensures { λ r. ⌜ r .value < 65536 ⌝ }
-{
-    let mut at = from;
-    while at < line.len() {
-        if line[at] != b' ' {
-            return digits(line, at);
-        }
-        at += 1;
-    }
-    Found {
-        value: 0,
-        end: at,
-        done: true,
-    }
-}
-
-fn digits(line: &[u8], from: usize) -> Found
-    ensures { λ r. ⌜ r .value < 65536 ⌝ }
-{
-    let mut value = 0;
-    let mut at = from;
-    while at < line.len() {
-        let c = wide(line[at]);
-        if c < 48 {
-            return Found {
-                value,
-                end: at,
-                done: at == from,
-            };
-        }
-        value = (10 * value + (c - 48)) % 65536;
-        at += 1;
-    }
-    Found {
-        value,
-        end: at,
-        done: at == from,
-    }
-}
-
 // The changes of a line from a position on.
-fn change(b: &mut [u8; 65536], line: &[u8], from: usize) {
+fn change(b: &mut [u8; 65536], line: &[u8], from: usize)
+    requires { ⌜ from ≤ length (now line) ⌝ }
+{
     let mut at = from;
     while at < line.len() {
         let offset = number(line, at);
@@ -171,14 +127,6 @@ fn change(b: &mut [u8; 65536], line: &[u8], from: usize) {
         }
         at = v.end;
     }
-}
-
-fn say(text: &[u8]) {
-    io::write_all(STDOUT_FILENO, text);
-}
-
-fn say_number(n: usize) {
-    io::print_decimal(STDOUT_FILENO, n as u64);
 }
 
 // The answer to the first len bytes.
@@ -213,25 +161,10 @@ fn answer(b: &mut [u8; 65536], line: &[u8]) {
     ask(b, len.value);
 }
 
-// Where the line from a position on ends.
-fn line_end(text: &[u8], from: usize) -> usize
-    requires { ⌜ from ≤ length (now text) ⌝ }
-    ensures { λ r. ⌜ (from ≤ r) × (r ≤ length (now (text .entry))) ⌝ }
-{
-    let mut at = from;
-    while at < text.len() {
-        if text[at] == b'\n' {
-            return at;
-        }
-        at += 1;
-    }
-    at
-}
-
 fn answers(b: &mut [u8; 65536], text: &[u8]) {
     let mut at = 0;
     while at < text.len() {
-        let end = line_end(text, at);
+        let end = find(text, at, b'\n');
         answer(b, &text[at..end]);
         at = end + 1;
     }

@@ -11,8 +11,8 @@ abbrev μ-loop : tie.MeasureT-loop
 loop-holds : tie.Need-loop-holds Inv-loop μ-loop
 loop-holds c = search needs
 
-line-end-requires : tie.Need-line-end-requires Inv-loop μ-loop
-line-end-requires c κs = search needs
+find-requires : tie.Need-find-requires Inv-loop μ-loop
+find-requires c κs = search needs
 
 sub-answer : tie.Need-sub-answer Inv-loop μ-loop
 sub-answer c = search needs
@@ -42,4 +42,4 @@ pub answers-spec : {M : Type 1} → statement M
 answers-spec =
     tie.close
     (tie.spec
-    Inv-loop μ-loop loop-holds line-end-requires sub-answer part-answer-start part-answer-end answer-requires add-at loop-less loop-again returns)
+    Inv-loop μ-loop loop-holds find-requires sub-answer part-answer-start part-answer-end answer-requires add-at loop-less loop-again returns)

@@ -3,7 +3,7 @@ use Rattle.examples_sheet.proofs.change.Statement.{statement}
 use Rattle.examples_sheet.proofs.change.Tie as tie
 
 abbrev Inv-loop : tie.InvT-loop
-Inv-loop b₀ line from at₀ b at = 0 ≤ at
+Inv-loop b₀ line from at₀ b at = at ≤ length line
 
 abbrev μ-loop : tie.MeasureT-loop
 μ-loop b₀ line from at₀ b at = length line - at

@@ -1,9 +1,9 @@
-use Rattle.model.specs.Kit.{needs, _-_, _<_, length}
-use Rattle.examples_sheet.proofs.digits.Statement.{statement}
-use Rattle.examples_sheet.proofs.digits.Tie as tie
+use Rattle.model.specs.Kit.{needs, _-_, _≤_, _<_, length}
+use Rattle.examples_lines.proofs.digits.Statement.{statement}
+use Rattle.examples_lines.proofs.digits.Tie as tie
 
 abbrev Inv-loop : tie.InvT-loop
-Inv-loop line from value₀ at₀ value at = value < 65536
+Inv-loop line from value₀ at₀ value at = (value < 65536) × (at ≤ length line)
 
 abbrev μ-loop : tie.MeasureT-loop
 μ-loop line from value₀ at₀ value at = length line - at
