@@ -5,7 +5,7 @@ use Rattle.model.proofs.Lists.{at-set, at-set-other}
 use Rattle.desk.specs.Queue.{Job, jobTurned, Slot, waits, slotTurned, Queue, slotAt, Found, none-found, slot, roundFrom, toServe, QueueCall, submit, turn, release}
 use Rattle.desk.specs.{Queue.QueueReply, Queue.turnQueue, Queue.queueAfter, Queue.queueEnd, Queue.queueReplies, Places.NEXT, Layout.slotPlace, Layout.jobAt, Layout.slotOf}
 use Rattle.desk.specs.{Layout.queueOf, Layout.withRun, Layout.turnBytes, Layout.callBytes, Layout.bytesAfter, Claims.QueueBytes, Claims.ByteCall, Claims.Each-call}
-use Rattle.desk.specs.Claims.{bytesEnd, repliesOn, All-calls}
+use Rattle.desk.specs.inner.Claims.{bytesEnd, repliesOn, All-calls}
 use Rattle.desk.proofs.{Queue.first-in, Bytes.small-set, Slots.slot-in, Slots.free-at, Slots.taken-at, Slots.reply-whole, Slots.bytes-whole, Meaning.slot-same}
 use Rattle.desk.proofs.{Meaning.slots-set, Refines.queue-is, Refines.submit-call, Refines.release-call, Turning.Fits, Turning.at-fits, Turning.turned-fits, Turned.run-whole}
 use Rattle.desk.proofs.Turned.{run-slot, run-others, run-bytes}

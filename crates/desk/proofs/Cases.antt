@@ -10,14 +10,14 @@ use Rattle.model.specs.{Search.isLive, Search.nodesBelow, Search.nodes, Search.
 use Rattle.model.specs.Examples.{sheetA}
 use Rattle.run_cut.specs.Parts.{after, nodesAfter, nodesBetween, nodesOf, lastOf, goOn, added}
 use Rattle.desk.specs.Queue.{over, jobTurned, firstOf, emptyQueue, Queue, submit, turn, release, refusal, answered, queued, idle, served, released, queueEnd, queueReplies, due}
-use Rattle.desk.specs.{Queue.behindLast, Queue.roundsQueue, Queue.turnsGiven, Queue.endedIn, Queue.goingOn, Queue.statusReply, inner.Examples.Stay}
+use Rattle.desk.specs.{Queue.roundsQueue, Queue.turnsGiven, Queue.endedIn, Queue.goingOn, Queue.statusReply, inner.Examples.Stay}
 
 -- every definition that computes
 opened : ℕ
 unfolding all any keep flat tabulate upFrom below at total same earlier ascending rowsAscend has maskBelow least members anyEmpty valuesAt satisfies isSolution assignments pair isPair pairsOf
     within takes doubled pairsAt excluded forbidden respects word words headerOf scopeAt rowsAt afterAt constraintsFrom tableAt problemOf setsVerdict constraintVerdict constraintsVerdict distinct
     permutesPairs symmetriesVerdict headerVerdict formVerdict verdictOf obeysFrom obeying used filtered entriesAt nogoodsOf rowWith supported pruned narrowed rounds setsAt isLive nodesBelow nodes
-    isPlan search resultOf written after nodesAfter nodesBetween nodesOf lastOf goOn added countsBy jobTurned firstOf queueEnd queueReplies due behindLast
+    isPlan search resultOf written after nodesAfter nodesBetween nodesOf lastOf goOn added countsBy jobTurned firstOf queueEnd queueReplies due
 opened = 0
 
 -- two jobs, the second with limit 2, a third that may make no node; idle, releasing with short room, releasing, releasing again

@@ -14,9 +14,10 @@ use Rattle.run_cut.specs.Parts.{nodesAfter, lastOf, Progress, start, progressAt
 use Rattle.desk.specs.Queue.{Standing, running, over, goesOn, Job, newJob, listRoom, turnLimit, standingAfter, jobAfter, jobTurned, turned, Slot, free, taken, isFree, waits}
 use Rattle.desk.specs.Queue.{slotTurned, Queue, emptyQueue, slotAt, Found, none-found, slot, firstOf, lowestFree, toServe, QueueCall, submit, turn, release, refusal, answered, queued}
 use Rattle.desk.specs.Queue.{idle, served, released, servedAs, submitReply, submitQueue, turnReply, turnQueue, fits, releaseFor, releaseReply, releaseSlot, queueReply}
-use Rattle.desk.specs.{Queue.queueAfter, Queue.queueEnd, Queue.queueReplies, Queue.countsOf, Claims.serves, Claims.turnsIn, Claims.timesServed, Claims.Throughout}
-use Rattle.desk.specs.Claims.{Remains, Waits, Fair, alone, HoldsAs, Holds, As-alone, Same-as-run, Turn-of-64, Sixty-four-each, Turn-answers, Refused-same, Idle-exactly}
-use Rattle.desk.specs.Claims.{Past-eighth, By-own-turns, Others-nothing, Releases, Lowest-slot, Slots-taken, Keeps-slot}
+use Rattle.desk.specs.{Queue.queueAfter, Queue.queueEnd, Queue.queueReplies, Queue.jobIn, Claims.serves, Claims.turnsIn}
+use Rattle.desk.specs.Claims.{WaitsOn, Fair, alone, Going-on, Same-as-run}
+use Rattle.desk.specs.inner.Claims.{timesServed, Throughout, Remains, HoldsAs, Holds, As-alone, Turn-of-64, Sixty-four-each, Turn-answers, Refused-same, Idle-exactly, Past-eighth}
+use Rattle.desk.specs.inner.Claims.{By-own-turns, Others-nothing, Releases, Lowest-slot, Slots-taken, Keeps-slot}
 use Rattle.model.proofs.{Lists.T-of, Lists.of-T, Lists.of-not, Lists.any-cons, Lists.either-l, Lists.either-r, Lists.below-i, Lists.below-e, Room.length-flat, Runs.Ended, Lists.never}
 use Rattle.model.proofs.Runs.{walk, rows-counted, rows-fit, rows-sized}
 use Rattle.run_cut.proofs.{Resume.stands, Resume.from-start, Resume.from-cut, Resume.in-parts, Resume.last-moves, Anywhere.no-fewer, Anywhere.counts-move}
@@ -120,7 +121,7 @@ pub round-to : (n k : ℕ) → k < 8 → (n + (k + 8 - n % 8) % 8) % 8 ≡ k
 round-to n k h = omega arith
 
 -- the slot stands i further round, i ≤ m: it is served within m + 1 turns
-fair-from : (xs : List QueueCall) (d : Queue) (m i k : ℕ) → i ≤ m → i < 8 → (d .next + i) % 8 ≡ k → Throughout (Waits k) d xs → suc m ≤ turnsIn xs → T (any (serves k) (queueReplies d xs))
+fair-from : (xs : List QueueCall) (d : Queue) (m i k : ℕ) → i ≤ m → i < 8 → (d .next + i) % 8 ≡ k → WaitsOn k d xs → suc m ≤ turnsIn xs → T (any (serves k) (queueReplies d xs))
 unfolding queueReplies turnsIn below
 fair-from [] d m i k l o e w t = absurd (omega arith)
 fair-from (submit b limit ∷ xs) d m i k l o e w t =
@@ -148,7 +149,7 @@ fair-from (turn ∷ xs) d m i k l o e w t =
     rest = any (serves k) (queueReplies d′ xs)
 
     go : (j : ℕ) → j ≤ i → toServe d ≡ slot ((d .next + j) % 8) → (b : Bool) → eqb ((d .next + j) % 8) k ≡ b →
-        ((m i k : ℕ) → i ≤ m → i < 8 → (d′ .next + i) % 8 ≡ k → Throughout (Waits k) d′ xs → suc m ≤ turnsIn xs → T (any (serves k) (queueReplies d′ xs))) → T
+        ((m i k : ℕ) → i ≤ m → i < 8 → (d′ .next + i) % 8 ≡ k → WaitsOn k d′ xs → suc m ≤ turnsIn xs → T (any (serves k) (queueReplies d′ xs))) → T
         (either (serves k (queueReply d turn)) rest)
     go j h s true g ih = either-l (serves k (queueReply d turn)) rest (T-of (serves k (queueReply d turn)) (ap (λ (x : Found). serves k (turnReply x d)) s ∙ g))
     go j h s false g ih =
@@ -334,7 +335,8 @@ same-as-run xs k h e out tally q s n = (
       ∙ ap₂ (λ (n : ℕ) (room : List ℕ). answered (released n room)) (sized ∙ ap (λ (m : ℕ). m * p .variables) (a .2))
       (sym (ap (λ (v : Verdict). kept v out (written (resultOf p (h .limit) (length out) .rows) out)) c ∙ ap
       (λ (m : ℕ). written (resultOf p (h .limit) m .rows) out) n ∙ ap (λ (r : Result). written (r .rows) out) (a .0))),
-  ap (λ (x : Answer). tallyFor x (tallyAt p) tally) same-answer ∙ ap₂ (λ (m : ℕ) (l : List ℕ). let t : Tally = record { nodes = m; counts = l } in t) (sym (a .1)) (sym (a .3) ∙ sym (ap countsOf q)),
+  ap (λ (x : Answer). tallyFor x (tallyAt p) tally) same-answer ∙ ap₂ (λ (m : ℕ) (l : List ℕ). let t : Tally = record { nodes = m; counts = l } in t) (sym (a .1)) (sym (a .3)
+      ∙ sym (ap (λ (x : Slot). jobIn x .progress .counts) q)),
 )
   where
     p : Problem
@@ -399,6 +401,13 @@ turn-of-64 h u r =
       omega arith,
       λ s. let g = goes-on p (h .limit) (turnLimit h) room ts (h .progress .made) (w .passed) e (w .ended) s in omega (arith, g .0, g .1),
     )
+
+pub going-on : Going-on
+going-on xs k h q r =
+    let u = as-alone xs k h q in
+    let H = subst (HoldsAs h) r u in
+    let t = turn-of-64 h u r in
+    record { so-far = H .0; no-end = H .1; more = (t .0, t .1); all-64 = t .2 }
 
 -- ---- 3: by its own turns alone
 -- a slot that is not named stays as it is

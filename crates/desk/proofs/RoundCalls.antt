@@ -4,10 +4,11 @@ use Rattle.model.specs.Kit.{_%_, _<_, arith, eqb, ltb, leb, length, set, getD, 
 use lib.ListN.{List·getD-map}
 use lib.Seq.{ext-getD}
 use Rattle.model.specs.Lists.{at, both, choose, below}
-use Rattle.desk.specs.Queue.{Job, jobTurned, turned, Slot, free, taken, slotAt, roundFrom, due, dueAt, given, slotGiven, behindLast, roundsQueue}
+use Rattle.desk.specs.Queue.{Job, jobTurned, turned, Slot, free, taken, Queue, slotAt, roundFrom, due, dueAt, given, roundsQueue}
+use Rattle.desk.specs.inner.Rounds.{slotGiven, behindLast, roundsAtOnce}
 use Rattle.desk.specs.{Places.NEXT, Layout.slotPlace, Layout.jobAt, Layout.slotOf, Layout.queueOf, Layout.withRun, Layout.roundBytes, Layout.roundsBytes, Claims.QueueBytes}
 use Rattle.desk.specs.Claims.{Rounds-call}
-use Rattle.desk.proofs.{Rounds.Once, Rounds.pos-e, Rounds.pos-once, Rounds.round-is, Rounds.round-all, Bytes.small-set, Slots.row-length, Slots.slot-in, Slots.free-at}
+use Rattle.desk.proofs.{Rounds.Once, Rounds.pos-e, Rounds.pos-once, Rounds.round-is, Rounds.round-all, Rounds.at-once, Bytes.small-set, Slots.row-length, Slots.slot-in, Slots.free-at}
 use Rattle.desk.proofs.{Slots.taken-at, Refines.queue-is, Turning.Fits, Turning.at-fits, Turning.turned-fits, Turned.run-whole, Turned.run-slot, Turned.run-others}
 use Rattle.desk.proofs.{Turned.run-next, Turned.run-bytes, Calls.next-slot, Calls.next-read}
 
@@ -91,8 +92,8 @@ behind-small turns (k ∷ ks) best next h = go (both (ltb 0 (turns k)) (leb best
 pub rounds-call : Rounds-call
 unfolding roundsBytes below
 rounds-call b r d = (
-  queue-is (ext-getD free (queueOf c .slots) (map (slotGiven r) (queueOf b .slots)) lengths each) (next-read run v run-queue),
-  (length-set run NEXT v ∙ run-queue .0, small-set run NEXT v (behind-small (λ k. dueAt r (slotAt (queueOf b) k)) (roundFrom (queueOf b .next)) 0 (queueOf b .next) (d .1 NEXT)) (run-queue .1)),
+  queue-is (ext-getD free (queueOf c .slots) (map (slotGiven r) (queueOf b .slots)) lengths each ∙ ap (λ (q : Queue). q .slots) same) (next-read run v run-queue),
+  (length-set run NEXT v ∙ run-queue .0, small-set run NEXT v v-small (run-queue .1)),
 )
   where
     ks : List ℕ
@@ -101,8 +102,16 @@ rounds-call b r d = (
     run : List ℕ
     run = roundBytes r ks b
 
+    same : roundsAtOnce (queueOf b) r ≡ roundsQueue (queueOf b) r
+    same = at-once (queueOf b) r (row-length (slotOf b) 8 0)
+
     v : ℕ
     v = roundsQueue (queueOf b) r .next
+
+    v-small : v < 256
+    v-small =
+        subst (λ (n : ℕ). n < 256) (ap (λ (q : Queue). q .next) same)
+        (behind-small (λ k. dueAt r (slotAt (queueOf b) k)) (roundFrom (queueOf b .next)) 0 (queueOf b .next) (d .1 NEXT))
 
     c : List ℕ
     c = set run NEXT v

@@ -9,8 +9,9 @@ use lib.Seq.{getD-set-same, getD-set-other, ext-getD}
 use Rattle.model.specs.Lists.{both, choose, below, upFrom, total}
 use Rattle.model.proofs.Lists.{T-of, of-T, not-of, of-not, both-r, map-ext}
 use Rattle.desk.specs.Queue.{goesOn, Job, jobTurned, turned, Slot, free, taken, waits, slotTurned, Queue, emptyQueue, slotAt, Found, slot, roundFrom, toServe, QueueCall}
-use Rattle.desk.specs.Queue.{turn, queueAfter, turnQueue, queueEnd, due, dueAt, slotGiven, behindLast, roundsQueue, turnsGiven}
-use Rattle.desk.specs.Claims.{As-turns, Had-or-ended, Step, call, rounds, stepsEnd, oneByOne, One-by-one}
+use Rattle.desk.specs.Queue.{turn, queueAfter, turnQueue, queueEnd, due, dueAt, roundsQueue, turnsGiven}
+use Rattle.desk.specs.inner.Rounds.{slotGiven, behindLast, At-once}
+use Rattle.desk.specs.inner.Claims.{Had-or-ended, Step, call, rounds, stepsEnd, oneByOne, One-by-one}
 use Rattle.desk.proofs.Queue.{first-in, first-round, held-lt, job-of, round-to, QueueHolds, queue-holds, empty-holds}
 
 -- ---- going by a slot
@@ -434,8 +435,8 @@ many-turns k (suc r) d g =
     ∙ total-add (λ j. one (waits (slotAt d j))) (λ j. dueAt r (slotPassed (slotAt d j))) ks
     ∙ ap total (map-ext (λ j. one (waits (slotAt d j)) + dueAt r (slotPassed (slotAt d j))) (λ j. dueAt (suc r) (slotAt d j)) ks (λ j m. sym (due-next r (slotAt d j)))))
 
-pub as-turns : As-turns
-as-turns d r n =
+pub at-once : At-once
+at-once d r n =
     ap₂ (λ (l : List Slot) (k : ℕ). let x : Queue = record { slots = l; next = k } in x) slots-same next-same
     ∙ many-turns (d .next) r d record { gap = 0; ends = (let z : (d .next + 0) % 8 ≡ d .next % 8 = omega arith in z); quiet = λ j l. absurd (omega arith) }
     ∙ ap (λ (l : List ℕ). queueEnd d (replicate (total (map (λ j. dueAt r (slotAt d j)) l)) turn)) (sym (round-is (d .next)))
@@ -463,10 +464,8 @@ unfolding stepsEnd oneByOne queueEnd
 steps-from [] d g = refl
 steps-from (call x ∷ xs) d g = steps-from xs (queueAfter d x) (queue-holds d (x ∷ []) g)
 steps-from (rounds r ∷ xs) d g =
-    let e = as-turns d r (g .0) in
-    let later = oneByOne (roundsQueue d r) xs in
-    steps-from xs (roundsQueue d r) (subst QueueHolds (sym e) (queue-holds d (replicate (turnsGiven d r) turn) g))
-    ∙ ap (λ (x : Queue). queueEnd x later) e ∙ sym (end-append (replicate (turnsGiven d r) turn) later d)
+    steps-from xs (roundsQueue d r) (queue-holds d (replicate (turnsGiven d r) turn) g)
+    ∙ sym (end-append (replicate (turnsGiven d r) turn) (oneByOne (roundsQueue d r) xs) d)
 
 pub one-by-one : One-by-one
 one-by-one xs = steps-from xs emptyQueue empty-holds

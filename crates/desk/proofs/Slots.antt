@@ -8,10 +8,11 @@ use Rattle.model.specs.{Lists.at, Lists.choose, Lists.flat, Lists.below, Lists.
 use Rattle.model.specs.{Written.placed, Run.listedPlans, Run.written}
 use Rattle.model.proofs.{Lists.below-e, Room.length-listed}
 use Rattle.desk.specs.Queue.{Job, Slot, free, taken, isFree, slotAt, Found, none-found, slot, firstOf, lowestFree, QueueCall, submit, release, QueueReply, refusal, answered, queued}
-use Rattle.desk.specs.Queue.{served, released, submitReply, fits, releaseFor, releaseReply, queueReply, statusFor, statusReply, noCounts, countsOf, statusCounts}
+use Rattle.desk.specs.Queue.{served, released, submitReply, fits, releaseFor, releaseReply, queueReply, statusFor, statusReply, noCounts, jobIn, statusCounts}
 use Rattle.desk.specs.{Places.LIST, Places.LIST-BYTES, Places.size, Layout.slotPlace, Layout.long, Layout.plansAt, Layout.widthAt, Layout.nodesAt, Layout.standingAt}
 use Rattle.desk.specs.Layout.{standingBy, rowsAt, jobAt, slotOf, queueOf, slotBytes, submitBytes, releaseBytes, callBytes, replyOn, statusOn, bytesAfter, countsAt, countsOn}
-use Rattle.desk.specs.Meaning.{found, roomAfter}
+use Rattle.desk.specs.Meaning.{roomAfter}
+use Rattle.desk.specs.inner.Finding.{found}
 use Rattle.desk.proofs.Queue.{none-first}
 
 -- a word of bytes
@@ -162,12 +163,12 @@ module _ (b : List ℕ) (k : ℕ) where
       (sym (ap (λ (t : Bool). choose t (statusReply (queueOf b) k) (refusal 255 0)) e), sym (ap (λ (t : Bool). choose t (statusCounts (queueOf b) k) noCounts) e))
 
   module _ (whole : length b ≡ size) where
-    seen-by : (s : Slot) → slotAt (queueOf b) k ≡ s → Seen (statusFor k s) (countsOf s)
+    seen-by : (s : Slot) → slotAt (queueOf b) k ≡ s → Seen (statusFor k s) (jobIn s .progress .counts)
     unfolding statusOn countsOn
     seen-by s e =
         let w = eq-eqb (length b) size whole in (
           sym (ap (λ (t : Bool). choose t (statusReply (queueOf b) k) (refusal 255 0)) w ∙ ap (statusFor k) e),
-          sym (ap (λ (t : Bool). choose t (statusCounts (queueOf b) k) noCounts) w ∙ ap countsOf e),
+          sym (ap (λ (t : Bool). choose t (statusCounts (queueOf b) k) noCounts) w ∙ ap (λ (x : Slot). jobIn x .progress .counts) e),
         )
 
     pub status-out : 8 ≤ k → Seen (refusal 38 0) noCounts

@@ -1,9 +1,8 @@
 -- What the answers mean.
-use Rattle.model.specs.Kit.{List, ℕ, ltb}
-use Rattle.desk.specs.{Queue.QueueReply, Queue.refusal, Queue.answered, Queue.queued, Queue.idle, Queue.served, Queue.released, Queue.Found, Queue.none-found, Queue.slot, Layout.standingBy}
+use Rattle.model.specs.Kit.{List, ℕ}
+use Rattle.desk.specs.{Queue.QueueReply, Queue.refusal, Queue.answered, Queue.queued, Queue.idle, Queue.served, Queue.released, Layout.standingBy}
 use Rattle.desk.specs.{declared.Answer.Answer, declared.Answer.the-variants.Queued, declared.Answer.the-variants.Idle, declared.Answer.the-variants.Stands}
 use Rattle.desk.specs.declared.Answer.the-variants.{Released, Refused}
-use Rattle.model.specs.Lists.{choose}
 
 -- the reply, given the room afterwards
 abbrev pub means : Answer → List ℕ → QueueReply
@@ -20,7 +19,3 @@ roomAfter (answered (queued k)) room = room
 roomAfter (answered idle) room = room
 roomAfter (answered (served k s plans made)) room = room
 roomAfter (answered (released count after)) room = after
-
--- a slot's number, 8 where none was found
-abbrev pub found : ℕ → Found
-found k = choose (ltb k 8) (slot k) none-found

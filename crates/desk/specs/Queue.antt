@@ -122,21 +122,13 @@ pub data QueueAnswer : Type 0 where
 abbrev pub QueueReply : Type 0
 QueueReply = Reply QueueAnswer
 
--- how a slot stands, with its figures
-abbrev pub standingOf : Slot → Standing
-standingOf free = running
-standingOf (taken h) = h .standing
-
-abbrev pub plansOf : Slot → ℕ
-plansOf free = 0
-plansOf (taken h) = length (h .progress .rows)
-
-abbrev pub madeOf : Slot → ℕ
-madeOf free = 0
-madeOf (taken h) = h .progress .made
+-- how the job at a slot stands, with its figures; at a free slot as one that was never served
+abbrev pub jobIn : Slot → Job
+jobIn free = newJob [] 0
+jobIn (taken h) = h
 
 abbrev pub servedAs : ℕ → Slot → QueueReply
-servedAs k s = answered (served k (standingOf s) (plansOf s) (madeOf s))
+servedAs k s = answered (served k (jobIn s .standing) (length (jobIn s .progress .rows)) (jobIn s .progress .made))
 
 abbrev pub withSlot : Queue → ℕ → Slot → Queue
 withSlot d k s = record { slots = set (d .slots) k s; next = d .next }
@@ -207,12 +199,8 @@ statusReply d k = statusFor k (slotAt d k)
 abbrev pub noCounts : List ℕ
 noCounts = replicate 12 0
 
-abbrev pub countsOf : Slot → List ℕ
-countsOf free = noCounts
-countsOf (taken h) = h .progress .counts
-
 abbrev pub statusCounts : Queue → ℕ → List ℕ
-statusCounts d k = countsOf (slotAt d k)
+statusCounts d k = jobIn (slotAt d k) .progress .counts
 
 -- ---- rounds: each slot whose run hasn't ended gets up to r turns
 -- how many of r turns a job takes until its run ends
@@ -227,30 +215,19 @@ dueAt r (taken h) = due r h
 abbrev pub given : ℕ → Job → Job
 given r h = turned (due r h) h
 
-abbrev pub slotGiven : ℕ → Slot → Slot
-slotGiven r free = free
-slotGiven r (taken h) = taken (given r h)
-
--- Where the turn after them begins to look. The turns go round and round, so the slot served last is, of those that take the most turns, the last
--- of the round: going round, each slot that takes a turn, and no fewer than those before it, is the last one served so far
-unfoldable pub behindLast : (ℕ → ℕ) → List ℕ → ℕ → ℕ → ℕ
-behindLast turns [] best next = next
-behindLast turns (k ∷ ks) best next =
-    choose (both (ltb 0 (turns k)) (leb best (turns k))) (behindLast turns ks (turns k) ((k + 1) % 8)) (behindLast turns ks best next)
-
-abbrev pub roundsQueue : Queue → ℕ → Queue
-roundsQueue d r = record { slots = map (slotGiven r) (d .slots); next = behindLast (λ k. dueAt r (slotAt d k)) (roundFrom (d .next)) 0 (d .next) }
-
--- how many turns that are
+-- how many turns that are, and the queue after them, one by one
 abbrev pub turnsGiven : Queue → ℕ → ℕ
 turnsGiven d r = total (map (λ k. dueAt r (slotAt d k)) (roundFrom (d .next)))
 
+abbrev pub roundsQueue : Queue → ℕ → Queue
+roundsQueue d r = queueEnd d (replicate (turnsGiven d r) turn)
+
 -- what rounds answer: the slots whose run ended in them, and those whose run goes on, as sets of slots
 abbrev pub endedIn : Queue → ℕ → ℕ
-endedIn d r = maskOf (λ k. both (waits (slotAt d k)) (not (waits (slotGiven r (slotAt d k)))))
+endedIn d r = maskOf (λ k. both (waits (slotAt d k)) (not (waits (slotAt (roundsQueue d r) k))))
 
 abbrev pub goingOn : Queue → ℕ → ℕ
-goingOn d r = maskOf (λ k. waits (slotGiven r (slotAt d k)))
+goingOn d r = maskOf (λ k. waits (slotAt (roundsQueue d r) k))
 
 -- a refusal, or these two sets
 abbrev pub RoundsReply : Type 0

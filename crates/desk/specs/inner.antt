@@ -1,2 +1,5 @@
 -- What stands between proved functions: no reader has to believe it.
+pub mod Finding
+pub mod Rounds
+pub mod Claims
 pub mod Examples

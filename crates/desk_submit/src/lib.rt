@@ -14,7 +14,7 @@ ghost use Rattle.model.specs.Written.{placed};
 ghost use Rattle.desk.specs.Places.{SHEET, SHEET-BYTES, size};
 ghost use Rattle.desk.specs.Queue.{lowestFree};
 ghost use Rattle.desk.specs.Layout.{slotBytes, queueOf};
-ghost use Rattle.desk.specs.Meaning.{found};
+ghost use Rattle.desk.specs.inner.Finding.{found};
 ghost use Rattle.desk.specs.Calls.{SubmitDone};
 
 // The lowest free slot, or 8.

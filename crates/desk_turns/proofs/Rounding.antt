@@ -2,13 +2,13 @@
 use Rattle.model.specs.Kit.{_≡_, refl, sym, ap, ap₂, _∙_, subst, Bool, true, false, not, _⊎_, inl, inr, List, [], _∷_, map, ℕ, suc, _+_, _-_, _%_, _^_, _≤_, _<_, arith, bitAnd}
 use Rattle.model.specs.Kit.{eqb, ltb, leb, length, set, eq-eqb, ne-eqb, lt-ltb, le-leb, lt-leb, ltb-true}
 use lib.Bits.{and-lt}
-use lib.ListN.{List·getD-map}
 use Rattle.model.specs.{Lists.at, Lists.both, Lists.choose, Lists.below, Lists.upFrom, ValueSets.has, ValueSets.maskOf}
 use Rattle.model.proofs.{Lists.both-false, Masks.is-mask, Masks.has-and, Masks.has-not, Sets.has-mask, Sets.mask-lt}
-use Rattle.desk.specs.Queue.{Slot, free, taken, waits, Queue, slotAt, roundFrom, due, dueAt, given, slotGiven, behindLast, roundsQueue, RoundsReply, refusal, answered, roundsReply}
+use Rattle.desk.specs.Queue.{Slot, free, taken, waits, Queue, slotAt, roundFrom, due, dueAt, given, roundsQueue, RoundsReply, refusal, answered, roundsReply}
+use Rattle.desk.specs.inner.Rounds.{behindLast}
 use Rattle.desk.specs.{Places.NEXT, Places.size, Layout.slotPlace, Layout.jobAt, Layout.slotOf, Layout.queueOf, Layout.withRun, Layout.roundBytes, Layout.roundsBytes}
 use Rattle.desk.specs.{Layout.roundsOn, Layout.roundsAfter, Claims.QueueBytes}
-use Rattle.desk.proofs.{Slots.slot-in, Rounds.due-over, Rounds.due-none, RoundCalls.Served, RoundCalls.serve, RoundCalls.rounds-call}
+use Rattle.desk.proofs.{Slots.slot-in, Slots.row-length, Rounds.due-over, Rounds.due-none, Rounds.at-once, RoundCalls.Served, RoundCalls.serve, RoundCalls.rounds-call}
 use Rattle.desk_turns.specs.{inner.Served.ServedAt, inner.Served.GivenAt, declared.serve.Served.Served as Result}
 use Rattle.desk_waits.proofs.Finding.{place}
 use Rattle.desk_turns.proofs.Serving.{slot-is, walk}
@@ -123,11 +123,10 @@ module _ (b : List ℕ) (r : ℕ) where
   unfolding roundBytes behindLast below upFrom
   round-end i cur best next h l t =
       let e : rest i ≡ [] = ap (λ (n : ℕ). map (place b) (upFrom i n)) (let z : 8 - i ≡ 0 = omega arith in z) in
-      (sym (ap (λ (ks : List ℕ). roundBytes r ks cur) e) ∙ t .run, sym (ap (λ (ks : List ℕ). behindLast turns ks best next) e) ∙ t .behind)
-
--- ---- the slots that wait afterwards
-given-waits : (d : Queue) (r k : ℕ) → waits (slotAt (roundsQueue d r) k) ≡ waits (slotGiven r (slotAt d k))
-given-waits d r k = ap waits (List·getD-map (slotGiven r) (d .slots) k free)
+      let same = at-once (queueOf b) r (row-length (slotOf b) 8 0) in (
+        sym (ap (λ (ks : List ℕ). roundBytes r ks cur) e) ∙ t .run,
+        sym (ap (λ (ks : List ℕ). behindLast turns ks best next) e) ∙ t .behind ∙ ap (λ (q : Queue). q .next) same,
+      )
 
 -- ---- rounds
 module _ (b : List ℕ) (r : ℕ) where
@@ -161,7 +160,7 @@ module _ (b : List ℕ) (r : ℕ) where
       was k = waits (slotAt (queueOf b) k)
 
       on : ℕ → Bool
-      on k = waits (slotGiven r (slotAt (queueOf b) k))
+      on k = waits (slotAt (roundsQueue (queueOf b) r) k)
 
       over : ℕ → Bool
       over k = both (was k) (not (on k))
@@ -173,7 +172,7 @@ module _ (b : List ℕ) (r : ℕ) where
       going-small = subst (λ (x : ℕ). x < 2 ^ 16) (sym eg) (mask-lt 16 (λ k. waits (slotAt (queueOf c′) k)))
 
       going-has : (v : ℕ) → v < 16 → has going v ≡ on v
-      going-has v l = ap (λ (x : ℕ). has x v) eg ∙ has-mask 16 (λ k. waits (slotAt (queueOf c′) k)) v l ∙ ap (λ (x : Queue). waits (slotAt x v)) queue-is ∙ given-waits (queueOf b) r v
+      going-has v l = ap (λ (x : ℕ). has x v) eg ∙ has-mask 16 (λ k. waits (slotAt (queueOf c′) k)) v l ∙ ap (λ (x : Queue). waits (slotAt x v)) queue-is
 
       before-has : (v : ℕ) → v < 16 → has before v ≡ was v
       before-has v l = ap (λ (x : ℕ). has x v) eb ∙ has-mask 16 was v l

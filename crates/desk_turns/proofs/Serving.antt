@@ -10,7 +10,8 @@ use Rattle.desk.specs.Queue.{Standing, running, over, goesOn, Job, listRoom, st
 use Rattle.desk.specs.Queue.{slot, roundFrom, toServe, turn, QueueReply, idle, served, servedAs, turnReply, refusal, answered, due, given}
 use Rattle.desk.specs.{Places.LIMIT, Places.STANDING, Places.COUNTS, Places.LIST, Places.NEXT, Places.size, Layout.slotPlace, Layout.long, Layout.standingBy, Layout.nodesAt}
 use Rattle.desk.specs.Layout.{countsAt, jobAt, slotOf, queueOf, standingByte, stateBytes, countBytes, runBytes, withRun, turnBytes, replyOn, bytesAfter}
-use Rattle.desk.specs.{Claims.QueueBytes, Meaning.found}
+use Rattle.desk.specs.{Claims.QueueBytes}
+use Rattle.desk.specs.inner.Finding.{found}
 use Rattle.desk.proofs.{Queue.first-in, Bytes.placed-apart, Slots.long-small, Slots.slot-in, Slots.free-at, Slots.taken-at, Slots.reply-whole, Slots.reply-wrong, Slots.bytes-whole}
 use Rattle.desk.proofs.{Slots.bytes-wrong, Turning.Fits, Turning.at-fits, Turned.state-length, Turned.run-length, Turned.text-length, Counts.counts-most, RoundCalls.turns-fit}
 use Rattle.desk.proofs.Stretch.{stretchLimit, stretch, turnsFor, Stretched, stretched}

@@ -9,7 +9,7 @@ ghost use Rattle.model.specs.ValueSets.{maskOf, oneIf};
 ghost use Rattle.desk.specs.Queue.{waits, slotAt, toServe};
 ghost use Rattle.desk.specs.Places.{size};
 ghost use Rattle.desk.specs.Layout.{slotOf, queueOf};
-ghost use Rattle.desk.specs.Meaning.{found};
+ghost use Rattle.desk.specs.inner.Finding.{found};
 
 // Whether slot k has a job whose run hasn't ended.
 pub fn waits(queue: &[u8], k: usize) -> bool

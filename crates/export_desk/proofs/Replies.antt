@@ -6,7 +6,7 @@ use Rattle.model.proofs.{Lists.below-e, Lists.at-replicate, Room.length-flat, W
 use Rattle.wire.specs.Wire.{wrongLength, threeNumbers}
 use Rattle.wire.proofs.{Codes.Small, Codes.verdict-small, Numbers.whole}
 use Rattle.desk.specs.Queue.{Job, jobTurned, Slot, free, taken, isFree, waits, slotTurned, slotAt, Found, none-found, slot, lowestFree, roundFrom, toServe, QueueCall, submit, turn}
-use Rattle.desk.specs.Queue.{release, QueueReply, refusal, servedAs, submitReply, turnReply, fits, releaseFor, releaseReply, statusFor, noCounts, countsOf, RoundsReply}
+use Rattle.desk.specs.Queue.{release, QueueReply, refusal, servedAs, submitReply, turnReply, fits, releaseFor, releaseReply, statusFor, noCounts, jobIn, RoundsReply}
 use Rattle.desk.specs.{Queue.roundsReply, Places.LIMIT, Places.size, Layout.slotPlace, Layout.standingBy, Layout.widthAt, Layout.jobAt, Layout.queueOf, Layout.replyOn}
 use Rattle.desk.specs.{Layout.statusOn, Layout.countsOn, Layout.bytesAfter, Layout.roundsOn, Layout.roundsAfter, Meaning.means, Meaning.roomAfter, declared.Answer.Answer}
 use Rattle.desk.specs.declared.Answer.the-variants.{Queued, Idle, Stands, Released, Refused}
@@ -116,9 +116,9 @@ module _ (b : List ℕ) (small : (i : ℕ) → at b i < 256) where
     status-fits : (k : ℕ) → Sees (statusFor k (slotAt (queueOf b) k)) 64
     status-fits k = by-slot (λ s. Sees (statusFor k s) 64) k (omega arith) (λ l. let h = job-holds k (slotPlace k) (jobAt b (slotPlace k)) l (job-fits k l) in (refl, h .1, h .2, h .3))
 
-    counts-fit : (k : ℕ) → Twelve (countsOf (slotAt (queueOf b) k))
+    counts-fit : (k : ℕ) → Twelve (jobIn (slotAt (queueOf b) k) .progress .counts)
     unfolding at
-    counts-fit k = by-slot (λ s. Twelve (countsOf s)) k none-twelve (λ l.
+    counts-fit k = by-slot (λ s. Twelve (jobIn s .progress .counts)) k none-twelve (λ l.
         let f = job-fits k l in
         let z = long-small b small (slotPlace k + LIMIT) in
         let a = f .allowed in
@@ -168,7 +168,7 @@ module _ (b : List ℕ) (small : (i : ℕ) → at b i < 256) where
   unfolding countsOn
   status-twelve k = go (eqb (length b) size) refl
     where
-      go : (t : Bool) → eqb (length b) size ≡ t → Twelve (choose t (countsOf (slotAt (queueOf b) k)) noCounts)
+      go : (t : Bool) → eqb (length b) size ≡ t → Twelve (choose t (jobIn (slotAt (queueOf b) k) .progress .counts) noCounts)
       go true e = counts-fit (eqb-true (length b) size e) k
       go false e = none-twelve
 

@@ -3,8 +3,8 @@ use Rattle.model.specs.Kit.{_≡_, refl, sym, ap, _∙_, subst, _⊎_, inl, inr
 use Rattle.model.specs.Kit.{eq-eqb}
 use Rattle.model.specs.{Lists.both, Lists.below, Lists.at, Lists.earlier, Problem.Problem, Problem.pair, Problem.pairsOf, Problem.within, Problem.takes, Problem.isSolution}
 use Rattle.model.specs.{Problem.assignments, Claims.Leader, Claims.isLeader, Claims.leaders, WellFormed.WellFormed, WellFormed.Respected}
-use Rattle.families.specs.Families.{Joined, alone, further, solutionsOf, isEarliest, earliestOf, familiesOf, Makes, MovesNothing, Closed, makes, movesNothing, OneLeaderEach}
-use Rattle.families.specs.FamilyClaims.{One-leader-each}
+use Rattle.families.specs.Families.{Joined, alone, further, solutionsOf, isEarliest, earliestOf, familiesOf, Makes, MovesNothing, Closed, makes, movesNothing}
+use Rattle.families.specs.inner.FamilyClaims.{One-leader-each, OneLeaderEach}
 use Rattle.model.proofs.Lists.{earlier-asym, T-of, T-ext, both-i, both-l, both-r, all-i, all-e, keep-ext, below-i, below-e, at-ext}
 use Rattle.model.proofs.{Tree.solution-e, Leaders.takes-in, Leaders.takes-on, Leaders.leader-i, Leaders.leader-e}
 use Rattle.families.proofs.{Joined.joined-from, Joined.joined-to, Joined.joined-one, Joined.joined-trans, Joined.joined-sym, FamilyCount.row-order, FamilyCount.keep-keep}

@@ -5,7 +5,7 @@ use Rattle.model.specs.Kit.{List·Memᴰ·not-nil, List·Memᴰ·cases-cons, �
 use Rattle.model.specs.{Lists.both, Lists.either, Lists.any, Lists.keep, Lists.same, Lists.earlier, Problem.Problem, Problem.isSolution, Problem.assignments, Problem.takes}
 use Rattle.model.specs.WellFormed.{WellFormed, Respected}
 use Rattle.families.specs.Families.{Joined, alone, further, solutionsOf, widened, reachedIn, familyOf, isEarliest, earliestOf, familiesOf, Apart, OneOfEach, FamilyCount}
-use Rattle.families.specs.FamilyClaims.{Families-counted}
+use Rattle.families.specs.inner.FamilyClaims.{Families-counted}
 use Rattle.model.proofs.Lists.{earlier-asym, T-of, of-not, either-l, either-r, either-e, any-i, any-e, keep-yes, keep-no, keep-i, keep-e, same-eq, same-refl, earlier-lt}
 use Rattle.model.proofs.{Lists.earlier-eq, Lists.Sorted, Lists.sorted-keep, Assignments.assignments-sorted, Leaders.sol-drawn}
 use Rattle.families.proofs.Joined.{joined-to, joined-trans, joined-sym}

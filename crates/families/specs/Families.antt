@@ -1,7 +1,7 @@
 -- Families of solutions, and one solution of each (paper 02, #104 and #112). The proofs are in proofs/Joined, FamilyCount and Closed.
-use Rattle.model.specs.Kit.{_≡_, _↔_, _⊎_, Bool, not, List, [], _∷_, List·Memᴰ, ℕ, zero, suc, _*_, _<_, length, T, eqb}
+use Rattle.model.specs.Kit.{_≡_, _⊎_, Bool, not, List, [], _∷_, List·Memᴰ, ℕ, zero, suc, _*_, _<_, length, T, eqb}
 use Rattle.model.specs.{Lists.either, Lists.all, Lists.any, Lists.keep, Lists.below, Lists.at, Lists.same, Lists.earlier, Problem.Problem, Problem.isSolution, Problem.assignments}
-use Rattle.model.specs.{Problem.takes, Claims.Leader, Claims.leaders}
+use Rattle.model.specs.{Problem.takes}
 
 -- from the solution a to b by none, one or more symmetries, one after another, through solutions only
 pub data Joined (p : Problem) (a : List ℕ) : List ℕ → Type 0 where
@@ -76,9 +76,3 @@ makes p f g h = all (λ q. eqb (at g (at f q)) (at h q)) (below (p .variables * 
 
 unfoldable pub movesNothing : Problem → List ℕ → List ℕ → Bool
 movesNothing p f g = all (λ q. eqb (at g (at f q)) q) (below (p .variables * p .values))
-
--- what closed symmetries give: the leaders are the earliest of their families, each family has exactly one, and there are as many as families
-pub record OneLeaderEach (p : Problem) : Type 0 where
-  pub earliest : (s : List ℕ) → Leader earlier p s ↔ (T (isSolution p s) × ((t : List ℕ) → Joined p s t → T (earlier t s) → ⊥))
-  pub each : (s : List ℕ) → T (isSolution p s) → (l : List ℕ) × Leader earlier p l × Joined p l s × ((m : List ℕ) → Leader earlier p m → Joined p m s → m ≡ l)
-  pub count : length (leaders p) ≡ familiesOf p

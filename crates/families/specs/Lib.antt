@@ -1,4 +1,3 @@
--- Families of solutions, their claims, and what the code that counts them keeps.
+-- Families of solutions, and what the code that counts them keeps.
 pub mod Families
-pub mod FamilyClaims
 pub mod inner

@@ -7,7 +7,8 @@ use Rattle.families.specs.Families.{Makes, MovesNothing, Closed, makes, movesNo
 use Rattle.families.proofs.Closed.{makes-i, makes-e, nothing-i, nothing-e}
 use Rattle.model.proofs.{Lists.of-T, Lists.T-of, Lists.either-e, Lists.either-l, Lists.either-r, Lists.any-e, Lists.any-i, Lists.mem-getD, Lists.place-of, Masks.least-none, Lists.never}
 use Rattle.model.proofs.Masks.{least-at, least-below, least-is}
-use Rattle.families_closed.specs.Open.{made, firstMissing, none, two, firstOpen, Open-none, FirstOpen, Open-first}
+use Rattle.families_closed.specs.Open.{made, firstMissing, none, two, firstOpen, FirstOpen}
+use Rattle.families_closed.specs.inner.Claims.{Open-none, Open-first}
 
 pub not-false : (b : Bool) → not b ≡ false → b ≡ true
 not-false true e = refl

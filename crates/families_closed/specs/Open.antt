@@ -1,7 +1,7 @@
 -- Are the symmetries closed (paper 02, #112), and if not, which are the first two whose product is missing? The proofs are in proofs/Open.antt.
-use Rattle.model.specs.Kit.{_≡_, Bool, true, false, not, _↔_, _⊎_, ℕ, _*_, _/_, _%_, _<_, length, T, ltb}
+use Rattle.model.specs.Kit.{_≡_, Bool, true, false, not, _⊎_, ℕ, _*_, _/_, _%_, _<_, length, T, ltb}
 use Rattle.model.specs.{Lists.either, Lists.any, ValueSets.least, Problem.Problem, Problem.symmetryAt}
-use Rattle.families.specs.Families.{Closed, makes, movesNothing}
+use Rattle.families.specs.Families.{makes, movesNothing}
 
 -- symmetry a and then symmetry b move nothing, or make one of the symmetries
 unfoldable pub made : Problem → ℕ → ℕ → Bool
@@ -21,17 +21,9 @@ firstOpen p =
     let g = length (p .symmetries) in
     elim (ltb (firstMissing p) (g * g)) [ true ↦ two (firstMissing p / g) (firstMissing p % g) | false ↦ none ]
 
--- ---- the claims
--- there are none exactly if the symmetries are closed
-abbrev pub Open-none : Type 0
-Open-none = (p : Problem) → (firstOpen p ≡ none) ↔ Closed p
-
--- else they are symmetries whose product is missing, and those before them have theirs
+-- symmetries whose product is missing, where those before them have theirs
 pub record FirstOpen (p : Problem) (a b : ℕ) : Type 0 where
   pub first : a < length (p .symmetries)
   pub second : b < length (p .symmetries)
   pub missing : made p a b ≡ false
   pub before : (c d : ℕ) → c < length (p .symmetries) → d < length (p .symmetries) → (c < a) ⊎ ((c ≡ a) × (d < b)) → T (made p c d)
-
-abbrev pub Open-first : Type 0
-Open-first = (p : Problem) (a b : ℕ) → firstOpen p ≡ two a b → FirstOpen p a b

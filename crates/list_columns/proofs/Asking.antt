@@ -6,7 +6,7 @@ use Rattle.model.specs.{Lists.both, Lists.all, Sheet.«word», Verdict.Verdict,
 use Rattle.model.proofs.Lists.{all-i, all-e, of-T, T-of, T-ext, not-of, mem-getD, place-of, both-i, both-l, both-r, never}
 use Rattle.model.proofs.Accepted.{asked}
 use Rattle.list_columns.specs.Columns.{variables, plans, body, wholeRows, smallValues, bytesVerdict, isStore, rowsVerdict}
-use Rattle.list_columns.specs.Claims.{Store}
+use Rattle.list_columns.specs.inner.Claims.{Store}
 
 -- ---- 20
 pub record Whole (n : ℕ) (b : List ℕ) : Type 0 where

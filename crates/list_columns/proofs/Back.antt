@@ -6,7 +6,8 @@ use Rattle.model.specs.{Lists.all, Lists.flat, Lists.upFrom, Lists.below, Lists
 use Rattle.model.proofs.{Lists.of-T, Lists.T-of, Lists.all-e, Lists.map-ext, Lists.below-e, Lists.at-out, Lists.mem-at, Room.Wide, Room.length-listed, Room.listed-wide}
 use Rattle.model.proofs.Room.{length-flat, cut-flat, flat-cut}
 use Rattle.list_columns.specs.Columns.{transposed, heading, columnsOf, variables, plans, body, columnsIn, rowsOf, smallValues, bytesVerdict, columnsVerdict, isStore}
-use Rattle.list_columns.specs.{Columns.rowsVerdict, Claims.RowsBack, Claims.StoreBack, Claims.Store, Claims.StoresOnly, Claims.StoreTest}
+use Rattle.list_columns.specs.{Columns.rowsVerdict}
+use Rattle.list_columns.specs.inner.Claims.{RowsBack, StoreBack, Store, StoresOnly, StoreTest}
 use Rattle.list_columns.proofs.Asking.{cells, Passed, passed, passes, store-e, store-i, no-store, asked-23, refusal-is, accepted-store}
 use Rattle.list_columns.proofs.{Cells.heading-length, Transposing.map-places, Transposing.length-transposed, Transposing.transposed-wide, Transposing.twice}
 use Rattle.list_columns.proofs.Transposing.{small-transposed}

@@ -1,6 +1,5 @@
--- The definitions of paper 02, #103, its claims, and what the answers mean.
+-- The definitions of paper 02, #103, what the answers mean, and what callers hold.
 pub mod Columns
-pub mod Claims
 pub mod Meaning
 pub mod Calls
 pub mod inner

@@ -6,7 +6,8 @@ use Rattle.model.proofs.Room.{rows-back}
 use Rattle.order.specs.{Order.settlingOrder, Order.orderVerdict, Order.Ordering, Reordered.read}
 use Rattle.order.proofs.{Order.order-passed, LeadersBy.read-below}
 use Rattle.list_merge.specs.{inner.Inner.Places, Merge.ascends, Merge.union, Merge.mergedBy, Merge.merged, Merge.wholeLists, Merge.orderedVerdict, Merge.mergeVerdict}
-use Rattle.list_merge.specs.Claims.{Holds, Ascends, Itself, Empty, Swapped, Nothing-lent}
+use Rattle.list_merge.specs.Claims.{Holds, Ascends, Nothing-lent}
+use Rattle.list_merge.specs.inner.Claims.{Itself, Empty, Swapped}
 use Rattle.list_merge.proofs.{Reading.Earlier, Reading.ascends-none, Reading.sorted-of, Reading.ascends-of, Union.union-e, Union.union-i, Union.union-wide}
 use Rattle.list_merge.proofs.{Union.union-sorted, Asking.rows-bytes, Asking.Whole, Asking.whole-e}
 use Rattle.order.proofs.Order as O

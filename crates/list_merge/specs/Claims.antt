@@ -16,16 +16,6 @@ abbrev pub Ascends : Type 0
 Ascends =
     (n : ℕ) (pairs a b : List ℕ) (room : ℕ) → mergeVerdict n pairs a b room ≡ accepted → T (ascends (settlingOrder n pairs) (rowsIn n (merged n pairs a b)))
 
--- merging a list with itself gives the list, and with an empty list the other; the order of the two lists does not matter
-abbrev pub Itself : Type 0
-Itself = (n : ℕ) (pairs a : List ℕ) (room : ℕ) → mergeVerdict n pairs a a room ≡ accepted → merged n pairs a a ≡ a
-
-abbrev pub Empty : Type 0
-Empty = (n : ℕ) (pairs a : List ℕ) (room : ℕ) → mergeVerdict n pairs a [] room ≡ accepted → (merged n pairs a [] ≡ a) × (merged n pairs [] a ≡ a)
-
-abbrev pub Swapped : Type 0
-Swapped = (n : ℕ) (pairs a b : List ℕ) (room : ℕ) → mergeVerdict n pairs a b room ≡ accepted → merged n pairs b a ≡ merged n pairs a b
-
 -- without pairs rows are compared by variable, and to ascend is what paper 01 asks of rows
 pub record NothingLent (n : ℕ) (a b : List ℕ) : Type 0 where
   pub bytes : merged n [] a b ≡ mergedBy n (below n) a b

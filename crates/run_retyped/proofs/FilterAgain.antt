@@ -6,8 +6,9 @@ use Rattle.model.proofs.Filter.{length-filtered}
 use Rattle.filter.specs.{Meaning.means, FilterCalls.CallFilter, FilterCalls.ListsRight, declared.Answer.Answer, declared.Answer.the-variants.Failed}
 use Rattle.filter.specs.declared.Answer.the-variants.{Entailed, Consistent, Refused}
 use Rattle.filter.proofs.FilterCalls.{right-accepted}
-use Rattle.run_retyped.specs.{Retyped.Within, Retyped.byTurns, Retyped.Applied, FilterAgain.Twice-calls, FilterAgain.Within-calls, FilterAgain.Turned, FilterAgain.none}
-use Rattle.run_retyped.specs.FilterAgain.{first, second, Still, TurnsHeld, Turns-calls}
+use Rattle.run_retyped.specs.{FilterAgain.Twice-calls, FilterAgain.Within-calls, FilterAgain.Turned, FilterAgain.none}
+use Rattle.run_retyped.specs.inner.Turns.{byTurns, Applied}
+use Rattle.run_retyped.specs.FilterAgain.{first, second, Still, TurnsHeld, Turns-calls, Within}
 use Rattle.run_retyped.proofs.Turns.{filter-twice, filter-within, turns-largest, turns-any, turns-applied}
 use Rattle.run_retyped.specs.Retyped as A
 

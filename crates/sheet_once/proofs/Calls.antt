@@ -6,7 +6,9 @@ use Rattle.model.specs.{Verdict.Verdict, Verdict.accepted, Verdict.refused, Ver
 use Rattle.model.proofs.Lists.{never}
 use Rattle.sheet_small.specs.{Small.smallSheets, Answers.means, Answers.sheetAt, Answers.positionVerdict, Answers.smallOutcome, Answers.smallRoom, Calls.CallSmall, declared.Answer.Answer}
 use Rattle.sheet_small.specs.declared.Answer.the-variants.{Written, Refused}
-use Rattle.sheet_once.specs.{Claims.IsSmall, Claims.Stands, Held.SmallHeld}
+use Rattle.sheet_once.specs.{Held.SmallHeld}
+use Rattle.sheet_once.specs.Held.{IsSmall}
+use Rattle.sheet_once.specs.inner.Claims.{Stands}
 use Rattle.sheet_once.proofs.{Figures.figures, Claims.each-once, Claims.nothing-else}
 
 is-written : (r : Answer) (k : ℕ) → means r ≡ wrote k → r ≡ Written k

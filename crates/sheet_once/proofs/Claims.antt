@@ -8,7 +8,8 @@ use Rattle.model.proofs.{Lists.Sorted, Lists.sorted-keep, Lists.upFrom-e, Lists
 use Rattle.sheet_small.specs.{Small.Shape, Small.shapes, Small.tables, Small.rowsOf, Small.frontOf}
 use Rattle.sheet_small.specs.{Small.sheetOf, Small.isSheet, Small.plainSheets, Small.symmetricSheets, Small.smallSheets, inner.Inner.shapeNo, inner.Inner.tableNo}
 use Rattle.sheet_small.specs.inner.Inner.{candidate}
-use Rattle.sheet_once.specs.Claims.{IsSmall, Each-once, Nothing-else, Room-enough}
+use Rattle.sheet_once.specs.Held.{IsSmall}
+use Rattle.sheet_once.specs.inner.Claims.{Each-once, Nothing-else, Room-enough}
 use Rattle.sheet_small.proofs.{Lists.tested, Order.order}
 use Rattle.sheet_once.proofs.{Reading.accepts, Reading.shape, Reading.in-shapes, Reading.in-tables, Reading.is-sheet, Reading.short}
 

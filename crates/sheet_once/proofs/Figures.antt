@@ -6,7 +6,7 @@ use Rattle.model.specs.{Problem.forbidden, Problem.respects, Sheet.word, Sheet.
 use Rattle.model.specs.Sheet.{tableAt, problemOf, setsVerdict, constraintsVerdict, distinct, permutesPairs, symmetriesVerdict, verdictOf, constraintVerdict, headerVerdict}
 use Rattle.model.specs.Sheet.{formVerdict}
 use Rattle.model.proofs.Lists.{keep-ext, below-e}
-use Rattle.sheet_once.specs.Claims.{Figures}
+use Rattle.sheet_once.specs.inner.Claims.{Figures}
 use Rattle.sheet_small.specs.{Small.shapes, Small.tables, Small.rowsOf, Small.frontOf, Small.sheetOf, Small.isSheet, Small.plainSheets, Small.symmetricSheets}
 use Rattle.sheet_small.specs.{Small.smallSheets, inner.Inner.shapeNo, inner.Inner.tableNo}
 use Rattle.sheet_small.proofs.{Lists.keep-map, Stating.stated, Stating.tableVerdict, Stating.tableFits, Stating.table-fits}

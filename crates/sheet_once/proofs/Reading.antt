@@ -8,7 +8,7 @@ use Rattle.model.specs.{Sheet.constraintVerdict, WellFormed.GoodSymmetry}
 use Rattle.model.proofs.{Lists.all-e, Lists.below-i, Lists.upFrom-i, Lists.length-below, Lists.flat-i, Lists.keep-i, Lists.both-l, Lists.both-r, Assignments.assign-i}
 use Rattle.model.proofs.Accepted.{Passed, asked, length-words, at-words, passed, is-accepted, length-constraints}
 use Rattle.sheet.proofs.Words.{map-all-e, words-all-e}
-use Rattle.sheet_once.specs.Claims.{IsSmall}
+use Rattle.sheet_once.specs.Held.{IsSmall}
 use Rattle.sheet_small.specs.{Small.Shape, Small.shapes, Small.tables, Small.rowsOf, Small.frontOf, Small.sheetOf}
 use Rattle.sheet_small.proofs.Lists.{tested}
 use Rattle.sheet_once.proofs.{Words.words-append, Words.flat-words, Words.bytes-of, RowSets.rowNo, RowSets.rows-set}

@@ -1,3 +1,3 @@
--- What is claimed of the small sheets, and what a caller holds.
-pub mod Claims
+-- What a caller of `small_sheet` holds.
 pub mod Held
+pub mod inner

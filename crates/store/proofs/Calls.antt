@@ -1,14 +1,15 @@
--- A call on bytes is the call on the store that they mean (specs/Claims). Assumes nothing.
+-- A call on bytes is the call on the store that they mean (specs/inner/Claims). Assumes nothing.
 use Rattle.model.specs.Kit.{_≡_, refl, sym, ap, ap₂, _∙_, subst, Bool, true, false, List, [], _∷_, List·Memᴰ, List·Memᴰ·head, List·Memᴰ·tail, ℕ, zero, suc, _+_, _-_, _≤_, _<_}
 use Rattle.model.specs.Kit.{arith, leb, ltb, eqb, leb→le, length, set, replicate, length-replicate, ltb-true, ltb-false, eqb-true, eqb-false, eq-eqb, ne-eqb}
 use mathlib.Core.Path.{fun-ext}
 use lib.Seq.{set-out}
 use Rattle.model.specs.{Lists.both, Lists.either, Lists.choose, Lists.at, Verdict.Verdict, Verdict.accepted, Verdict.refused, Verdict.ask, Verdict.isAccepted, Written.placed}
 use Rattle.model.proofs.{Lists.of-T, Lists.at-replicate, Lists.set-each, Written.length-placed, Written.placed-before, Written.placed-in, Written.placed-after}
-use Rattle.store.specs.Store.{isTable, Store, keysOf, Action, put, fetch, remove, Call, call, actionVerdict, callVerdict, entryAfter, storeAfter, StoreReply, replyOf, replyTo}
-use Rattle.store.specs.{Store.storeEnd, Store.ownerOf, Store.repliesTo, Layout.size, Layout.slotAt, Layout.holds, Layout.slotWith, Layout.storeOf, Layout.slotFor}
-use Rattle.store.specs.{Layout.slotBytes, Layout.freed, Layout.changed, Layout.verdictOn, Layout.replyOn, Layout.bytesAfter, Claims.StoreBytes, Claims.ByteCall}
-use Rattle.store.specs.Claims.{ByteCalls, Zeros-empty, Each-call, bytesEnd, repliesOn, All-calls, Isolated-bytes}
+use Rattle.store.specs.Store.{isTable, Store, keysOf, Action, put, fetch, remove, Call, call, actionVerdict, callVerdict, entryAfter, storeAfter, StoreReply, replyOf}
+use Rattle.store.specs.{Store.ownerOf, Layout.size, Layout.slotAt, Layout.holds, Layout.slotWith, Layout.storeOf, Layout.slotFor}
+use Rattle.store.specs.{Layout.slotBytes, Layout.freed, Layout.changed, Layout.verdictOn, Layout.replyOn, Layout.bytesAfter}
+use Rattle.store.specs.inner.Claims.{replyTo, storeEnd, repliesTo, Each-call, bytesEnd, repliesOn, All-calls, Isolated-bytes}
+use Rattle.store.specs.Calls.{StoreBytes, ByteCall, ByteCalls, Zeros-empty}
 use Rattle.store.proofs.{Store.here-after, Store.there-after, Store.refused-same, Store.ask-e, Store.isolated, Slots.holds-free, Slots.with-is, Slots.entry-none}
 use Rattle.store.proofs.Slots.{put-here, put-there, put-elsewhere, remove-here, remove-there, remove-elsewhere, freed-length}
 use Rattle.store.proofs.Free.{room-left}

@@ -1,8 +1,9 @@
 -- The examples of specs/Examples, by computation. Assumes nothing.
 use Rattle.model.specs.Kit.{refl}
 use Rattle.model.specs.{Lists.keep, Lists.below, Lists.upFrom, Examples.Each}
-use Rattle.store.specs.Store.{keysOf, actionVerdict, callVerdict, storeAfter, replyTo, storeEnd, callsOf, repliesTo}
-use Rattle.store.specs.{Claims.allSpare, inner.Examples.testsStore}
+use Rattle.store.specs.Store.{keysOf, actionVerdict, callVerdict, storeAfter, callsOf}
+use Rattle.store.specs.{inner.Examples.testsStore}
+use Rattle.store.specs.inner.Claims.{replyTo, storeEnd, repliesTo, allSpare}
 
 pub examples-store : Each testsStore
 unfolding keep below upFrom keysOf actionVerdict callVerdict storeAfter replyTo storeEnd callsOf repliesTo allSpare

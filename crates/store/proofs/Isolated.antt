@@ -3,7 +3,8 @@ use Rattle.model.specs.Kit.{_≡_, refl, sym, ap, ap₂, _∙_, Bool, true, fal
 use Rattle.model.specs.{Lists.choose, Verdict.Verdict, Verdict.accepted, Verdict.refused, Verdict.isAccepted}
 use Rattle.model.proofs.Lists.{never}
 use Rattle.store.specs.{Store.Entry, Store.Call, Store.call, Store.put, Store.fetch, Store.remove, Store.StoreReply, Store.replyOf, Layout.storeOf, Layout.verdictOn}
-use Rattle.store.specs.{Layout.replyOn, Layout.changed, Layout.bytesAfter, Claims.repliesOn, Meaning.means, declared.Answer.Answer, declared.Answer.the-variants.Done}
+use Rattle.store.specs.{Layout.replyOn, Layout.changed, Layout.bytesAfter, Meaning.means, declared.Answer.Answer, declared.Answer.the-variants.Done}
+use Rattle.store.specs.inner.Claims.{repliesOn}
 use Rattle.store.specs.{declared.Answer.the-variants.Refused, Calls.Got, Calls.own, Calls.Called, Calls.none, Calls.puts, Calls.fetches, Calls.removes, Calls.Isolated-calls}
 use Rattle.store.proofs.Calls.{isolated-bytes}
 

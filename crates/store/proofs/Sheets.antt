@@ -1,4 +1,4 @@
--- Fetched tables in a sheet (specs/Claims): they stand at its third offset, and questions 14 to 16 are put to them. Assumes nothing.
+-- Fetched tables in a sheet (specs/inner/Claims): they stand at its third offset, and questions 14 to 16 are put to them. Assumes nothing.
 use Rattle.model.specs.Kit.{_≡_, refl, sym, ap, ap₂, _∙_, subst, Bool, true, false, not, _⊎_, inl, inr, List, [], _∷_, _++_, ℕ, zero, suc, _+_, _-_, _*_, _^_, _≤_, _<_, arith, leb}
 use Rattle.model.specs.Kit.{ltb, eqb, length, drop, le-leb}
 use Rattle.model.specs.{Lists.all, Lists.both, Lists.below, Lists.at, Lists.ascending, Lists.rowsAscend, Verdict.Verdict, Verdict.accepted, Verdict.ask, Sheet.Header, Sheet.«word»}
@@ -6,7 +6,8 @@ use Rattle.model.specs.Sheet.{words, headerOf, scopeAt, rowsAt, afterAt, tableA
 use Rattle.model.specs.Sheet.{symmetriesVerdict, verdictOf}
 use Rattle.model.proofs.Lists.{at-append, at-skip, map-ext}
 use Rattle.store.specs.{Store.Entry, Store.table, Store.isTable, Store.tableIn, Store.call, Store.fetch, Store.actionVerdict, Store.replyOf, Layout.size, Layout.storeOf}
-use Rattle.store.specs.{Layout.verdictOn, Layout.replyOn, Claims.Early, Claims.tablesIn, Claims.Asked-as-any}
+use Rattle.store.specs.{Layout.verdictOn, Layout.replyOn}
+use Rattle.store.specs.inner.Claims.{Early, tablesIn, Asked-as-any}
 use Rattle.store.proofs.Answers.{asks-more}
 
 -- ---- an answer to an earlier question, or what is asked last

@@ -1,4 +1,4 @@
--- The store over sequences of calls (specs/Claims): isolation, what a fetch gives, four keys. Assumes nothing.
+-- The store over sequences of calls (specs/inner/Claims): isolation, what a fetch gives, four keys. Assumes nothing.
 use Rattle.model.specs.Kit.{_≡_, refl, sym, ap, ap₂, _∙_, subst, Bool, true, false, not, _⊎_, inl, inr, ⊎-elim, List, [], _∷_, _++_, List·Memᴰ, List·Memᴰ·head, List·Memᴰ·tail, ℕ}
 use Rattle.model.specs.Kit.{_≤_, _<_, arith, T, leb, ltb, eqb, eqb→eq, eqb-refl, length, ltb-true, lt-ltb, le-leb, eqb-true}
 use mathlib.Core.Path.{fun-ext}
@@ -7,8 +7,8 @@ use Rattle.model.specs.Sheet.{distinct}
 use Rattle.model.proofs.Lists.{T-of, of-T, not-of, of-not, both-i, both-l, both-r, either-l, either-r, either-e, keep-i, keep-e, keep-none, Sorted, sorted-keep, sorted-below, never}
 use Rattle.model.proofs.Counting.{distinct-i, no-more}
 use Rattle.store.specs.Store.{Entry, none, table, isTable, tableIn, Entries, Store, emptyStore, keysOf, Action, put, fetch, remove, Call, call, actionVerdict, callVerdict}
-use Rattle.store.specs.Store.{entryAfter, storeAfter, StoreReply, replyOf, replyTo, storeEnd, ownerOf, callsOf, repliesTo}
-use Rattle.store.specs.Claims.{Isolated, writes, spares, allSpare, Fetches-last, Fetches-none, Four-keys, Refused-same}
+use Rattle.store.specs.Store.{entryAfter, storeAfter, StoreReply, replyOf, ownerOf, callsOf}
+use Rattle.store.specs.inner.Claims.{replyTo, storeEnd, repliesTo, Isolated, writes, spares, allSpare, Fetches-last, Fetches-none, Four-keys, Refused-same}
 
 -- ---- one call
 -- an owner's entries after its own call depend on its own entries alone

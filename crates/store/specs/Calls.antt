@@ -1,9 +1,9 @@
 -- Calls of `put`, `fetch` and `remove`: the store's bytes, owner and key, the table or the room as it came, the answer, and the bytes at the end. Each is
 -- the function's contract. And paper 02, #110, of what the owners hold who make calls one after another; proofs/Isolated has the theorem.
-use Rattle.model.specs.Kit.{_≡_, List, [], _∷_, ℕ, length, eqb}
-use Rattle.model.specs.Lists.{choose}
-use Rattle.store.specs.{Store.Call, Store.call, Store.put, Store.fetch, Store.remove, Store.storeAfter, Store.callsOf, Layout.size, Layout.storeOf, Layout.replyOn}
-use Rattle.store.specs.{Layout.bytesAfter, Meaning.means, Claims.StoreBytes, Claims.ByteCalls, declared.Answer.Answer}
+use Rattle.model.specs.Kit.{_≡_, List, [], _∷_, List·Memᴰ, ℕ, _<_, length, replicate, eqb}
+use Rattle.model.specs.Lists.{at, choose}
+use Rattle.store.specs.Store.{emptyStore, Call, call, put, fetch, remove, storeAfter, callsOf}
+use Rattle.store.specs.{Layout.size, Layout.storeOf, Layout.replyOn, Layout.bytesAfter, Meaning.means, declared.Answer.Answer}
 
 abbrev pub CallPut : List ℕ → ℕ → ℕ → List ℕ → Answer → List ℕ → Type 0
 CallPut b owner key t r b′ =
@@ -17,6 +17,22 @@ abbrev pub CallRemove : List ℕ → ℕ → ℕ → Answer → List ℕ → Typ
 CallRemove b owner key r b′ =
     (means r ≡ replyOn b (call owner key remove) .outcome)
     × ((b′ ≡ bytesAfter b (call owner key remove)) × (length b ≡ size → storeOf b′ ≡ storeAfter (storeOf b) (call owner key remove)))
+
+-- bytes of the store's size, and calls whose key and table are bytes
+abbrev pub StoreBytes : List ℕ → Type 0
+StoreBytes b = (length b ≡ size) × ((i : ℕ) → at b i < 256)
+
+abbrev pub ByteCall : Call → Type 0
+ByteCall (call owner key (put t)) = (key < 256) × ((i : ℕ) → at t i < 256)
+ByteCall (call owner key (fetch room)) = key < 256
+ByteCall (call owner key remove) = key < 256
+
+abbrev pub ByteCalls : List Call → Type 0
+ByteCalls xs = (x : Call) → List·Memᴰ x xs → ByteCall x
+
+-- zeros are the empty store
+abbrev pub Zeros-empty : Type 0
+Zeros-empty = StoreBytes (replicate size 0) × (storeOf (replicate size 0) ≡ emptyStore)
 
 -- ---- calls one after another, of any owners
 -- what a call handed back: its answer, and the room at the end; none is lent to put and remove

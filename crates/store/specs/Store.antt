@@ -1,6 +1,6 @@
 -- The symmetry store (paper 02, #110: the store of exchange tables): tables under an owner (the paper's course) and a key (its hall), the three
 -- calls, what each gives back and the store that it leaves.
-use Rattle.model.specs.Kit.{Bool, true, false, List, [], _∷_, ℕ, length, leb, ltb, eqb}
+use Rattle.model.specs.Kit.{Bool, true, false, List, [], ℕ, length, leb, ltb, eqb}
 use Rattle.model.specs.{Lists.keep, Lists.below, Lists.both, Lists.either, Lists.choose, Verdict.Verdict, Verdict.accepted, Verdict.ask, Verdict.isAccepted, Room.Outcome}
 use Rattle.model.specs.Room.{outcomeOf, roomAfter}
 
@@ -87,23 +87,10 @@ roomIn remove = []
 abbrev pub replyOf : Verdict → Action → Entry → StoreReply
 replyOf v a e = record { outcome = outcomeOf v (written a e); room = roomAfter v (written a e) (roomIn a) }
 
-unfoldable pub replyTo : Store → Call → StoreReply
-replyTo s (call owner key a) = replyOf (callVerdict s (call owner key a)) a (s owner key)
-
 -- ---- calls one after another
-unfoldable pub storeEnd : Store → List Call → Store
-storeEnd s [] = s
-storeEnd s (x ∷ xs) = storeEnd (storeAfter s x) xs
-
 abbrev pub ownerOf : Call → ℕ
 ownerOf (call owner key a) = owner
 
--- one owner's calls among those of all, and what they give back
+-- one owner's calls among those of all
 unfoldable pub callsOf : ℕ → List Call → List Call
 callsOf o xs = keep (λ x. eqb (ownerOf x) o) xs
-
-unfoldable pub repliesTo : ℕ → Store → List Call → List StoreReply
-repliesTo o s [] = []
-repliesTo o s (x ∷ xs) =
-    let later = repliesTo o (storeAfter s x) xs in
-    choose (eqb (ownerOf x) o) (replyTo s x ∷ later) later

@@ -1,9 +1,10 @@
 -- Jobs that stay, worked through (proved by computation in proofs/Cases): what is supposed in `Fair`, `As-alone`, `Sixty-four-each` and `Same-as-run`
--- (specs/Claims) is met by them.
+-- (specs/Claims, specs/inner/Claims) is met by them.
 use Rattle.model.specs.Kit.{_≡_, List, [], _∷_, map, ℕ, replicate}
 use Rattle.model.specs.{Lists.flat, Bytes.twoBytes, Run.finished, Examples.sheetA}
 use Rattle.desk.specs.Queue.{running, over, Queue, emptyQueue, newJob, jobTurned, taken, slotAt, submit, turn, answered, queued, idle, served, queueEnd, queueReplies, statusReply}
-use Rattle.desk.specs.{Queue.statusCounts, Claims.Throughout, Claims.Remains, Claims.Waits}
+use Rattle.desk.specs.{Queue.statusCounts, Claims.WaitsOn}
+use Rattle.desk.specs.inner.Claims.{Throughout, Remains}
 
 -- three windows, four values, no rule: 4 + 16 + 64 nodes
 abbrev pub sheetOpen : List ℕ
@@ -30,4 +31,4 @@ pub record Stay : Type 0 where
   pub ends : statusReply (queueEnd longer (turn ∷ turn ∷ [])) 0 ≡ answered (served 0 (over (finished 64 84)) 64 84)
   pub all : statusCounts (queueEnd longer (turn ∷ turn ∷ [])) 0 ≡ 4 ∷ 16 ∷ 64 ∷ replicate 9 0
   -- the last of eight jobs waits through eight turns
-  pub waits : Throughout (Waits 7) (queueEnd emptyQueue (replicate 8 (submit sheetA 1000000))) (replicate 8 turn)
+  pub waits : WaitsOn 7 (queueEnd emptyQueue (replicate 8 (submit sheetA 1000000))) (replicate 8 turn)

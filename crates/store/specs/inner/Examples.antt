@@ -1,9 +1,9 @@
--- Calls of two owners on one store, as one list of statements about the definitions (specs/Claims, `Isolated` and `Fetches-last`). One theorem says that
+-- Calls of two owners on one store, as one list of statements about the definitions (Claims, `Isolated` and `Fetches-last`). One theorem says that
 -- each holds (proofs/Examples).
 use Rattle.model.specs.Kit.{_≡_, true, List, [], _∷_, _++_}
 use Rattle.model.specs.{Verdict.accepted, Room.wrote, Room.refusal}
-use Rattle.store.specs.Store.{emptyStore, put, fetch, remove, Call, call, callVerdict, storeAfter, storeEnd, callsOf, repliesTo}
-use Rattle.store.specs.Claims.{allSpare}
+use Rattle.store.specs.Store.{emptyStore, put, fetch, remove, Call, call, callVerdict, storeAfter, callsOf}
+use Rattle.store.specs.inner.Claims.{storeEnd, repliesTo, allSpare}
 
 -- owner 0 puts two bytes and fetches them twice; between these owner 1 does this, or that
 abbrev this : List Call

@@ -1,15 +1,7 @@
--- What is claimed of the small sheets (paper 02, #114).
-use Rattle.model.specs.Kit.{_≡_, List, [], _∷_, map, ℕ, _≤_, _<_, length, getD}
-use Rattle.model.specs.{Problem.Constraint, Verdict.accepted, Sheet.problemOf, Sheet.verdictOf}
+-- What is claimed of the small sheets (paper 02, #114) by position; of a caller it is in specs/Held.
+use Rattle.model.specs.Kit.{_≡_, List, [], ℕ, _≤_, _<_, length, getD}
 use Rattle.sheet_small.specs.Small.{plainSheets, symmetricSheets, smallSheets}
-
--- an accepted sheet of two variables and two values with one constraint, on both, and at most one symmetry
-pub record IsSmall (b : List ℕ) : Type 0 where
-  pub accepts : verdictOf b ≡ accepted
-  pub variables : problemOf b .variables ≡ 2
-  pub values : problemOf b .values ≡ 2
-  pub constraint : map (λ (c : Constraint). c .scope) (problemOf b .constraints) ≡ (0 ∷ 1 ∷ []) ∷ []
-  pub symmetry : length (problemOf b .symmetries) ≤ 1
+use Rattle.sheet_once.specs.Held.{IsSmall}
 
 -- the sheet b stands at a position
 abbrev pub Stands : List ℕ → ℕ → Type 0

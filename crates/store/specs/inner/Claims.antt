@@ -1,10 +1,25 @@
--- What paper 02, #110, asks of the store, as statements; they can be read without the proofs. Calls of any owners (the paper's courses) are made
--- one after another on one store.
-use Rattle.model.specs.Kit.{_≡_, _⊎_, Bool, true, false, not, List, [], _∷_, _++_, map, List·Memᴰ, ℕ, _+_, _*_, _≤_, _<_, length, drop, replicate, T, leb, eqb}
-use Rattle.model.specs.{Lists.at, Lists.both, Lists.choose, Lists.below, Verdict.Verdict, Verdict.accepted, Verdict.refused, Verdict.ask, Verdict.isAccepted, Sheet.words}
+-- What else holds of the store: paper 02, #110, in words about the definitions. Calls of any owners (the paper's courses) are made one after another on one
+-- store. What callers may rely on is in specs/Calls.
+use Rattle.model.specs.Kit.{List, [], _∷_, ℕ, eqb, _≡_, _⊎_, Bool, true, false, not, _++_, map, _+_, _*_, _≤_, _<_, length, drop, T, leb}
+use Rattle.model.specs.{Lists.choose, Lists.both, Lists.below, Verdict.Verdict, Verdict.accepted, Verdict.refused, Verdict.ask, Verdict.isAccepted, Sheet.words}
+use Rattle.store.specs.Store.{Store, Call, callVerdict, storeAfter, StoreReply, replyOf, ownerOf, call, none, table, isTable, emptyStore, keysOf, Action, put, fetch, remove}
 use Rattle.model.specs.Sheet.{headerOf, problemOf, symmetriesVerdict, verdictOf}
-use Rattle.store.specs.Store.{none, table, isTable, Store, emptyStore, keysOf, Action, put, fetch, remove, Call, call, callVerdict, storeAfter, StoreReply, replyOf, replyTo}
-use Rattle.store.specs.{Store.storeEnd, Store.ownerOf, Store.callsOf, Store.repliesTo, Layout.size, Layout.storeOf, Layout.replyOn, Layout.bytesAfter}
+use Rattle.store.specs.{Store.callsOf, Layout.size, Layout.storeOf, Layout.replyOn, Layout.bytesAfter}
+use Rattle.store.specs.Calls.{StoreBytes, ByteCall, ByteCalls}
+
+unfoldable pub replyTo : Store → Call → StoreReply
+replyTo s (call owner key a) = replyOf (callVerdict s (call owner key a)) a (s owner key)
+
+-- ---- calls one after another
+unfoldable pub storeEnd : Store → List Call → Store
+storeEnd s [] = s
+storeEnd s (x ∷ xs) = storeEnd (storeAfter s x) xs
+
+unfoldable pub repliesTo : ℕ → Store → List Call → List StoreReply
+repliesTo o s [] = []
+repliesTo o s (x ∷ xs) =
+    let later = repliesTo o (storeAfter s x) xs in
+    choose (eqb (ownerOf x) o) (replyTo s x ∷ later) later
 
 -- ---- the store
 -- what an owner gets back depends only on its own calls: two sequences of calls with the same calls of one owner, all else changed at will,
@@ -54,23 +69,6 @@ Four-keys =
 -- a refused call leaves the store
 abbrev pub Refused-same : Type 0
 Refused-same = (s : Store) (x : Call) (number item : ℕ) → callVerdict s x ≡ refused number item → storeAfter s x ≡ s
-
--- ---- its bytes
--- bytes of the store's size, and calls whose key and table are bytes
-abbrev pub StoreBytes : List ℕ → Type 0
-StoreBytes b = (length b ≡ size) × ((i : ℕ) → at b i < 256)
-
-abbrev pub ByteCall : Call → Type 0
-ByteCall (call owner key (put t)) = (key < 256) × ((i : ℕ) → at t i < 256)
-ByteCall (call owner key (fetch room)) = key < 256
-ByteCall (call owner key remove) = key < 256
-
-abbrev pub ByteCalls : List Call → Type 0
-ByteCalls xs = (x : Call) → List·Memᴰ x xs → ByteCall x
-
--- zeros are the empty store
-abbrev pub Zeros-empty : Type 0
-Zeros-empty = StoreBytes (replicate size 0) × (storeOf (replicate size 0) ≡ emptyStore)
 
 -- each call on bytes is the call on the store that they mean
 abbrev pub Each-call : Type 0

@@ -1,5 +1,5 @@
--- The claims of paper 02, #103: rows to columns to rows gives the rows; an accepted store to rows and back gives the store; 23 is given
--- exactly to what is no store.
+-- The claims of paper 02, #103, about the definitions: rows to columns to rows gives the rows; an accepted store to rows and back gives the store; 23 is
+-- given exactly to what is no store. Of callers they are in specs/Calls.
 use Rattle.model.specs.Kit.{_≡_, true, List, ℕ, _+_, _*_, _≤_, length, T, ltb}
 use Rattle.model.specs.{Lists.all, Sheet.«word», Verdict.accepted, Verdict.refused}
 use Rattle.list_columns.specs.Columns.{columnsOf, rowsOf, variables, plans, columnsVerdict, isStore, rowsVerdict}
