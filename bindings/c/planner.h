@@ -11,9 +11,9 @@
  *
  * Stack. The most that a call takes below the caller, on the sheets that go deepest (12 windows of 16 duties, 16
  * exchanges, pairs and a block), in KB of 1,000 bytes:
- *   planner_report 350, planner_families 301, planner_run_part 228, planner_run, planner_run_lent and
- *   planner_at_least, with pairs and a block or without, 206, planner_desk_turn and planner_desk_rounds 205,
- *   planner_question_lent and planner_closed 69, planner_question, planner_desk_sit and planner_small_sheet 41,
+ *   planner_report 330, planner_families 307, planner_run_part 205, planner_run, planner_run_lent and
+ *   planner_at_least, with pairs and a block or without, 183, planner_desk_turn and planner_desk_rounds 182,
+ *   planner_closed 72, planner_question_lent 46, planner_question, planner_desk_sit and planner_small_sheet 41,
  *   planner_join 17, every other call 4 (most of it where the C library's functions are bound at their first call).
  * With less the process ends by a fault at the guard page. A thread of PLANNER_STACK_BYTES is enough for
  * each; some systems give a thread less unless asked (musl: 128 KB).

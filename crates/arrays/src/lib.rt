@@ -6,7 +6,9 @@ pub const NUMBERS: usize = 2432;
 
 pub const SUPPORTS: usize = 8192;
 
-pub const IMAGES: usize = 26112;
+pub const IMAGES: usize = 3072;
+
+pub const WIDE: usize = 26112;
 
 pub const TABLES: usize = 55296;
 
@@ -20,6 +22,9 @@ pub type Numbers = [u64; NUMBERS];
 pub type Supports = [u16; SUPPORTS];
 
 pub type Images = [u8; IMAGES];
+
+// Its symmetries with those of a block after them.
+pub type Wide = [u8; WIDE];
 
 // The set of variable k at depth k stands at DIAGONAL * k of the stack, sixteen sets a depth.
 pub const DIAGONAL: usize = 17;

@@ -5,7 +5,7 @@ use native.Mathlib.Nat.{div-lt-iff-lt-mul}
 use lib.ListN.{List·getD-append}
 use lib.Seq.{getD-append-add}
 use Rattle.model.specs.{Lists.at, Lists.flat, Problem.Problem, Problem.pair, Problem.isPair, Problem.withSymmetries, Problem.symmetryAt, inner.Filling.Filled, Verdict.accepted}
-use Rattle.arrays.specs.{inner.Layout.pairCode, inner.Layout.imageCode, inner.Places.IMAGES}
+use Rattle.arrays.specs.{inner.Layout.pairCode, inner.Layout.imageCode, inner.Places.WIDE}
 use Rattle.block.specs.Block.{orderings, ordering, factorial, variableTable, imageOf, orderingTable, blockTables, withBlock, isBlock, tablesLent, blockLent, withLent}
 use Rattle.arrays_block.specs.inner.Asked.{BlockRow, RowPut, Imaged, PutOn}
 use Rattle.model.proofs.{Lists.T-of, Lists.of-not, Lists.length-below, Filling.filled-turn}
@@ -45,7 +45,7 @@ module _ (p : Problem) (rows : List ℕ) (row first m : ℕ) (numbers : List ℕ
   abbrev pub RowTo : ℕ → ℕ → List ℕ → List ℕ → Type 0
   RowTo base k old new = Filled (λ q. base + pairCode (p .values) q) (λ q c. c ≡ pairCode (p .values) (to q)) k old new
 
-  pub row-more : (base k y slot code : ℕ) (old new : List ℕ) → base + 192 ≤ IMAGES → length old ≡ IMAGES → y ≡ to k →
+  pub row-more : (base k y slot code : ℕ) (old new : List ℕ) → base + 192 ≤ WIDE → length old ≡ WIDE → y ≡ to k →
       (slot ≡ pairCode (getD numbers 65 0) k) × (slot < 192) → code ≡ pairCode (getD numbers 65 0) y → RowTo base k old new → RowTo base (k + 1) old (set new (base + slot) code)
   row-more base k y slot code old new room sized ey es ec t =
       let w = b .wellFormed in
@@ -60,7 +60,7 @@ module _ (p : Problem) (first m : ℕ) where
 
   -- the first n symmetries of the problem with the block have their images, and nothing else changed
   pub record PutTo (n : ℕ) (start images : List ℕ) : Type 0 where
-    pub sized : length images ≡ IMAGES
+    pub sized : length images ≡ WIDE
     pub others : (j : ℕ) → ((e x v : ℕ) → e < n → x < p .variables → v < p .values → 192 * e + 16 * x + v ≡ j → ⊥) → at images j ≡ at start j
     pub imaged : (e x v : ℕ) → e < n → x < p .variables → v < p .values → at images (192 * e + 16 * x + v) ≡ imageCode p (symmetryAt (withBlock first m p) e) x v
 

@@ -7,16 +7,18 @@ ghost use Rattle.model.specs.Lists.{at};
 ghost use Rattle.model.specs.inner.Filling.{Gathered};
 ghost use Rattle.model.specs.Problem.{Problem};
 ghost use Rattle.model.specs.Verdict.{accepted};
-ghost use Rattle.arrays.specs.inner.Places.{IMAGES};
+ghost use Rattle.arrays.specs.inner.Places.{WIDE};
 ghost use Rattle.sheet.specs.Meaning.{means};
 ghost use Rattle.block.specs.Block.{ordering, factorial, inBlock, imageOf, orderingTable, withBlock, isBlock, blockVerdict, blockLent, inLent, withLent};
-ghost use Rattle.arrays_block.specs.inner.Asked.{Held, Row, BlockRow, TableBytes, rowAnswer, RowPut, Imaged, PutOn};
+ghost use Rattle.arrays_block.specs.inner.Asked.{Held, Row, BlockRow, TableBytes, rowAnswer, Widened, RowPut, Imaged, PutOn};
+use arrays::IMAGES;
 use arrays::Images;
 use arrays::Numbers;
 use arrays::SYMMETRIES;
 use arrays::Supports;
 use arrays::VALUES;
 use arrays::VARIABLES;
+use arrays::Wide;
 use model::wide;
 use sheet::Answer;
 use sheet_symmetries::table_question;
@@ -189,6 +191,18 @@ pub fn positions(block: &[u8], n: usize, order: &[u8; 16]) -> u64
     gather(block[0] as usize, block[1] as usize, n, order)
 }
 
+// Copies the images of a sheet's symmetries to where those of a block have room after them.
+pub fn widen(images: &Images, wide: &mut Wide)
+    requires { ⌜ length (now wide) ≡ WIDE ⌝ }
+    ensures { λ _. ⌜ Widened (now (images .entry)) (now (wide .entry)) (now (wide .exit)) ⌝ }
+{
+    let mut j = 0;
+    while j < IMAGES {
+        wide[j] = images[j];
+        j += 1;
+    }
+}
+
 // Writes the codes of the images of a row's table, 192 bytes from `base` on.
 fn put_row(
     rows: &[u8; 600],
@@ -197,9 +211,9 @@ fn put_row(
     m: usize,
     numbers: &Numbers,
     base: usize,
-    images: &mut Images,
+    images: &mut Wide,
 )
-    requires { ⌜ ((p : Problem) × BlockRow p (now rows) row first m (now numbers)) × (base + 192 ≤ IMAGES) × (length (now images) ≡ IMAGES) ⌝ }
+    requires { ⌜ ((p : Problem) × BlockRow p (now rows) row first m (now numbers)) × (base + 192 ≤ WIDE) × (length (now images) ≡ WIDE) ⌝ }
     ensures { λ _. ⌜ ((p : Problem) → BlockRow p (now (rows .entry)) row first m (now (numbers .entry)) → RowPut p first m row base (now (images .entry))
         (now (images .exit))) ⌝ }
 {
@@ -228,7 +242,7 @@ fn row_count(m: usize) -> usize
 }
 
 // Writes the images of a block's tables after the problem's own, and nothing else; how many there are then.
-fn put_rows(first: usize, m: usize, numbers: &Numbers, images: &mut Images) -> usize
+fn put_rows(first: usize, m: usize, numbers: &Numbers, images: &mut Wide) -> usize
     requires { ⌜ ((p : Problem) × Imaged p (now numbers) (now images) × T (isBlock p first m)) ⌝ }
     ensures { λ r. ⌜ ((p : Problem) → Imaged p (now (numbers .entry)) (now (images .entry)) → T (isBlock p first m) → PutOn (withBlock first m p)
         (now (images .entry)) (now (images .exit)) r) ⌝ }
@@ -245,7 +259,7 @@ fn put_rows(first: usize, m: usize, numbers: &Numbers, images: &mut Images) -> u
 }
 
 // The same of a block as it is lent, of which the questions are passed.
-pub fn put_images(block: &[u8], numbers: &Numbers, images: &mut Images) -> usize
+pub fn put_images(block: &[u8], numbers: &Numbers, images: &mut Wide) -> usize
     requires { ⌜ ((p : Problem) × Imaged p (now numbers) (now images) × (blockLent p (now block) ≡ accepted)) ⌝ }
     ensures { λ r. ⌜ ((p : Problem) → Imaged p (now (numbers .entry)) (now (images .entry)) → blockLent p (now (block .entry)) ≡ accepted → PutOn
         (withLent (now (block .entry)) p) (now (images .entry)) (now (images .exit)) r) ⌝ }

@@ -60,8 +60,8 @@ module _ (p : Problem) (order numbers supports images : List ℕ) (m : Movable p
   pub few-constraints : at numbers 66 ≤ 32
   few-constraints = omega (arith, m .compiled .numbered .constraints, w .most)
 
-  pub few-symmetries : at numbers 67 ≤ 136
-  few-symmetries = omega (arith, m .compiled .numbered .symmetries, m .symmetries)
+  pub few-symmetries : 192 * at numbers 67 ≤ length images
+  few-symmetries = omega (arith, m .compiled .numbered .symmetries, m .images-length)
 
   order-at : (i : ℕ) → i < p .variables → at order i ≡ at ord i
   order-at i h = sym (at-take (p .variables) order i h)

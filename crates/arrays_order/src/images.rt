@@ -1,17 +1,15 @@
 // The images of the pairs, with the variables renamed on both sides.
 use crate::places::entry;
-use arrays::Images;
 ghost use mathlib.Core.Path.{_≡_};
 ghost use Prim.Native.Nat.{_+_, _*_, _≤_, _<_};
 ghost use lib.ListN.{length};
 ghost use Rattle.model.specs.Lists.{at};
 ghost use Rattle.model.specs.inner.Filling.{Filled};
-ghost use Rattle.arrays.specs.inner.Places.{IMAGES};
 ghost use Rattle.arrays_order.specs.inner.Steps.{Small, renamedTo, imageFrom, MovedImages};
 
 // The images of a symmetry, which stand from a place on.
-fn load(images: &Images, from: usize, old: &mut [u8; 192])
-    requires { ⌜ (from + 192 ≤ IMAGES) × (length (now old) ≡ 192) ⌝ }
+fn load(images: &[u8], from: usize, old: &mut [u8; 192])
+    requires { ⌜ (from + 192 ≤ length (now images)) × (length (now old) ≡ 192) ⌝ }
     ensures { λ _. ⌜ Filled (λ j. j) (λ j r. r ≡ at (now (images .entry)) (from + j)) 192 (now (old .entry)) (now (old .exit)) ⌝ }
 {
     let mut j = 0;
@@ -38,8 +36,8 @@ fn renamed(stands: &[u8; 16], q: u8) -> u8
 }
 
 // The pairs of a symmetry whose images stand from a place on.
-fn symmetry(order: &[u8; 16], stands: &[u8; 16], n: usize, from: usize, images: &mut Images)
-    requires { ⌜ (n ≤ 12) × (from + 192 ≤ IMAGES) × Small n (now order) × (length (now images) ≡ IMAGES) ⌝ }
+fn symmetry(order: &[u8; 16], stands: &[u8; 16], n: usize, from: usize, images: &mut [u8])
+    requires { ⌜ (n ≤ 12) × (from + 192 ≤ length (now images)) × Small n (now order) ⌝ }
     ensures { λ _. ⌜ Filled (λ j. from + j) (λ j r. r ≡ renamedTo (now (stands .entry))
         (at (now (images .entry)) (from + imageFrom (now (order .entry)) j))) (16 * n) (now (images .entry)) (now (images .exit)) ⌝ }
 {
@@ -55,8 +53,8 @@ fn symmetry(order: &[u8; 16], stands: &[u8; 16], n: usize, from: usize, images: 
 }
 
 // The pairs of every symmetry.
-pub fn rename(order: &[u8; 16], stands: &[u8; 16], n: usize, g: usize, images: &mut Images)
-    requires { ⌜ (n ≤ 12) × (g ≤ 136) × Small n (now order) × (length (now images) ≡ IMAGES) ⌝ }
+pub fn rename(order: &[u8; 16], stands: &[u8; 16], n: usize, g: usize, images: &mut [u8])
+    requires { ⌜ (n ≤ 12) × (192 * g ≤ length (now images)) × Small n (now order) ⌝ }
     ensures { λ _. ⌜ MovedImages n (now (order .entry)) (now (stands .entry)) g (now (images .entry)) (now (images .exit)) ⌝ }
 {
     let mut e = 0;

@@ -2,7 +2,6 @@
 // old.
 // It runs once a run, before the search's tables are made.
 use arrays::CONSTRAINTS;
-use arrays::Images;
 use arrays::Numbers;
 use arrays::SYMMETRIES;
 use arrays::Supports;
@@ -18,12 +17,7 @@ mod sets;
 mod supports;
 
 // The arrays of a problem become those of the reordered problem.
-pub fn reorder(
-    order: &[u8; 16],
-    numbers: &mut Numbers,
-    supports: &mut Supports,
-    images: &mut Images,
-)
+pub fn reorder(order: &[u8; 16], numbers: &mut Numbers, supports: &mut Supports, images: &mut [u8])
     requires { ⌜ ((p : Problem) × Movable p (now order) (now numbers) (now supports) (now images)) ⌝ }
     ensures { λ _. ⌜ ((p : Problem) → Movable p (now (order .entry)) (now (numbers .entry)) (now (supports .entry)) (now (images .entry)) → Moved p
         (now (order .entry)) (now (numbers .entry)) (now (supports .entry)) (now (images .entry)) (now (numbers .exit)) (now (supports .exit))

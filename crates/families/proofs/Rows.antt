@@ -3,7 +3,6 @@ use Rattle.model.specs.Kit.{_≡_, refl, sym, ap, ap₂, _∙_, subst, List, _+
 use Rattle.model.specs.Kit.{length-set, length-append, replicate, length-replicate}
 use Rattle.model.specs.{Lists.at, Lists.flat, Problem.Problem, Problem.pair, Problem.symmetryAt, WellFormed.WellFormed, WellFormed.Respected}
 use Rattle.model.proofs.{Lists.at-set, Lists.at-set-other, Lists.at-replicate, Lists.set-each, Tree.solution-e}
-use Rattle.arrays.specs.inner.Places.{IMAGES}
 use Rattle.families.specs.{Families.solutionsOf, inner.Walk.solutionAt, inner.Walk.imageAt, inner.Numbered.keyOf, inner.Numbered.Listed, inner.Numbered.Imaging}
 use Rattle.families.specs.inner.Numbered.{Finding, Numbering}
 use Rattle.families.proofs.{FamilyCount.in-solution, Numbers.rows-length, Numbers.at-solution, Numbers.at-solutions, Numbers.same-number, Numbers.symmetry-among}
@@ -89,8 +88,8 @@ module _ {p : Problem} {rows images : List ℕ} {variables i k : ℕ} (a : Imagi
     pub imaging-value : at rows (i * variables + x) < 16
     imaging-value = listed-small (a .lent .listed) i (a .solution) x l
 
-    pub imaging-index : 192 * k + 16 * x + at rows (i * variables + x) < IMAGES
-    imaging-index = let b = imaging-value in let c = imaging-bounds in omega arith
+    pub imaging-index : 192 * k + 16 * x + at rows (i * variables + x) < length images
+    imaging-index = let b = imaging-value in let c = imaging-bounds in let s = a .symmetry in let r = a .lent .room in omega arith
 
     coded : sent rows images variables i k x ≡ 16 * (goes x / p .values) + goes x % p .values
     coded =

@@ -1,5 +1,4 @@
 // Counts the families of solutions by breadth-first search over their numbers (paper 02, #104).
-use arrays::Images;
 ghost use mathlib.Core.Path.{_≡_};
 ghost use mathlib.Core.List.{List};
 ghost use Prim.Native.Nat.{ℕ, _+_, _*_, _<_, _≤_};
@@ -63,7 +62,7 @@ fn weigh(variables: usize, weights: &mut [u64; 192])
 // The key of the row to which a symmetry takes a solution: each pair's image is a digit of it.
 fn carry(
     rows: &[u8],
-    images: &Images,
+    images: &[u8],
     weights: &[u64; 192],
     variables: usize,
     i: usize,
@@ -101,7 +100,7 @@ fn find(keys: &[u64; 4096], heads: &[u16; 1021], key: u64) -> usize
 // The number of the solution to which a symmetry takes a solution.
 fn image(
     rows: &[u8],
-    images: &Images,
+    images: &[u8],
     keys: &[u64; 4096],
     heads: &[u16; 1021],
     weights: &[u64; 192],
@@ -120,7 +119,7 @@ fn image(
 // Looks at the images of the solution at the head of the queue, and puts those that were not met yet into it; the new tail.
 fn spread(
     rows: &[u8],
-    images: &Images,
+    images: &[u8],
     keys: &[u64; 4096],
     heads: &[u16; 1021],
     weights: &[u64; 192],
@@ -155,7 +154,7 @@ fn spread(
 // Empties the queue; its tail, which is then its head.
 fn flood(
     rows: &[u8],
-    images: &Images,
+    images: &[u8],
     keys: &[u64; 4096],
     heads: &[u16; 1021],
     weights: &[u64; 192],
@@ -196,7 +195,7 @@ fn flood(
 // The number of families, given all solutions, ascending, and the images of the pairs under each symmetry. Each solution is taken up once.
 pub fn families(
     rows: &[u8],
-    images: &Images,
+    images: &[u8],
     variables: usize,
     symmetries: usize,
     solutions: usize,

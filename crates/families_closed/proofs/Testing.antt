@@ -1,12 +1,13 @@
 -- The test of a run that is lent a sheet, pairs and a block: its arrays, and its answer. Assumes nothing.
-use Rattle.model.specs.Kit.{_≡_, refl, sym, ap, ap₂, _∙_, subst₂, Bool, true, false, List, [], _∷_, ℕ, _*_, _/_, _%_, _≤_, _<_, arith, T, length, getD, length-append, lt-ltb}
+use Rattle.model.specs.Kit.{_≡_, refl, sym, ap, ap₂, _∙_, subst₂, Bool, true, false, List, [], _∷_, ℕ, _+_, _*_, _/_, _%_, _≤_, _<_, arith, T, length, getD, length-append, lt-ltb}
 use Rattle.model.specs.Kit.{le-ltb}
 use Rattle.model.specs.{Lists.at, Problem.Problem, Verdict.Verdict, Verdict.accepted, Verdict.refused, Verdict.isAccepted, Verdict.reply, Sheet.problemOf, WellFormed.WellFormed}
 use Rattle.model.proofs.{Lists.length-below, Accepted.stated, Accepted.symmetries-are, Accepted.accepted-is, Accepted.is-accepted, Lists.never}
 use Rattle.sheet.specs.{declared.Answer.Answer, declared.Answer.the-variants.Accepted}
 use Rattle.block.specs.Block.{factorial, orderingTable, blockTables, tablesLent, blockLent, withLent}
 use Rattle.block.proofs.{Orderings.factorial-le, Block.block-e}
-use Rattle.arrays_block.specs.inner.Asked.{Imaged, PutOn}
+use Rattle.arrays.specs.inner.Places.{WIDE}
+use Rattle.arrays_block.specs.inner.Asked.{Widened, Imaged, PutOn}
 use Rattle.run_input.specs.{Lent.verdictLent, Lent.problemWith, inner.Compile.AskedLent}
 use Rattle.run_input.proofs.Lent.{lent-passed, well-sheet, well-lent}
 use Rattle.families_closed.specs.{Open.firstMissing, Open.none, Open.two, Open.firstOpen, inner.Held.Held, inner.Held.Passed, Lent.Told, Lent.told, Lent.closedLent}
@@ -35,8 +36,9 @@ module _ (b pairs block numbers images : List ℕ) (h : Passed b pairs block num
   good : T (isAccepted (verdictLent b pairs block))
   good = is-accepted (verdictLent b pairs block) (h .verdict)
 
-  pub imaged-of : Imaged (problemOf b) numbers images
-  imaged-of =
+  -- once they are copied the block's may be put after them
+  pub imaged-of : (old wide : List ℕ) → Widened images old wide → length old ≡ WIDE → Imaged (problemOf b) numbers wide
+  imaged-of old wide t long =
       let w = well-sheet b pairs block good in
       let x = lent-passed b pairs block good .sheet .header in
       let m = symmetries-are b in
@@ -48,16 +50,16 @@ module _ (b pairs block numbers images : List ℕ) (h : Passed b pairs block num
           numbered = h .numbered;
         };
         symmetries = omega arith;
-        imaged = h .imaged;
-        sized = h .sized;
+        imaged = λ e x v i j k. t .here (192 * e + 16 * x + v) (omega (arith, w .few, w .sixteen)) ∙ h .imaged e x v i j k;
+        sized = t .size ∙ long;
       }
 
   pub block-passed : blockLent (problemOf b) block ≡ accepted
   block-passed = accepted-is (blockLent (problemOf b) block) (lent-passed b pairs block good .blocked)
 
-  pub held-of : (images′ : List ℕ) (n : ℕ) → PutOn (withLent block (problemOf b)) images images′ n → Held (problemWith b block) images′ (getD numbers 64 0) (getD numbers 65 0)
+  pub held-of : (old images′ : List ℕ) (n : ℕ) → PutOn (withLent block (problemOf b)) old images′ n → Held (problemWith b block) images′ (getD numbers 64 0) (getD numbers 65 0)
   unfolding at
-  held-of images′ n t = record {
+  held-of old images′ n t = record {
     good = well-lent b pairs block good;
     some = let e = t .put .all in let l = t .put .few in omega arith;
     imaged = t .put .imaged;

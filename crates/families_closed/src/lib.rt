@@ -20,6 +20,8 @@ use arrays::Numbers;
 use arrays::SUPPORTS;
 use arrays::VALUES;
 use arrays::VARIABLES;
+use arrays::WIDE;
+use arrays::Wide;
 
 // The refusal of a run, that its exchanges are closed, or the first two, by number, whose product is missing.
 pub enum Answer {
@@ -37,7 +39,7 @@ fn code(values: usize, q: usize) -> usize
 }
 
 // The code to which symmetry e takes a code.
-fn goes(images: &Images, e: usize, code: usize) -> usize
+fn goes(images: &Wide, e: usize, code: usize) -> usize
     requires { ⌜ (e < 136) × (code < 192) × (at (now images) (192 * e + code) < 192) ⌝ }
     ensures { λ r. ⌜ r ≡ at (now (images .entry)) (192 * e + code) ⌝ }
 {
@@ -45,7 +47,7 @@ fn goes(images: &Images, e: usize, code: usize) -> usize
 }
 
 // Whether symmetry a and then symmetry b take each number to where symmetry c takes it.
-fn makes_one(images: &Images, variables: usize, values: usize, a: usize, b: usize, c: usize) -> bool
+fn makes_one(images: &Wide, variables: usize, values: usize, a: usize, b: usize, c: usize) -> bool
     requires { ⌜ ((p : Problem) × Held p (now images) variables values × (a < length (p .symmetries)) × (b < length (p .symmetries)) ×
         (c < length (p .symmetries))) ⌝ }
     ensures { λ r. ⌜ ((p : Problem) → Held p (now (images .entry)) variables values → a < length (p .symmetries) → b < length (p .symmetries) → c < length
@@ -64,7 +66,7 @@ fn makes_one(images: &Images, variables: usize, values: usize, a: usize, b: usiz
 }
 
 // Whether symmetry a and then symmetry b leave each number where it is.
-fn moves_none(images: &Images, variables: usize, values: usize, a: usize, b: usize) -> bool
+fn moves_none(images: &Wide, variables: usize, values: usize, a: usize, b: usize) -> bool
     requires { ⌜ ((p : Problem) × Held p (now images) variables values × (a < length (p .symmetries)) × (b < length (p .symmetries))) ⌝ }
     ensures { λ r. ⌜ ((p : Problem) → Held p (now (images .entry)) variables values → a < length (p .symmetries) → b < length (p .symmetries)
         → r ≡ movesNothing p (symmetryAt p a) (symmetryAt p b)) ⌝ }
@@ -83,7 +85,7 @@ fn moves_none(images: &Images, variables: usize, values: usize, a: usize, b: usi
 
 // Whether symmetry a and then symmetry b make one of the symmetries, or move nothing.
 fn is_made(
-    images: &Images,
+    images: &Wide,
     variables: usize,
     values: usize,
     symmetries: usize,
@@ -108,7 +110,7 @@ fn is_made(
 }
 
 // The number k of the first two symmetries, by k / g and then k % g for g symmetries, that make none of them one after the other; g * g where there are none.
-fn first_missing(images: &Images, variables: usize, values: usize, symmetries: usize) -> usize
+fn first_missing(images: &Wide, variables: usize, values: usize, symmetries: usize) -> usize
     requires { ⌜ ((p : Problem) × Held p (now images) variables values × (symmetries ≡ length (p .symmetries))) ⌝ }
     ensures { λ r. ⌜ ((p : Problem) → Held p (now (images .entry)) variables values → symmetries ≡ length (p .symmetries) → r ≡ firstMissing p) ⌝ }
 {
@@ -145,15 +147,17 @@ fn two_of(symmetries: usize, k: usize) -> Answer
 }
 
 // The test of a run whose questions are passed.
-fn test(block: &[u8], numbers: &Numbers, images: &mut Images) -> Answer
+fn test(block: &[u8], numbers: &Numbers, images: &Images) -> Answer
     requires { ⌜ ((b : List ℕ) × (pairs : List ℕ) × Passed b pairs (now block) (now numbers) (now images)) ⌝ }
     ensures { λ r. ⌜ ((b pairs : List ℕ) → Passed b pairs (now (block .entry)) (now (numbers .entry)) (now (images .entry)) → means r ≡ told
         (firstOpen (problemWith b (now (block .entry))))) ⌝ }
 {
-    let symmetries = arrays_block::put_images(block, numbers, images);
+    let mut wide = [0u8; WIDE];
+    arrays_block::widen(images, &mut wide);
+    let symmetries = arrays_block::put_images(block, numbers, &mut wide);
     let variables = numbers[VARIABLES] as usize;
     let values = numbers[VALUES] as usize;
-    let k = first_missing(images, variables, values, symmetries);
+    let k = first_missing(&wide, variables, values, symmetries);
     two_of(symmetries, k)
 }
 
@@ -176,6 +180,6 @@ pub fn closed(sheet: &[u8], pairs: &[u8], block: &[u8]) -> Answer
     );
     match asked {
         sheet::Answer::Refused { number, item } => Answer::Refused { number, item },
-        sheet::Answer::Accepted => test(block, &numbers, &mut images),
+        sheet::Answer::Accepted => test(block, &numbers, &images),
     }
 }

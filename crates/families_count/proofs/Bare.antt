@@ -53,9 +53,9 @@ module _ (b pairs block : List ℕ) (symmetries : ℕ) (stack work supports tabl
   whole-roomy list l = record { named = h .put .compiled .numbered .variables; long = l }
 
   module _ (n : ℕ) (list : List ℕ) (room : Roomy b n list) where
-    -- so the bare run may be made
-    pub bare-runs : Runs (bareLent b pairs block) stack (set work PLANS 0) supports tables (set numbers SYMMETRIES 0) images list
-    bare-runs = record {
+    -- so the bare run may be made, on any images
+    pub bare-runs : (none : List ℕ) → Runs (bareLent b pairs block) stack (set work PLANS 0) supports tables (set numbers SYMMETRIES 0) none list
+    bare-runs none = record {
       compiled = record {
         numbered = numbers-with p [] numbers 0 (well .few) (well .most) (h .put .long) refl
             (h .put .compiled .numbered);
@@ -90,7 +90,7 @@ module _ (b pairs block : List ℕ) (symmetries : ℕ) (stack work supports tabl
             (subst (λ (k : ℕ). Counted p list′ images (p .variables) (length (p .symmetries)) k) (sym (a .plans))
             (subst (λ (l : List ℕ). Counted p l images (p .variables) (length (p .symmetries)) (plansIn e)) (sym (a .wrote))
             (figure-counted b pairs block limit (length list) (h .put .verdict) (plansIn e) (nodesIn e) done images list (let q = room .named in let r = room .long in omega arith)
-            (h .put .compiled .imaged) (let q = h .put .all in let l = h .put .few in omega arith)))))
+            (h .put .compiled .imaged) (let q = h .put .all in let l = h .put .few in omega arith) (let q = h .put .all in let l = h .put .room in omega arith)))))
 
         pub bare-number : (k : ℕ) → k ≡ familiesOf (problemLent b pairs block) → told (number k) ≡ told (familiesLent b pairs block limit (length list))
         bare-number k q = ap told (sym (figure-number b pairs block limit (length list) (h .put .verdict) (plansIn e) (nodesIn e) done k q))
@@ -168,6 +168,7 @@ module _ (b : List ℕ) (limit : ℕ) (stack work supports tables numbers images
           long = h .long;
           all = s ∙ ap (λ (q : Problem). length (q .symmetries)) (sym t);
           few = let e = symmetries-are b in let f = passed b (is-accepted (verdictOf b) (h .verdict)) .header .symmetries in omega arith;
+          room = let l = h .room in omega arith;
         };
         writable = h .writable;
       }

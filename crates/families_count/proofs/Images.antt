@@ -2,14 +2,14 @@
 use Rattle.model.specs.Kit.{_≡_, refl, sym, ap, _∙_, subst, List, [], _∷_, ℕ, suc, _+_, _/_, _%_, _^_, _≤_, _<_, arith, T, eqb, length, set, length-map, length-set}
 use Rattle.model.specs.{Lists.any, Lists.at, ValueSets.has, Problem.Problem, Problem.withSymmetries, Problem.constraintAt, Verdict.accepted, Verdict.isAccepted, Sheet.problemOf}
 use Rattle.model.proofs.{Lists.at-set, Lists.at-set-other, Accepted.is-accepted}
-use Rattle.arrays.specs.inner.Places.{INITIAL, SCOPES, VARIABLES, VALUES, CONSTRAINTS, SYMMETRIES, NUMBERS}
+use Rattle.arrays.specs.inner.Places.{INITIAL, SCOPES, VARIABLES, VALUES, CONSTRAINTS, SYMMETRIES, NUMBERS, WIDE}
 use Rattle.arrays.specs.inner.Layout.{Numbers, Compiled}
 use Rattle.order.specs.{Order.Ordering, Order.settlingOrder, Reordered.reordered, Reordered.symmetryIn}
 use Rattle.order.proofs.{Order.no-pairs, LeadersBy.reordered-below}
 use Rattle.arrays_order.specs.inner.Reorder.{Movable, Moved}
 use Rattle.sheet.specs.{declared.Answer.Answer, declared.Answer.the-variants.Accepted}
 use Rattle.block.specs.Block.{blockLent}
-use Rattle.arrays_block.specs.inner.Asked.{Imaged, Put}
+use Rattle.arrays_block.specs.inner.Asked.{Widened, Imaged, Put}
 use Rattle.run_input.specs.{Lent.verdictLent, Lent.problemWith, Lent.orderLent, Lent.problemLent, inner.Compile.AskedLent}
 use Rattle.run_input.proofs.Lent.{well-lent, ordering-lent}
 use Rattle.families_closed.proofs.Testing.{imaged-of, block-passed, passed-of}
@@ -41,7 +41,7 @@ asked-so b pairs block numbers supports images order r e a = subst (AskedLent b 
 
 module _ (b pairs block numbers supports images order : List ℕ) (a : AskedLent b pairs block numbers supports images order Accepted) where
   -- so `arrays_block::put_images` may be called
-  pub lent-images : Imaged (problemOf b) numbers images
+  pub lent-images : (old wide : List ℕ) → Widened images old wide → length old ≡ WIDE → Imaged (problemOf b) numbers wide
   lent-images = imaged-of b pairs block numbers images (passed-of b pairs block numbers supports images order Accepted a refl)
 
   pub lent-block : blockLent (problemOf b) block ≡ accepted
@@ -67,10 +67,9 @@ module _ (b pairs block numbers supports images order : List ℕ) (a : AskedLent
           };
           wellFormed = w;
           ordering = subst (Ordering (problemOf b .variables)) (sym (a .order-is refl)) (ordering-lent b pairs block good);
-          symmetries = omega arith;
           numbers-length = length-set numbers SYMMETRIES n ∙ s .numbers-length;
           supports-length = s .supports-length;
-          images-length = put .sized;
+          images-length = let l = put .sized in omega arith;
         }
 
     pub put-moved : (numbers″ supports″ images″ : List ℕ) → Moved (problemWith b block) order (set numbers SYMMETRIES n) supports images′ numbers″ supports″ images″
@@ -81,6 +80,7 @@ module _ (b pairs block numbers supports images order : List ℕ) (a : AskedLent
       long = m .numbers-length ∙ movable .numbers-length;
       all = put .all ∙ sym (length-map (problemWith b block .symmetries) (symmetryIn (orderLent b pairs) (problemWith b block)));
       few = put .few;
+      room = let l = put .few in let s = put .sized in let k = m .images-length in omega arith;
     }
 
     -- without pairs the order is 0, 1, ..
@@ -91,6 +91,7 @@ module _ (b pairs block numbers supports images order : List ℕ) (a : AskedLent
       long = movable .numbers-length;
       all = put .all ∙ ap (λ (q : Problem). length (q .symmetries)) (sym same);
       few = put .few;
+      room = let l = put .few in let s = put .sized in omega arith;
     }
       where
         none : (l : List ℕ) → length l ≡ 0 → l ≡ []

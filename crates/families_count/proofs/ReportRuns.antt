@@ -60,6 +60,7 @@ module _ (b : List ℕ) (limit : ℕ) (numbers supports images : List ℕ) (c : 
           supported = c .compiled refl .supported;
           imaged = c .compiled refl .imaged;
         };
+        room = let l = symmetries-are b in let f = passed b good .header .symmetries in let s = c .sizes refl .images-length in omega arith;
         long = a .long;
         writable = a .writable;
         plans = a .plans ∙ ap (λ (k : ℕ). plansIn (resultOf (problemOf b) limit k .ending)) room-is;

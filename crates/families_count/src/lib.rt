@@ -5,6 +5,7 @@ ghost use mathlib.Core.List.{List};
 ghost use Prim.Native.Nat.{ℕ};
 ghost use lib.ListN.{length, replicate};
 ghost use Rattle.model.specs.Problem.{Problem};
+ghost use Rattle.arrays.specs.inner.Places.{WIDE};
 ghost use Rattle.run_state.specs.Meaning.{tallyIn};
 ghost use Rattle.run_input.specs.inner.Compile.{AskedLent};
 ghost use Rattle.sheet.specs.inner.Form.{Compilation};
@@ -26,7 +27,9 @@ use arrays::Supports;
 use arrays::TABLES;
 use arrays::Tables;
 use arrays::VARIABLES;
+use arrays::WIDE;
 use arrays::WORK;
+use arrays::Wide;
 use arrays::Work;
 use run_tree::CountedPart;
 
@@ -57,18 +60,21 @@ fn put_images(
     block: &[u8],
     numbers: &mut Numbers,
     supports: &mut Supports,
-    images: &mut Images,
+    images: &Images,
     order: &[u8; 16],
+    wide: &mut Wide,
 ) -> usize
-    requires { ⌜ ((b : List ℕ) × AskedLent b (now pairs) (now block) (now numbers) (now supports) (now images) (now order) Accepted) ⌝ }
+    requires { ⌜ ((b : List ℕ) × AskedLent b (now pairs) (now block) (now numbers) (now supports) (now images) (now order) Accepted) ×
+        (length (now wide) ≡ WIDE) ⌝ }
     ensures { λ r. ⌜ ((b : List ℕ) → AskedLent b (now (pairs .entry)) (now (block .entry)) (now (numbers .entry)) (now (supports .entry))
         (now (images .entry)) (now (order .entry)) Accepted → Put b (now (pairs .entry)) (now (block .entry)) (now (numbers .exit)) (now (supports .exit))
-        (now (images .exit)) r) ⌝ }
+        (now (wide .exit)) r × (length (now (wide .exit)) ≡ WIDE)) ⌝ }
 {
-    let symmetries = arrays_block::put_images(block, numbers, images);
+    arrays_block::widen(images, wide);
+    let symmetries = arrays_block::put_images(block, numbers, wide);
     numbers[SYMMETRIES] = symmetries as u64;
     if pairs.len() != 0 {
-        arrays_order::reorder(order, numbers, supports, images);
+        arrays_order::reorder(order, numbers, supports, wide);
     }
     symmetries
 }
@@ -96,14 +102,15 @@ fn run_arrays(
     run_search::walk_tree(stack, work, supports, tables, numbers, list, step)
 }
 
-// The families of the problem in the arrays, whose symmetries have their images: the run without symmetries, and where it is finished the count.
+// The families of the problem in the arrays, whose symmetries have their images: the run without symmetries, which reads no images, and where it is finished
+// the count.
 fn figure(
     stack: &mut Stack,
     work: &mut Work,
     supports: &Supports,
     tables: &mut Tables,
     numbers: &mut Numbers,
-    images: &Images,
+    images: &[u8],
     n: usize,
     symmetries: usize,
     limit: u32,
@@ -117,7 +124,8 @@ fn figure(
 {
     numbers[SYMMETRIES] = 0;
     work[PLANS] = 0;
-    let part = run_arrays(stack, work, supports, tables, numbers, images, limit, list);
+    let none = [0u8; IMAGES];
+    let part = run_arrays(stack, work, supports, tables, numbers, &none, limit, list);
     if part.stop != ALL {
         return Answer::Dash;
     }
@@ -132,7 +140,7 @@ fn counted(
     supports: &Supports,
     tables: &mut Tables,
     numbers: &mut Numbers,
-    images: &Images,
+    images: &[u8],
     symmetries: usize,
     limit: u32,
 ) -> Answer
@@ -181,13 +189,15 @@ pub fn families(sheet: &[u8], pairs: &[u8], block: &[u8], limit: u32) -> Answer
     );
     match verdict {
         sheet::Answer::Accepted => {
+            let mut wide = [0u8; WIDE];
             let symmetries = put_images(
                 pairs,
                 block,
                 &mut numbers,
                 &mut supports,
-                &mut images,
+                &images,
                 &order,
+                &mut wide,
             );
             counted(
                 &mut stack,
@@ -195,7 +205,7 @@ pub fn families(sheet: &[u8], pairs: &[u8], block: &[u8], limit: u32) -> Answer
                 &supports,
                 &mut tables,
                 &mut numbers,
-                &images,
+                &wide,
                 symmetries,
                 limit,
             )
@@ -211,7 +221,7 @@ fn report_figure(
     supports: &Supports,
     tables: &mut Tables,
     numbers: &mut Numbers,
-    images: &Images,
+    images: &[u8],
     stop: u8,
     limit: u32,
 ) -> Answer

@@ -71,15 +71,17 @@ module _ (b pairs block : List ℕ) (limit room : ℕ) (h : verdictLent b pairs 
 
     -- so what `families::families` is lent is right, where the images of all symmetries are in the order too
     pub figure-counted : (images out : List ℕ) → room ≤ 4096 * problemLent b pairs block .variables → Images (problemLent b pairs block) images → length (problemLent b pairs block .symmetries) ≤ 136 →
+        192 * length (problemLent b pairs block .symmetries) ≤ length images →
         Counted (problemLent b pairs block) (written (resultOf (bareLent b pairs block) limit room .rows) out) images (problemLent b pairs block .variables)
         (length (problemLent b pairs block .symmetries)) plans
     unfolding written
-    figure-counted images out l i some = record {
+    figure-counted images out l i some long = record {
       lent = record {
         listed = subst (λ (rows : List (List ℕ)). Listed p (flat rows ++ drop (length (flat rows)) out) (p .variables)) (sym bare-rows)
             (listed-solutions p w r (few l) (drop (length (flat (solutionsOf p))) out));
         some = some;
         imaged = i;
+        room = long;
       };
       every = bare-plans;
       each = refl;

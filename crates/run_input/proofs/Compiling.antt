@@ -137,10 +137,9 @@ module _ (b pairs block numbers supports images order : List ℕ) (r : Answer) (
     compiled = a .compiled e;
     wellFormed = well-sheet b pairs block good;
     ordering = subst (Ordering (p .variables)) (sym (a .order-is e)) ordered;
-    symmetries = let f = few-symmetries in omega arith;
     numbers-length = a .sizes e .numbers-length;
     supports-length = a .sizes e .supports-length;
-    images-length = a .sizes e .images-length;
+    images-length = let f = few-symmetries in let l = a .sizes e .images-length in omega arith;
   }
 
   pub compiled-moved : (numbers′ supports′ images′ : List ℕ) → Moved (problemOf b) order numbers supports images numbers′ supports′ images′

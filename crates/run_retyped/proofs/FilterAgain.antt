@@ -10,7 +10,7 @@ use Rattle.run_retyped.specs.{FilterAgain.Twice-calls, FilterAgain.Withi
 use Rattle.run_retyped.specs.inner.Turns.{byTurns, Applied}
 use Rattle.run_retyped.specs.FilterAgain.{first, second, Still, TurnsHeld, Turns-calls, Within}
 use Rattle.run_retyped.proofs.Turns.{filter-twice, filter-within, turns-largest, turns-any, turns-applied}
-use Rattle.run_retyped.specs.Retyped as A
+use Rattle.run_retyped.specs.inner.Turns as A
 
 -- the questions look at the number of sets alone
 verdict-sized : (ds rs xs es us : List ℕ) → length rs ≡ length ds → filterVerdict rs xs es us ≡ filterVerdict ds xs es us

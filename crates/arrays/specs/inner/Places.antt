@@ -9,7 +9,10 @@ abbrev pub SUPPORTS : ℕ
 SUPPORTS = 8192
 
 abbrev pub IMAGES : ℕ
-IMAGES = 26112
+IMAGES = 3072
+
+abbrev pub WIDE : ℕ
+WIDE = 26112
 
 abbrev pub TABLES : ℕ
 TABLES = 55296

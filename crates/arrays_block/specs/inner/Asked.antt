@@ -2,7 +2,7 @@
 use Rattle.model.specs.Kit.{_≡_, List, ℕ, _+_, _*_, _≤_, _<_, length}
 use Rattle.model.specs.{Lists.at, Lists.flat, Problem.Problem, Problem.respects, inner.Filling.Filled, Sheet.words, Sheet.permutesPairs, WellFormed.WellFormed}
 use Rattle.sheet_table.specs.inner.Table.{Framed, Ready, answerOf}
-use Rattle.arrays.specs.{inner.Layout.Images, inner.Layout.pairCode, inner.Places.IMAGES}
+use Rattle.arrays.specs.{inner.Layout.Images, inner.Layout.pairCode, inner.Places.IMAGES, inner.Places.WIDE}
 use Rattle.block.specs.Block.{orderings, factorial, orderingTable}
 
 -- both arrays hold a well-formed problem of at most sixteen symmetries
@@ -35,6 +35,10 @@ abbrev pub rowAnswer : Problem → ℕ → ℕ → ℕ → ℕ
 rowAnswer p first m row = answerOf (permutesPairs p (orderingTable p first m row)) (respects p (orderingTable p first m row))
 
 -- ---- images
+-- the images of a sheet's symmetries stand in front, and nothing else changed
+abbrev pub Widened : List ℕ → List ℕ → List ℕ → Type 0
+Widened images old new = Filled (λ j. j) (λ j w. w ≡ at images j) IMAGES old new
+
 -- the codes of the images of a row's table stand from `base` on, and nothing else changed
 abbrev pub RowPut : Problem → ℕ → ℕ → ℕ → ℕ → List ℕ → List ℕ → Type 0
 RowPut p first m row base old new =
@@ -46,12 +50,12 @@ pub record Imaged (p : Problem) (numbers images : List ℕ) : Type 0 where
   pub framed : Framed p numbers
   pub symmetries : length (p .symmetries) ≤ 16
   pub imaged : Images p images
-  pub sized : length images ≡ IMAGES
+  pub sized : length images ≡ WIDE
 
 -- all symmetries of a problem have their images, and there are n
 pub record Put (p : Problem) (images : List ℕ) (n : ℕ) : Type 0 where
   pub imaged : Images p images
-  pub sized : length images ≡ IMAGES
+  pub sized : length images ≡ WIDE
   pub all : n ≡ length (p .symmetries)
   pub few : n ≤ 136
 

@@ -1,8 +1,8 @@
 -- Reordering the compiled problem: what the crate's function asks and leaves.
-use Rattle.model.specs.Kit.{_≡_, List, ℕ, _≤_, length, take}
+use Rattle.model.specs.Kit.{_≡_, List, ℕ, _*_, _≤_, length, take}
 use Rattle.model.specs.{Lists.at, Problem.Problem, WellFormed.WellFormed}
 use Rattle.order.specs.{Order.Ordering, Reordered.reordered}
-use Rattle.arrays.specs.{inner.Layout.Compiled, inner.Places.IMAGES, inner.Places.NUMBERS, inner.Places.SUPPORTS}
+use Rattle.arrays.specs.{inner.Layout.Compiled, inner.Places.NUMBERS, inner.Places.SUPPORTS}
 
 -- the order of p's variables stands in the first bytes
 abbrev pub orderOf : Problem → List ℕ → List ℕ
@@ -13,10 +13,9 @@ pub record Movable (p : Problem) (order numbers supports images : List ℕ) : Ty
   pub compiled : Compiled p numbers supports images
   pub wellFormed : WellFormed p
   pub ordering : Ordering (p .variables) (orderOf p order)
-  pub symmetries : length (p .symmetries) ≤ 136
   pub numbers-length : length numbers ≡ NUMBERS
   pub supports-length : length supports ≡ SUPPORTS
-  pub images-length : length images ≡ IMAGES
+  pub images-length : 192 * length (p .symmetries) ≤ length images
 
 -- they hold the reordered problem; the numbers from 64 on are as they were
 pub record Moved (p : Problem) (order numbers supports images numbers′ supports′ images′ : List ℕ) : Type 0 where

@@ -1,7 +1,6 @@
 -- The loop: the pairs of the variables below x are in the key where they go to.
-use Rattle.model.specs.Kit.{_≡_, sym, subst, ℕ, _+_, _-_, _*_, _/_, _%_, _^_, _≤_, _<_, arith}
+use Rattle.model.specs.Kit.{_≡_, sym, subst, ℕ, _+_, _-_, _*_, _/_, _%_, _^_, _≤_, _<_, arith, length}
 use Rattle.model.specs.{Lists.at, Problem.Problem}
-use Rattle.arrays.specs.inner.Places.{IMAGES}
 use Rattle.families.specs.inner.Numbered.{Imaging, Weighed}
 use Rattle.families.proofs.{Keys.digit-small, Rows.Carrying, Rows.sent, Rows.imaging-bounds, Rows.imaging-value, Rows.imaging-index, Rows.imaging-variable}
 use Rattle.families.proofs.{Rows.carrying-begin, Rows.carrying-small, Rows.carrying-turn, Rows.carrying-end, carry.Statement.statement}
@@ -20,7 +19,8 @@ code c = let a = c .before .before .args in sent (a .rows .now) (a .images .now)
 abbrev Facts : tie.In-loop Inv-loop μ-loop → Type 0
 Facts c =
     let a = c .before .before .args in
-    (at (a .rows .now) (a .i * a .variables + c .before .loop .x) < 16) × (192 * a .k + 16 * c .before .loop .x + at (a .rows .now) (a .i * a .variables + c .before .loop .x) < IMAGES)
+    (at (a .rows .now) (a .i * a .variables + c .before .loop .x) < 16)
+    × (192 * a .k + 16 * c .before .loop .x + at (a .rows .now) (a .i * a .variables + c .before .loop .x) < length (a .images .now))
     × (code c / 16 < a .variables) × (a .variables ≤ 12) × (c .before .loop .r < 281474976710656)
 
 facts : (c : tie.In-loop Inv-loop μ-loop) → Facts c
@@ -69,9 +69,9 @@ add-code-3 : tie.Need-add-code-3 Inv-loop μ-loop
 unfolding at
 add-code-3 c = omega (arith, facts (c .before))
 
-element-copy-out-code : tie.Need-element-copy-out-code Inv-loop μ-loop
+shared-slice-read-code-2 : tie.Need-shared-slice-read-code-2 Inv-loop μ-loop
 unfolding at
-element-copy-out-code c = facts (c .before) .1
+shared-slice-read-code-2 c = facts (c .before .before) .1
 
 cast-r : tie.Need-cast-r Inv-loop μ-loop
 unfolding at
@@ -110,5 +110,5 @@ pub carry-spec : {M : Type 1} → statement M
 carry-spec =
     tie.close
     (tie.spec
-    Inv-loop μ-loop mul-base mul-from loop-holds mul-code add-code add-code-2 shared-slice-read-code cast-code add-code-3 element-copy-out-code cast-r mul-r
+    Inv-loop μ-loop mul-base mul-from loop-holds mul-code add-code add-code-2 shared-slice-read-code cast-code add-code-3 shared-slice-read-code-2 cast-r mul-r
     element-copy-out-r add-r add-x loop-less loop-again returns)

@@ -16,20 +16,20 @@ abbrev μ-loop : tie.MeasureT-loop
 -- in a turn, for the problem of the `requires`
 abbrev At-turn : tie.In-loop Inv-loop μ-loop → Type 0
 At-turn c =
-    let a = c .before .before .before .before .before .before .before .before .args in
+    let a = c .before .before .before .before .before .before .before .before .before .args in
     let f = c .before .before .before .before .fill .last in
     let l = c .before .loop in
-    Counting (c .before .before .before .before .before .before .before .before .pre .0) (a .rows .now) (a .images .now) (f .1 .1 .1 .0) (f .1 .1 .1 .1 .0) (c .before .before .weigh .last .1 .0)
-    (a .variables) (a .symmetries) (a .solutions) (l .seen) (l .queue) (l .count) (l .tail) (l .i)
+    Counting (c .before .before .before .before .before .before .before .before .before .pre .0) (a .rows .now) (a .images .now) (f .1 .1 .1 .0) (f .1 .1 .1 .1 .0)
+    (c .before .before .weigh .last .1 .0) (a .variables) (a .symmetries) (a .solutions) (l .seen) (l .queue) (l .count) (l .tail) (l .i)
 
 counting : (c : tie.In-loop Inv-loop μ-loop) → At-turn c
-counting c = let r = c .before .before .before .before .before .before .before .before .pre in c .before .loop .inv (r .0) (r .1)
+counting c = let r = c .before .before .before .before .before .before .before .before .before .pre in c .before .loop .inv (r .0) (r .1)
 
 fill-requires : tie.Need-fill-requires Inv-loop μ-loop
-fill-requires c κs = let r = c .before .before .before .pre in (r .0, r .1 .lent .listed, r .1 .every, refl, unlinked-begin)
+fill-requires c κs = let r = c .before .before .before .before .pre in (r .0, r .1 .lent .listed, r .1 .every, refl, unlinked-begin)
 
 weigh-requires : tie.Need-weigh-requires Inv-loop μ-loop
-weigh-requires c κs = let r = c .before .before .before .before .before .pre in (listed-twelve (r .1 .lent .listed), refl)
+weigh-requires c κs = let r = c .before .before .before .before .before .before .pre in (listed-twelve (r .1 .lent .listed), refl)
 
 loop-holds : tie.Need-loop-holds Inv-loop μ-loop
 loop-holds c = λ p n. counting-begin n (finder-made n (c .before .before .fill .ensures p (n .lent .listed) (n .every) unlinked-begin) (c .weigh .ensures))

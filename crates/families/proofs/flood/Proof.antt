@@ -16,13 +16,13 @@ abbrev μ-loop : tie.MeasureT-loop
 -- in a turn, for the problem of the `requires`
 abbrev At-turn : tie.In-loop Inv-loop μ-loop → Type 0
 At-turn c =
-    let a = c .before .before .before .args in
-    let r = c .before .before .before .pre in
+    let a = c .before .before .before .before .args in
+    let r = c .before .before .before .before .pre in
     let l = c .before .loop in
     Spreading (r .0) (a .rows .now) (a .images .now) (a .keys .now) (a .heads .now) (a .weights .now) (a .variables) (a .symmetries) (l .seen) (l .queue) (r .1) (r .2) (l .first) (l .end)
 
 spreading : (c : tie.In-loop Inv-loop μ-loop) → At-turn c
-spreading c = let r = c .before .before .before .pre in flooding-spread (c .before .loop .inv (r .0) (r .1) (r .2) (r .3)) (c .loop-test .taken)
+spreading c = let r = c .before .before .before .before .pre in flooding-spread (c .before .loop .inv (r .0) (r .1) (r .2) (r .3)) (c .loop-test .taken)
 
 loop-holds : tie.Need-loop-holds Inv-loop μ-loop
 loop-holds c = λ p starts count f. f

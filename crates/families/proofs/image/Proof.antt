@@ -4,7 +4,7 @@ use Rattle.families.proofs.{Rows.numbering-finding, Rows.numbering-end,
 use Rattle.families.proofs.image.Tie as tie
 
 find-requires : tie.Need-find-requires
-find-requires c κs = let r = c .before .before .pre in (_, _, numbering-finding (r .1) (c .carry .ensures (r .0) (r .1 .imaging) (r .1 .finder .weighed)))
+find-requires c κs = let r = c .before .before .before .pre in (_, _, numbering-finding (r .1) (c .carry .ensures (r .0) (r .1 .imaging) (r .1 .finder .weighed)))
 
 returns : tie.Need-returns
 returns c = λ p n. numbering-end n (c .find .ensures p _ (numbering-finding n (c .before .carry .ensures p (n .imaging) (n .finder .weighed))))

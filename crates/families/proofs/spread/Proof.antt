@@ -17,14 +17,14 @@ abbrev μ-loop : tie.MeasureT-loop
 -- the invariant in a turn, for the problem of the `requires`
 abbrev At-turn : tie.In-loop Inv-loop μ-loop → Type 0
 At-turn c =
-    let a = c .before .before .before .before .args in
-    let r = c .before .before .before .before .pre in
+    let a = c .before .before .before .before .before .args in
+    let r = c .before .before .before .before .before .pre in
     let l = c .before .loop in
     Turning (r .0) (a .rows .now) (a .images .now) (a .keys .now) (a .heads .now) (a .weights .now) (a .variables) (a .symmetries)
     (getD (a .queue .now) (a .head) 0) (l .seen) (l .queue) (r .1) (r .2) (a .head) (l .k) (l .end)
 
 turning : (c : tie.In-loop Inv-loop μ-loop) → At-turn c
-turning c = let r = c .before .before .before .before .pre in c .before .loop .inv .1 (r .0) (r .1) (r .2) (r .3)
+turning c = let r = c .before .before .before .before .before .pre in c .before .loop .inv .1 (r .0) (r .1) (r .2) (r .3)
 
 -- after the call
 small : (c : tie.After-image Inv-loop μ-loop) → c .image .result < 4096
@@ -32,15 +32,15 @@ small c = let i = c .before in let t = turning i in let l = i .loop-test .taken 
 
 mul-i : tie.Need-mul-i Inv-loop μ-loop
 unfolding at
-mul-i c = omega (arith, spread-head (c .before .pre .3))
+mul-i c = omega (arith, spread-head (c .before .before .pre .3))
 
 element-copy-out-i : tie.Need-element-copy-out-i Inv-loop μ-loop
 unfolding at
-element-copy-out-i c = spread-head (c .before .pre .3) .1
+element-copy-out-i c = spread-head (c .before .before .pre .3) .1
 
 cast-i : tie.Need-cast-i Inv-loop μ-loop
 unfolding at
-cast-i c = omega (arith, spread-head (c .before .before .pre .3))
+cast-i c = omega (arith, spread-head (c .before .before .before .pre .3))
 
 loop-holds : tie.Need-loop-holds Inv-loop μ-loop
 unfolding at

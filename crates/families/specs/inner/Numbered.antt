@@ -18,6 +18,7 @@ pub record Imaged (p : Problem) (rows images : List ℕ) (variables : ℕ) : Typ
   pub listed : Listed p rows variables
   pub some : length (p .symmetries) ≤ 136
   pub imaged : Images p images
+  pub room : 192 * length (p .symmetries) ≤ length images
 
 -- ---- keys
 -- the first n values of a row as the digits of one number, four bits each

@@ -1,7 +1,7 @@
 -- All questions once; the images and the count where there is no "no". Assumes nothing.
 use Rattle.model.specs.Kit.{sym, ap, _∙_, needs}
 use Rattle.model.specs.Lists.{at}
-use Rattle.arrays.specs.inner.Places.{IMAGES, NUMBERS, SUPPORTS}
+use Rattle.arrays.specs.inner.Places.{IMAGES, NUMBERS, SUPPORTS, WIDE}
 use Rattle.sheet.specs.Meaning.{means}
 use Rattle.sheet.proofs.Whole.{zeros}
 use Rattle.families_count.proofs.{Images.asked-so, Bare.new-whole, Bare.counted-refused, families.Statement.statement}
@@ -12,21 +12,31 @@ ask-requires c κs = (zeros NUMBERS, zeros SUPPORTS, zeros IMAGES .sized, zeros 
 
 put-images-requires : tie.Need-put-images-requires
 unfolding at
-put-images-requires c κs = let t = c .before .before .before .before in (_, asked-so _ _ _ _ _ _ _ _ (t .enum-told .given .1) (t .before .before .ask .ensures))
+put-images-requires c κs =
+    let t = c .before .before .before .before .before in
+    ((_, asked-so _ _ _ _ _ _ _ _ (t .enum-told .given .1) (t .before .before .ask .ensures)), zeros WIDE .sized)
+
+-- the wide array keeps its length
+slice-aggregate-counted : tie.Need-slice-aggregate-counted
+unfolding at
+slice-aggregate-counted c =
+    let p = c .before .before .before .before .before .before in
+    let t = p .before .before .before .before .before .before in
+    sym (p .put-images .ensures _ (asked-so _ _ _ _ _ _ _ _ (t .enum-told .given .1) (t .before .before .ask .ensures)) .1)
 
 counted-requires : tie.Need-counted-requires
 unfolding at
 counted-requires c κs =
     let p = c .before .before .before .before .before .before in
-    let t = p .before .before .before .before .before in
-    (_, _, _, new-whole _ _ _ _ _ _ _ (p .put-images .ensures _ (asked-so _ _ _ _ _ _ _ _ (t .enum-told .given .1) (t .before .before .ask .ensures))))
+    let t = p .before .before .before .before .before .before in
+    (_, _, _, new-whole _ _ _ _ _ _ _ (p .put-images .ensures _ (asked-so _ _ _ _ _ _ _ _ (t .enum-told .given .1) (t .before .before .ask .ensures)) .0))
 
 returns : tie.Need-returns
 unfolding at
 returns c =
     let p = c .before .before .before .before .before .before .before in
-    let t = p .before .before .before .before .before in
-    c .counted .ensures _ _ _ (new-whole _ _ _ _ _ _ _ (p .put-images .ensures _ (asked-so _ _ _ _ _ _ _ _ (t .enum-told .given .1) (t .before .before .ask .ensures))))
+    let t = p .before .before .before .before .before .before in
+    c .counted .ensures _ _ _ (new-whole _ _ _ _ _ _ _ (p .put-images .ensures _ (asked-so _ _ _ _ _ _ _ _ (t .enum-told .given .1) (t .before .before .ask .ensures)) .0))
 
 returns-2 : tie.Need-returns-2
 returns-2 c = counted-refused _ _ _ _ _ _ (sym (ap means (c .before .verdict .given .1)) ∙ c .before .before .before .ask .ensures .answers)
@@ -35,4 +45,4 @@ pub families-spec : {M : Type 1} → statement M
 families-spec =
     tie.close
     (tie.spec
-    ask-requires (λ c. search needs) put-images-requires counted-requires (λ c. search needs) returns returns-2)
+    ask-requires (λ c. search needs) put-images-requires slice-aggregate-counted counted-requires (λ c. search needs) returns returns-2)

@@ -38,7 +38,7 @@ answered-requires c κs =
 report-figure-requires : tie.Need-report-figure-requires
 unfolding at
 report-figure-requires c κs =
-    let w = c .before .before .before .before .before .before .before .before .before in
+    let w = c .before .before .before .before .before .before .before .before .before .before in
     let a = w .before .before .before .before .before .before .before .before in
     let k = a .pre .0 .1 in
     let n = at (a .args .numbers .now) VARIABLES in
@@ -48,14 +48,14 @@ report-figure-requires c κs =
 returns : tie.Need-returns
 unfolding at
 returns c = λ b k.
-    let w = c .before .before .before .before .before .before .before .before .before .before in
+    let w = c .before .before .before .before .before .before .before .before .before .before .before in
     let a = w .before .before .before .before .before .before .before .before in
     let n = at (a .args .numbers .now) VARIABLES in
     let l = length-take-le (4096 * n) (a .args .list .now) (omega (arith, report-few _ 0 _ _ _ k, a .pre .2)) in
     let g = w .run-arrays .ensures _ (report-runs _ (a .args .limit) _ _ _ k _ _ _ (a .pre .1) _ l) in
     let s = report-listed _ (a .args .limit) _ _ _ k _ _ _ (a .pre .1) _ l _ _ _ _ _ _ _ g in
-    report-told-so _ (a .args .limit) _ _ _ k _ _ _ (a .pre .1) _ l _ _ _ _ _ _ _ g _ refl _ (c .before .before .before .before .before .answered .ensures) _ (c .report-figure .ensures _ s) _ refl
-    (w .run-arrays .kept .1 .1 .1 .1 .1 .1 .1 .0)
+    report-told-so _ (a .args .limit) _ _ _ k _ _ _ (a .pre .1) _ l _ _ _ _ _ _ _ g _ refl _ (c .before .before .before .before .before .before .answered .ensures) _
+    (c .report-figure .ensures _ s) _ refl (w .run-arrays .kept .1 .1 .1 .1 .1 .1 .1 .0)
 
 pub report-arrays-spec : {M : Type 1} → statement M
 report-arrays-spec =

@@ -14,7 +14,7 @@ returns-2 c = λ b h. listed-plans _ _ _ _ _ _ _ _ _ h (c .before .before .befor
 
 counted-requires : tie.Need-counted-requires
 unfolding at
-counted-requires c κs = (_, _, _, listed-whole _ _ _ _ _ _ _ _ _ (c .before .before .before .before .before .before .before .pre .1))
+counted-requires c κs = (_, _, _, listed-whole _ _ _ _ _ _ _ _ _ (c .before .before .before .before .before .before .before .before .pre .1))
 
 returns-3 : tie.Need-returns-3
 unfolding at

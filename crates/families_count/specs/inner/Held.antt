@@ -49,6 +49,7 @@ pub record Put (b pairs block numbers supports images : List ℕ) (symmetries : 
   pub long : length numbers ≡ NUMBERS
   pub all : symmetries ≡ length (problemLent b pairs block .symmetries)
   pub few : symmetries ≤ 136
+  pub room : 192 * symmetries ≤ length images
 
 -- and what is lent to write on has its length
 pub record Whole (b pairs block : List ℕ) (symmetries : ℕ) (stack work supports tables numbers images : List ℕ) : Type 0 where
@@ -65,6 +66,7 @@ pub record Fresh (stack work tables : List ℕ) : Type 0 where
 pub record Listed (b : List ℕ) (limit : ℕ) (stack work supports tables numbers images : List ℕ) (stop : ℕ) : Type 0 where
   pub verdict : verdictOf b ≡ accepted
   pub compiled : Compiled (problemOf b) numbers supports images
+  pub room : 192 * length (problemOf b .symmetries) ≤ length images
   pub long : length numbers ≡ NUMBERS
   pub writable : Writable stack work tables
   pub plans : at work PLANS ≡ plansIn (resultOf (problemOf b) limit (4096 * problemOf b .variables) .ending)

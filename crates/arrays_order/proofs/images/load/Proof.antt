@@ -17,8 +17,8 @@ loop-holds c = (search needs, filled-begin _ _ _)
 add-old : tie.Need-add-old Inv-loop μ-loop
 add-old c = search needs
 
-element-copy-out-old : tie.Need-element-copy-out-old Inv-loop μ-loop
-element-copy-out-old c = search needs
+shared-slice-read-old : tie.Need-shared-slice-read-old Inv-loop μ-loop
+shared-slice-read-old c = search needs
 
 element-write-old : tie.Need-element-write-old Inv-loop μ-loop
 element-write-old c = search needs
@@ -40,4 +40,4 @@ pub load-spec : {M : Type 1} → statement M
 load-spec =
     tie.close
     (tie.spec
-    Inv-loop μ-loop loop-holds add-old element-copy-out-old element-write-old add-j loop-less loop-again returns)
+    Inv-loop μ-loop loop-holds add-old shared-slice-read-old element-write-old add-j loop-less loop-again returns)

@@ -26,7 +26,10 @@ loop-less : tie.Need-loop-less Inv-loop μ-loop
 loop-less c = search needs
 
 loop-again : tie.Need-loop-again Inv-loop μ-loop
-loop-again c = (search needs, images-turn _ _ _ _ _ _ _ (search needs) (c .before .before .before .loop .inv .1) (c .symmetry .ensures))
+loop-again c = (search needs, images-turn _ _ _ _ _ _ _ (search needs) (c .before .before .before .before .before .loop .inv .1) (c .before .before .symmetry .ensures))
+
+same-length : tie.Need-same-length Inv-loop μ-loop
+same-length c = c .before .loop .inv .1 .size
 
 returns : tie.Need-returns Inv-loop μ-loop
 returns c = images-end _ _ _ _ _ _ _ (search needs) (search needs) (c .before .loop .inv .1)
@@ -35,4 +38,4 @@ pub rename-spec : {M : Type 1} → statement M
 rename-spec =
     tie.close
     (tie.spec
-    Inv-loop μ-loop loop-holds mul-symmetry symmetry-requires add-e loop-less loop-again returns)
+    Inv-loop μ-loop loop-holds mul-symmetry symmetry-requires add-e loop-less loop-again same-length returns)

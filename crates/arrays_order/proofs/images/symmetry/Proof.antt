@@ -35,11 +35,11 @@ add-image : tie.Need-add-image Inv-loop μ-loop
 add-image c = search needs
 
 image-requires : tie.Need-image-requires Inv-loop μ-loop
-image-requires c κs = (let l : c .before .before .before .loop .j / 16 < c .before .before .before .before .before .before .before .args .n = omega
+image-requires c κs = (let l : c .before .before .before .loop .j / 16 < c .before .before .before .before .before .before .before .before .args .n = omega
     (arith, c .before .before .before .loop .inv .1) in omega (
       arith,
       c .before .entry .ensures,
-      c .before .before .before .before .before .before .before .pre .2
+      c .before .before .before .before .before .before .before .before .pre .2
           (c .before .before .before .loop .j / 16) l,
     ))
 
@@ -49,8 +49,8 @@ renamed-requires c κs = search needs
 add-images : tie.Need-add-images Inv-loop μ-loop
 add-images c = search needs
 
-element-write-images : tie.Need-element-write-images Inv-loop μ-loop
-element-write-images c = search needs
+slice-write-images : tie.Need-slice-write-images Inv-loop μ-loop
+slice-write-images c = omega (arith, c .before .before .before .before .before .loop .inv .3 .size)
 
 add-j : tie.Need-add-j Inv-loop μ-loop
 add-j c = search needs
@@ -60,24 +60,27 @@ loop-less c = search needs
 
 loop-again : tie.Need-loop-again Inv-loop μ-loop
 loop-again c =
-    let l : c .before .before .before .before .before .loop .j / 16 < c .before .before .before .before .before .before .before .before .before .args .n = omega
+    let l : c .before .before .before .before .before .loop .j / 16 < c .before .before .before .before .before .before .before .before .before .before .args .n = omega
     (arith, c .before .before .before .before .before .loop .inv .1) in
     let s : 16 * c .before .before .before .entry .result + c .before .before .before .before .before .loop .j % 16 < 192 = omega (
       arith,
       c .before .before .before .entry .ensures,
-      c .before .before .before .before .before .before .before .before .before .pre .2
+      c .before .before .before .before .before .before .before .before .before .before .pre .2
           (c .before .before .before .before .before .loop .j / 16) l,
     ) in (
       search needs,
       refl,
       c .before .before .before .before .before .loop .inv .2,
       filled-turn _ _ _ _ _ _ _ (c .before .before .before .before .before .loop .inv .3) refl (omega arith)
-          (λ v l e. omega arith) (c .renamed .ensures ∙ ap (renamedTo (c .before .before .before .before .before .before .before .before .before .args .stands .now))
+          (λ v l e. omega arith) (c .renamed .ensures ∙ ap (renamedTo (c .before .before .before .before .before .before .before .before .before .before .args .stands .now))
           (c .before .image .ensures ∙ c .before .before .before .before .before .loop .inv .2 _ s ∙ ap
-          (λ (z : ℕ). at (c .before .before .before .before .before .before .before .before .before .args .images .now)
-          (c .before .before .before .before .before .before .before .before .before .args .from + (16 * z + c .before .before .before .before .before .loop .j % 16)))
+          (λ (z : ℕ). at (c .before .before .before .before .before .before .before .before .before .before .args .images .now)
+          (c .before .before .before .before .before .before .before .before .before .before .args .from + (16 * z + c .before .before .before .before .before .loop .j % 16)))
           (c .before .before .before .entry .ensures))),
     )
+
+same-length : tie.Need-same-length Inv-loop μ-loop
+same-length c = c .before .loop .inv .3 .size
 
 returns : tie.Need-returns Inv-loop μ-loop
 returns c = filled-end _ _ _ _ _ _ (search needs) (search needs) (c .before .loop .inv .3)
@@ -86,5 +89,5 @@ pub symmetry-spec : {M : Type 1} → statement M
 symmetry-spec =
     tie.close
     (tie.spec
-    Inv-loop μ-loop load-requires mul-m loop-holds entry-requires cast-x mul-image add-image image-requires renamed-requires add-images element-write-images
-    add-j loop-less loop-again returns)
+    Inv-loop μ-loop load-requires mul-m loop-holds entry-requires cast-x mul-image add-image image-requires renamed-requires add-images slice-write-images
+    add-j loop-less loop-again same-length returns)
