@@ -1,5 +1,8 @@
 // The layout of the compiled problem: definitions (specs/), where the arrays have what, and the numbers by which the parts of the search name
-// an outcome. specs/Places.antt has the same names.
+// an outcome. specs/Places.antt has the same names. A packed scope is taken apart here.
+ghost use mathlib.Core.Path.{_≡_};
+ghost use Prim.Native.Nat.{_<_};
+ghost use Rattle.arrays.specs.inner.Layout.{arityIn, variableIn};
 
 // ---- the arrays
 pub const NUMBERS: usize = 2432;
@@ -43,6 +46,20 @@ pub const TOUCHING: usize = 0;
 pub const INITIAL: usize = 16;
 
 pub const SCOPES: usize = 32;
+
+// Of a packed scope: how many variables it has, and the variable at a place.
+pub fn arity(w: u64) -> usize
+    ensures { λ r. ⌜ r ≡ arityIn w ⌝ }
+{
+    (w % 256) as usize
+}
+
+pub fn scope_at(w: u64, i: usize) -> usize
+    requires { ⌜ i < 3 ⌝ }
+    ensures { λ r. ⌜ r ≡ variableIn w i ⌝ }
+{
+    ((w >> (8 * i + 8)) % 256) as usize
+}
 
 // How many variables, values, constraints and symmetries there are.
 pub const VARIABLES: usize = 64;

@@ -2,28 +2,12 @@
 use Rattle.model.specs.Kit.{_≡_, refl, sym, ap, _∙_, subst, List, [], _∷_, ℕ, suc, _+_, _*_, _/_, _%_, _^_, _≤_, _<_, ℕ-discrete, arith, length, set, length-set}
 use Rattle.model.specs.{Lists.at, ValueSets.has}
 use Rattle.model.proofs.Lists.{list-1, list-2, list-3, at-set, at-set-other}
-use Rattle.arrays.specs.{inner.Layout.place, inner.Places.NUMBERS}
+use Rattle.arrays.specs.{inner.Layout.place, inner.Layout.arityIn, inner.Layout.variableIn, inner.Places.NUMBERS}
 use Rattle.arrays_order.specs.inner.Steps.{Narrow, Sorting, Framed, Scope, ScopeMoved, Renamed}
 
 module _ (stands : List ℕ) (w : ℕ) (names : List ℕ) (s : Scope stands w names) where
-  name-0 : (x : ℕ) → x ≡ at stands (w / 256 % 16) → at names 0 ≡ x
-  name-0 x e =
-      let l : 0 < length names = s .some in
-      let v : w / 256 % 256 < 16 = s .variable 0 l in
-      let q : w / 256 % 256 ≡ w / 256 % 16 = omega arith in
-      sym (s .name 0 l) ∙ ap (at stands) q ∙ sym e
-
-  name-1 : 2 ≤ length names → (x : ℕ) → x ≡ at stands (w / 65536 % 16) → at names 1 ≡ x
-  name-1 l x e =
-      let v : w / 65536 % 256 < 16 = s .variable 1 l in
-      let q : w / 65536 % 256 ≡ w / 65536 % 16 = omega arith in
-      sym (s .name 1 l) ∙ ap (at stands) q ∙ sym e
-
-  name-2 : 3 ≤ length names → (x : ℕ) → x ≡ at stands (w / 16777216 % 16) → at names 2 ≡ x
-  name-2 l x e =
-      let v : w / 16777216 % 256 < 16 = s .variable 2 l in
-      let q : w / 16777216 % 256 ≡ w / 16777216 % 16 = omega arith in
-      sym (s .name 2 l) ∙ ap (at stands) q ∙ sym e
+  name-at : (i : ℕ) → i < length names → (a x : ℕ) → a ≡ variableIn w i → x ≡ at stands a → at names i ≡ x
+  name-at i l a x e f = sym (s .name i l) ∙ ap (at stands) (sym e) ∙ sym f
 
   small : (i x : ℕ) → i < length names → at names i ≡ x → x < 16
   small i x l e = subst (λ (z : ℕ). z < 16) e (s .small i l)
@@ -31,30 +15,37 @@ module _ (stands : List ℕ) (w : ℕ) (names : List ℕ) (s : Scope stands w na
   unlike : (i j x y : ℕ) → i < length names → j < length names → (i ≡ j → ⊥) → at names i ≡ x → at names j ≡ y → x ≡ y → ⊥
   unlike i j x y k l n e f q = n (s .apart i j k l (e ∙ q ∙ sym f))
 
-  pub scope-one : (x : ℕ) → w % 256 ≡ 1 → x ≡ at stands (w / 256 % 16) → (x < 16) × (names ≡ x ∷ [])
-  scope-one x a e = (small 0 x (s .some) (name-0 x e), list-1 names x (sym (s .arity) ∙ a) (name-0 x e))
+  -- by the arity n, the variables a, b, .. and their names x, y, ..
+  module _ (n : ℕ) (is : n ≡ arityIn w) (a x : ℕ) (ea : a ≡ variableIn w 0) (ex : x ≡ at stands a) where
+    name-0 : at names 0 ≡ x
+    name-0 = name-at 0 (s .some) a x ea ex
 
-  pub scope-two : (x y : ℕ) → w % 256 ≡ 2 → x ≡ at stands (w / 256 % 16) → y ≡ at stands (w / 65536 % 16) → (x < 16) × (y < 16) × (x ≡ y → ⊥) × (names ≡ x ∷ y ∷ [])
-  scope-two x y a e f =
-      let l : 2 ≤ length names = omega (arith, s .arity) in
-      let m : 0 < length names = s .some in
-      (small 0 x m (name-0 x e), small 1 y l (name-1 l y f), unlike 0 1 x y m l (λ q. omega arith) (name-0 x e) (name-1 l y f), list-2 names x y (sym (s .arity) ∙ a) (name-0 x e) (name-1 l y f))
+    pub scope-one : n ≡ 1 → (x < 16) × (names ≡ x ∷ [])
+    scope-one e = (small 0 x (s .some) name-0, list-1 names x (sym (s .arity) ∙ sym is ∙ e) name-0)
 
-  pub scope-three : (x y z : ℕ) → (w % 256 ≡ 1 → ⊥) → (w % 256 ≡ 2 → ⊥) → x ≡ at stands (w / 256 % 16) → y ≡ at stands (w / 65536 % 16) → z ≡ at stands (w / 16777216 % 16) →
-      (x < 16) × (y < 16) × (z < 16) × (x ≡ y → ⊥) × (x ≡ z → ⊥) × (y ≡ z → ⊥) × (names ≡ x ∷ y ∷ z ∷ [])
-  scope-three x y z n p e f g =
-      let a : length names ≡ 3 = omega (arith, s .arity, s .some, s .few) in
-      let l : 3 ≤ length names = omega arith in
-      let k : 2 ≤ length names = omega arith in
-      let m : 0 < length names = omega arith in (
-        small 0 x m (name-0 x e),
-        small 1 y k (name-1 k y f),
-        small 2 z l (name-2 l z g),
-        unlike 0 1 x y m k (λ q. omega arith) (name-0 x e) (name-1 k y f),
-        unlike 0 2 x z m l (λ q. omega arith) (name-0 x e) (name-2 l z g),
-        unlike 1 2 y z k l (λ q. omega arith) (name-1 k y f) (name-2 l z g),
-        list-3 names x y z a (name-0 x e) (name-1 k y f) (name-2 l z g),
-      )
+    module _ (b y : ℕ) (eb : b ≡ variableIn w 1) (ey : y ≡ at stands b) where
+      pub scope-two : n ≡ 2 → (x < 16) × (y < 16) × (x ≡ y → ⊥) × (names ≡ x ∷ y ∷ [])
+      scope-two e =
+          let l : 2 ≤ length names = omega (arith, s .arity) in
+          let q = name-at 1 l b y eb ey in
+          (small 0 x (s .some) name-0, small 1 y l q, unlike 0 1 x y (s .some) l (λ q. omega arith) name-0 q, list-2 names x y (sym (s .arity) ∙ sym is ∙ e) name-0 q)
+
+      pub scope-three : (d z : ℕ) → d ≡ variableIn w 2 → z ≡ at stands d → (n ≡ 1 → ⊥) → (n ≡ 2 → ⊥) →
+          (x < 16) × (y < 16) × (z < 16) × (x ≡ y → ⊥) × (x ≡ z → ⊥) × (y ≡ z → ⊥) × (names ≡ x ∷ y ∷ z ∷ [])
+      scope-three d z ed ez f g =
+          let l : length names ≡ 3 = omega (arith, s .arity, s .some, s .few) in
+          let k : 2 ≤ length names = omega arith in
+          let m : 3 ≤ length names = omega arith in
+          let q = name-at 1 k b y eb ey in
+          let r = name-at 2 m d z ed ez in (
+            small 0 x (s .some) name-0,
+            small 1 y k q,
+            small 2 z m r,
+            unlike 0 1 x y (s .some) k (λ q. omega arith) name-0 q,
+            unlike 0 2 x z (s .some) m (λ q. omega arith) name-0 r,
+            unlike 1 2 y z k m (λ q. omega arith) q r,
+            list-3 names x y z l name-0 q r,
+          )
 
 pub for-names : (names sure : List ℕ) (base : ℕ) (old new : List ℕ) (r : ℕ) → names ≡ sure → Sorting sure base old new r → Sorting names base old new r
 for-names names sure base old new r e q = subst (λ (l : List ℕ). Sorting l base old new r) (sym e) q

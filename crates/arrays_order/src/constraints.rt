@@ -6,6 +6,8 @@ use crate::supports::transpose_each;
 use arrays::Numbers;
 use arrays::SCOPES;
 use arrays::Supports;
+use arrays::arity;
+use arrays::scope_at;
 ghost use mathlib.Core.Path.{_≡_};
 ghost use mathlib.Core.List.{List, [], _∷_};
 ghost use Prim.Native.Nat.{ℕ, _+_, _*_, _≤_, _<_};
@@ -75,16 +77,16 @@ fn scope(stands: &[u8; 16], w: u64, base: usize, d: usize, supports: &mut Suppor
     ensures { λ r. ⌜ ScopeMoved (now (stands .entry)) w base (now (supports .entry)) (now (supports .exit)) r × Framed base (now (supports .entry))
         (now (supports .exit)) ⌝ }
 {
-    let a = w % 256;
-    let x = entry(stands, (w / 256 % 16) as usize) as u64;
+    let a = arity(w);
+    let x = entry(stands, scope_at(w, 0)) as u64;
     if a == 1 {
         return 1 + 256 * x;
     }
-    let y = entry(stands, (w / 65536 % 16) as usize) as u64;
+    let y = entry(stands, scope_at(w, 1)) as u64;
     if a == 2 {
         return two(base, x, y, supports);
     }
-    let z = entry(stands, (w / 16777216 % 16) as usize) as u64;
+    let z = entry(stands, scope_at(w, 2)) as u64;
     three(base, d, x, y, z, supports)
 }
 

@@ -67,7 +67,7 @@ module _ (p : Problem) (n0 supports images t0 : List ℕ) (c : Compact p n0 supp
   numbered-1 : Numbers p n1
   numbered-1 = numbers-kept p n0 n1 (c .wellFormed) (l .kept) (c .compiled .numbered)
 
-  rows-source : RowsSource p n1 supports
+  pub rows-source : RowsSource p n1 supports
   rows-source = record { numbered = numbered-1; supported = c .compiled .supported; wellFormed = c .wellFormed; linked = l .linked p (c .compiled .numbered) (c .wellFormed) }
 
   module _ (t1 : List ℕ) (rows : (length t1 ≡ length t0) × ((q : Problem) → RowsSource q n1 supports → Rows q t1)) (r : ℕ) (loose : LooseSet n1 t1 (at n1 VARIABLES) r)

@@ -1,13 +1,16 @@
 -- The constraints on three variables that are looked up at a depth. Assumes nothing.
-use Rattle.model.specs.Kit.{_≡_, sym, ap, _∙_, subst, Bool, List, ℕ, _+_, _*_, _/_, _%_, _≤_, _<_, arith, T, eqb, ltb, eqb→eq, length}
-use Rattle.model.specs.{Lists.at, ValueSets.has, Problem.Problem, inner.Filling.Gathered}
+use Rattle.model.specs.Kit.{_≡_, sym, ap, ap₂, _∙_, subst, Bool, List, ℕ, _+_, _*_, _/_, _%_, _≤_, _<_, arith, T, eqb, ltb, eqb→eq, length}
+use Rattle.model.specs.{Lists.at, ValueSets.has, ValueSets.oneIf, Problem.Problem, inner.Filling.Gathered}
 use Rattle.model.proofs.{Lists.both-r, Filling.gathered-lt}
-use Rattle.arrays.specs.{inner.Places.SCOPES, inner.Places.CONSTRAINTS, inner.Places.LINKED, inner.Layout.Numbers, inner.Tables.LooksUp}
+use Rattle.arrays.specs.{inner.Places.SCOPES, inner.Places.CONSTRAINTS, inner.Places.LINKED, inner.Layout.Numbers, inner.Layout.arityIn, inner.Layout.variableIn, inner.Tables.LooksUp}
 use Rattle.arrays_tables.specs.inner.Steps.{LookScopes}
 
 -- the test of constraint c, whose arity and second variable are compared at once
 abbrev pub isLook : List ℕ → ℕ → ℕ → Bool
-isLook numbers k c = eqb (at numbers (SCOPES + c) % 256 + 256 * (at numbers (SCOPES + c) / 65536 % 256 + 1)) (3 + 256 * k)
+isLook numbers k c = eqb (arityIn (at numbers (SCOPES + c)) + 256 * (variableIn (at numbers (SCOPES + c)) 1 + 1)) (3 + 256 * k)
+
+pub look-is : (w key c a b r : ℕ) → a ≡ arityIn w → b ≡ variableIn w 1 → r ≡ oneIf (eqb (a + 256 * (b + 1)) key) c → r ≡ oneIf (eqb (arityIn w + 256 * (variableIn w 1 + 1)) key) c
+look-is w key c a b r e f g = g ∙ ap₂ (λ (m n : ℕ). oneIf (eqb (m + 256 * (n + 1)) key) c) e f
 
 pub look-scopes : (numbers : List ℕ) (k r : ℕ) → Gathered (isLook numbers k) (at numbers CONSTRAINTS) r → LookScopes numbers k r
 look-scopes numbers k r g c t =

@@ -1,5 +1,5 @@
 -- The rows of constraints on two variables, one constraint after another. Assumes nothing.
-use Rattle.model.specs.Kit.{_≡_, refl, sym, ap, _∙_, subst, Bool, true, false, not, List, [], _∷_, List·Memᴰ, List·Memᴰ·head, List·Memᴰ·tail, ℕ, zero, suc, _+_, _*_, _/_, _%_, _^_}
+use Rattle.model.specs.Kit.{_≡_, refl, sym, ap, _∙_, subst, Bool, true, false, not, List, [], _∷_, List·Memᴰ, List·Memᴰ·head, List·Memᴰ·tail, ℕ, zero, suc, _+_, _*_, _%_, _^_}
 use Rattle.model.specs.Kit.{_≤_, _<_, mod-eq-of-lt, lt-of-le-of-lt, arith, ℕ-discrete, T, eqb, ltb, leb, length, bitAnd, pow-lt, eqb-true, eq-eqb, ne-eqb, lt-ltb, le-ltb, le-leb}
 use Rattle.model.specs.Kit.{lt-leb, leb-true, leb-false, ltb-true, ltb-false}
 use mathlib.Core.Path.{fun-ext}
@@ -11,7 +11,7 @@ use Rattle.model.specs.inner.Filling.{Filled, Gathered}
 use Rattle.model.proofs.{Lists.T-of, Lists.of-T, Lists.of-not, Lists.list-2, Lists.at-set-other, Lists.both-false, Sets.has-none, Sets.has-out, Sets.pow2, Sets.has-mask}
 use Rattle.model.proofs.{Sets.mask-lt, Sets.mask-ext, Masks.has-and, Masks.has-not, Masks.has-one, Masks.is-mask, Members.common-op-r, Filling.gathered-is}
 use Rattle.arrays.specs.{inner.Places.SCOPES, inner.Places.BY-ROWS, inner.Places.LOOSE, inner.Places.SMALLER, inner.Tables.linkOf, inner.Tables.byRows, inner.Tables.goes}
-use Rattle.arrays.specs.inner.Tables.{Rows}
+use Rattle.arrays.specs.{inner.Layout.variableIn, inner.Tables.Rows}
 use Rattle.arrays.proofs.Links.{good, scope-order, link-scope, by-rows-link, by-rows-two}
 use Rattle.arrays_tables.specs.inner.Steps.{RowsSource, allowedTo, goesTo, RowsTo}
 
@@ -113,23 +113,19 @@ module _ (p : Problem) (numbers supports : List ℕ) (g : RowsSource p numbers s
     pub few : y < 12
     pub link : linkOf p x y ≡ i
 
-  pub two-of : T (byRows p i) → TwoVariables (at numbers (SCOPES + i) / 256 % 16) (at numbers (SCOPES + i) / 65536 % 16)
-  two-of t = make (at (constraintAt p i .scope) 0) (at (constraintAt p i .scope) 1) (list-2 (constraintAt p i .scope) _ _ l refl refl) (g .numbered .scope i 0 h (omega (arith, l)))
-      (g .numbered .scope i 1 h (omega (arith, l)))
+  pub two-of : T (byRows p i) → (x y : ℕ) → x ≡ variableIn (at numbers (SCOPES + i)) 0 → y ≡ variableIn (at numbers (SCOPES + i)) 1 → TwoVariables x y
+  two-of t x y ex ey = record {
+    scope = is;
+    order = scope-order (constraintAt p i) x y (good (g .wellFormed) i h) is;
+    few = (let n = good (g .wellFormed) i h .inside y (subst (λ (z : List ℕ). List·Memᴰ y z) (sym is) (List·Memᴰ·tail (List·Memᴰ·head refl))) in omega (arith, g .wellFormed .few));
+    link = eqb-true (linkOf p x y) i (sym (by-rows-link p i x y is) ∙ of-T (byRows p i) t);
+  }
     where
       l : length (constraintAt p i .scope) ≡ 2
       l = by-rows-two p i t
 
-      make : (a b : ℕ) → constraintAt p i .scope ≡ a ∷ b ∷ [] → at numbers (SCOPES + i) / 256 % 256 ≡ a → at numbers (SCOPES + i) / 65536 % 256 ≡ b → TwoVariables
-          (at numbers (SCOPES + i) / 256 % 16) (at numbers (SCOPES + i) / 65536 % 16)
-      make a b s u v =
-          let o : a < b = scope-order (constraintAt p i) a b (good (g .wellFormed) i h) s in
-          let n : b < p .variables = good (g .wellFormed) i h .inside b (subst (λ (z : List ℕ). List·Memᴰ b z) (sym s) (List·Memᴰ·tail (List·Memᴰ·head refl))) in
-          let f : b < 12 = omega (arith, g .wellFormed .few) in
-          let q : a ≡ at numbers (SCOPES + i) / 256 % 16 = omega arith in
-          let r : b ≡ at numbers (SCOPES + i) / 65536 % 16 = omega arith in
-          let k : linkOf p a b ≡ i = eqb-true (linkOf p a b) i (sym (by-rows-link p i a b s) ∙ of-T (byRows p i) t) in
-          subst (λ (z : ℕ). TwoVariables z (at numbers (SCOPES + i) / 65536 % 16)) q (subst (λ (z : ℕ). TwoVariables a z) r (record { scope = s; order = o; few = f; link = k }))
+      is : constraintAt p i .scope ≡ x ∷ y ∷ []
+      is = list-2 (constraintAt p i .scope) x y l (sym (g .numbered .scope i 0 h (omega (arith, l))) ∙ sym ex) (sym (g .numbered .scope i 1 h (omega (arith, l))) ∙ sym ey)
 
   module _ (x y : ℕ) (d : TwoVariables x y) where
     -- no other two variables have it

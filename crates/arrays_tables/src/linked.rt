@@ -7,6 +7,7 @@ use arrays::Numbers;
 use arrays::OTHERS;
 use arrays::SCOPES;
 use arrays::VARIABLES;
+use arrays::arity;
 ghost use mathlib.Core.Path.{_≡_};
 ghost use mathlib.Core.Bool.{not};
 ghost use Prim.Native.Nat.{_+_, _-_, _^_, _≤_, _<_};
@@ -27,7 +28,7 @@ fn first(numbers: &Numbers, k: usize) -> bool
     ensures { λ r. ⌜ ((p : Problem) → Numbers p (now (numbers .entry)) → k < length (p .constraints) → r ≡ byRows p k) ⌝ }
 {
     let w = numbers[SCOPES + k] % 16777216;
-    if w % 256 != 2 {
+    if arity(w) != 2 {
         return false;
     }
     let mut i = 0;

@@ -5,6 +5,8 @@ use arrays::LOOKS;
 use arrays::Numbers;
 use arrays::SCOPES;
 use arrays::VALUES;
+use arrays::arity;
+use arrays::scope_at;
 ghost use mathlib.Core.Path.{_≡_};
 ghost use Prim.Native.Nat.{_+_, _≤_};
 ghost use lib.ListN.{length};
@@ -23,12 +25,12 @@ fn at_depth(numbers: &Numbers, k: usize) -> u64
         return 0;
     }
     let c = numbers[CONSTRAINTS] as usize;
-    let key = 3 + 256 * (k as u64);
+    let key = 3 + 256 * k;
     let mut all = 0u64;
     let mut i = 0;
     while i < c {
         let w = numbers[SCOPES + i];
-        all = all | one_if(w % 256 + 256 * (w / 65536 % 256 + 1) == key, i);
+        all = all | one_if(arity(w) + 256 * (scope_at(w, 1) + 1) == key, i);
         i += 1;
     }
     all

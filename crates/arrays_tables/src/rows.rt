@@ -8,6 +8,7 @@ use arrays::SCOPES;
 use arrays::SMALLER;
 use arrays::Supports;
 use arrays::Tables;
+use arrays::scope_at;
 use model::ValueSet;
 ghost use mathlib.Core.Path.{_≡_};
 ghost use Prim.Native.Nat.{_+_, _*_, _≤_, _<_};
@@ -80,7 +81,7 @@ fn back(supports: &Supports, base: usize, from: usize, tables: &mut Tables)
 
 // The rows of constraint k, if it is pruned by variable.
 fn link(numbers: &Numbers, supports: &Supports, k: usize, tables: &mut Tables)
-    requires { ⌜ (k < 32) × (length (now tables) ≡ TABLES) ⌝ }
+    requires { ⌜ ((p : Problem) × RowsSource p (now numbers) (now supports) × (k < length (p .constraints))) × (length (now tables) ≡ TABLES) ⌝ }
     ensures { λ _. ⌜ (length (now (tables .exit)) ≡ length (now (tables .entry))) ×
         ((p : Problem) → RowsSource p (now (numbers .entry)) (now (supports .entry)) → k < length (p .constraints) → RowsTo p k (now (tables .entry))
         → RowsTo p (k + 1) (now (tables .exit))) ⌝ }
@@ -89,15 +90,15 @@ fn link(numbers: &Numbers, supports: &Supports, k: usize, tables: &mut Tables)
         return;
     }
     let w = numbers[SCOPES + k];
-    let x = (w / 256 % 16) as usize;
-    let y = (w / 65536 % 16) as usize;
+    let x = scope_at(w, 0);
+    let y = scope_at(w, 1);
     across(supports, 256 * k, 256 * x + y, tables);
     back(supports, 256 * k, 256 * y + x, tables);
 }
 
 // The rows of every variable, value and other variable.
 pub fn rows(numbers: &Numbers, supports: &Supports, tables: &mut Tables)
-    requires { ⌜ (at (now numbers) CONSTRAINTS ≤ 32) × (length (now tables) ≡ TABLES) ⌝ }
+    requires { ⌜ ((p : Problem) × RowsSource p (now numbers) (now supports)) × (length (now tables) ≡ TABLES) ⌝ }
     ensures { λ _. ⌜ (length (now (tables .exit)) ≡ length (now (tables .entry))) ×
         ((p : Problem) → RowsSource p (now (numbers .entry)) (now (supports .entry)) → Rows p (now (tables .exit))) ⌝ }
 {

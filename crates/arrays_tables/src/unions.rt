@@ -5,6 +5,7 @@ use arrays::Numbers;
 use arrays::SCOPES;
 use arrays::Supports;
 use arrays::UNIONS;
+use arrays::arity;
 ghost use mathlib.Core.Path.{_≡_};
 ghost use Prim.Native.Nat.{_+_, _*_, _/_, _%_, _≤_, _<_};
 ghost use lib.ListN.{length};
@@ -47,7 +48,7 @@ fn unite(supports: &Supports, numbers: &mut Numbers, k: usize)
     }
 }
 
-// The unions of the constraints on three variables, and how many of these there are: an arity of 3 is the packed scope's first byte.
+// The unions of the constraints on three variables, and how many of these there are.
 pub fn unions(supports: &Supports, numbers: &mut Numbers) -> usize
     requires { ⌜ length (now numbers) ≡ NUMBERS ⌝ }
     ensures { λ r. ⌜ Unions (now (supports .entry)) 32 (now (numbers .entry)) (now (numbers .exit)) r ⌝ }
@@ -55,7 +56,7 @@ pub fn unions(supports: &Supports, numbers: &mut Numbers) -> usize
     let mut some = 0;
     let mut k = 0;
     while k < 32 {
-        if numbers[SCOPES + k] % 256 == 3 {
+        if arity(numbers[SCOPES + k]) == 3 {
             unite(supports, numbers, k);
             some += 1;
         }

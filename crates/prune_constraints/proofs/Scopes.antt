@@ -2,7 +2,7 @@
 use Rattle.model.specs.Kit.{_≡_, refl, sym, ap, _∙_, subst, List, [], _∷_, List·Memᴰ, List·Memᴰ·head, List·Memᴰ·tail, ℕ, _+_, _/_, _%_, _<_, arith, T, length}
 use Rattle.model.specs.{Lists.at, Lists.ascending, Problem.Problem, Problem.constraintAt}
 use Rattle.model.proofs.Lists.{list-1, list-2, list-3}
-use Rattle.arrays.specs.inner.Places.{SCOPES}
+use Rattle.arrays.specs.{inner.Places.SCOPES, inner.Layout.arityIn, inner.Layout.variableIn}
 use Rattle.arrays.proofs.Links.{good}
 use Rattle.prune_constraints.specs.inner.Steps.{ConstraintsHeld, Scoped}
 
@@ -31,19 +31,25 @@ module _ {p : Problem} {numbers supports : List ℕ} (g : ConstraintsHeld p numb
     table = λ vs l b. g .tabled k h vs (l ∙ ap length (sym e)) b;
   }
 
+  -- x, y and z are what is read of it
+  module _ (x : ℕ) (ex : x ≡ variableIn word 0) where
+    pub read-1 : (arityIn word ≡ 3 → ⊥) → (arityIn word ≡ 2 → ⊥) → Scoped (constraintAt p k) supports k (x ∷ [])
+    read-1 a b =
+        let e = g .numbered .arity k h in
+        let l : length (constraintAt p k .scope) ≡ 1 = omega (arith, good (g .wellFormed) k h .some, good (g .wellFormed) k h .few) in
+        scoped _ (list-1 (constraintAt p k .scope) x l (sym (g .numbered .scope k 0 h (omega (arith, l))) ∙ sym ex))
+
+    module _ (y : ℕ) (ey : y ≡ variableIn word 1) where
+      pub read-2 : arityIn word ≡ 2 → Scoped (constraintAt p k) supports k (x ∷ y ∷ [])
+      read-2 e =
+          let l = sym (g .numbered .arity k h) ∙ e in
+          scoped _ (list-2 (constraintAt p k .scope) x y l (sym (g .numbered .scope k 0 h (omega (arith, l))) ∙ sym ex) (sym (g .numbered .scope k 1 h (omega (arith, l))) ∙ sym ey))
+
+      pub read-3 : (z : ℕ) → z ≡ variableIn word 2 → arityIn word ≡ 3 → Scoped (constraintAt p k) supports k (x ∷ y ∷ z ∷ [])
+      read-3 z ez e =
+          let l = sym (g .numbered .arity k h) ∙ e in
+          scoped _ (list-3 (constraintAt p k .scope) x y z l (sym (g .numbered .scope k 0 h (omega (arith, l))) ∙ sym ex) (sym (g .numbered .scope k 1 h (omega (arith, l))) ∙ sym ey)
+          (sym (g .numbered .scope k 2 h (omega (arith, l))) ∙ sym ez))
+
   pub scoped-3 : word % 256 ≡ 3 → Scoped (constraintAt p k) supports k (scope3 (at numbers (SCOPES + k)))
-  scoped-3 e =
-      let l = sym (g .numbered .arity k h) ∙ e in
-      scoped _ (list-3 (constraintAt p k .scope) _ _ _ l (sym (g .numbered .scope k 0 h (omega (arith, l)))) (sym (g .numbered .scope k 1 h (omega (arith, l))))
-      (sym (g .numbered .scope k 2 h (omega (arith, l)))))
-
-  pub scoped-2 : word % 256 ≡ 2 → Scoped (constraintAt p k) supports k (word / 256 % 256 ∷ word / 65536 % 256 ∷ [])
-  scoped-2 e =
-      let l = sym (g .numbered .arity k h) ∙ e in
-      scoped _ (list-2 (constraintAt p k .scope) _ _ l (sym (g .numbered .scope k 0 h (omega (arith, l)))) (sym (g .numbered .scope k 1 h (omega (arith, l)))))
-
-  pub scoped-1 : (word % 256 ≡ 3 → ⊥) → (word % 256 ≡ 2 → ⊥) → Scoped (constraintAt p k) supports k (word / 256 % 256 ∷ [])
-  scoped-1 a b =
-      let e = g .numbered .arity k h in
-      let l : length (constraintAt p k .scope) ≡ 1 = omega (arith, good (g .wellFormed) k h .some, good (g .wellFormed) k h .few) in
-      scoped _ (list-1 (constraintAt p k .scope) _ l (sym (g .numbered .scope k 0 h (omega (arith, l)))))
+  scoped-3 e = read-3 _ refl _ refl _ refl e

@@ -7,6 +7,8 @@ use arrays::SPREAD;
 use arrays::Supports;
 use arrays::UNIONS;
 use arrays::VALUES;
+use arrays::arity;
+use arrays::scope_at;
 use model::ValueSet;
 ghost use mathlib.Core.Path.{_≡_};
 ghost use mathlib.Core.Bool.{true, not};
@@ -358,9 +360,9 @@ fn revise_few(sets: &mut [u16; 16], numbers: &Numbers, supports: &Supports, k: u
         (constraintAt p k) (now (sets .entry)) (now (sets .exit)) r) ⌝ }
 {
     let w = numbers[SCOPES + k];
-    let x = (w / 256 % 256) as usize;
-    if w % 256 == 2 {
-        let y = (w / 65536 % 256) as usize;
+    let x = scope_at(w, 0);
+    if arity(w) == 2 {
+        let y = scope_at(w, 1);
         return revise_two(sets, supports, k, x, y);
     }
     revise_one(sets, supports, 256 * k, x)
@@ -375,12 +377,12 @@ fn revise16(sets: &mut [u16; 16], numbers: &Numbers, supports: &Supports, k: usi
         (constraintAt p k) (now (sets .entry)) (now (sets .exit)) r) ⌝ }
 {
     let w = numbers[SCOPES + k];
-    if w % 256 != 3 {
+    if arity(w) != 3 {
         return revise_few(sets, numbers, supports, k);
     }
-    let x = (w / 256 % 256) as usize;
-    let y = (w / 65536 % 256) as usize;
-    let z = (w / 16777216 % 256) as usize;
+    let x = scope_at(w, 0);
+    let y = scope_at(w, 1);
+    let z = scope_at(w, 2);
     let a = ValueSet { bits: sets[x] };
     let b = ValueSet { bits: sets[y] };
     let e = ValueSet { bits: sets[z] };
@@ -405,12 +407,12 @@ fn revise8(sets: &mut [u16; 16], numbers: &Numbers, supports: &Supports, k: usiz
         (constraintAt p k) (now (sets .entry)) (now (sets .exit)) r) ⌝ }
 {
     let w = numbers[SCOPES + k];
-    if w % 256 != 3 {
+    if arity(w) != 3 {
         return revise_few(sets, numbers, supports, k);
     }
-    let x = (w / 256 % 256) as usize;
-    let y = (w / 65536 % 256) as usize;
-    let z = (w / 16777216 % 256) as usize;
+    let x = scope_at(w, 0);
+    let y = scope_at(w, 1);
+    let z = scope_at(w, 2);
     let a = ValueSet { bits: sets[x] };
     let b = ValueSet { bits: sets[y] };
     if a.without_lowest().is_empty() {

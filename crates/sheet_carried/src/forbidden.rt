@@ -39,7 +39,7 @@ pub fn arity(numbers: &Numbers, k: usize) -> usize
     requires { ⌜ ((p : Problem) × Framed p (now numbers) × (k < length (p .constraints))) ⌝ }
     ensures { λ r. ⌜ ((p : Problem) → Framed p (now (numbers .entry)) → k < length (p .constraints) → r ≡ length (constraintAt p k .scope)) ⌝ }
 {
-    number(numbers, SCOPES + k) % 256
+    arrays::arity(numbers[SCOPES + k])
 }
 
 pub fn scope_at(numbers: &Numbers, k: usize, i: usize) -> usize
@@ -47,7 +47,7 @@ pub fn scope_at(numbers: &Numbers, k: usize, i: usize) -> usize
     ensures { λ r. ⌜ ((p : Problem) → Framed p (now (numbers .entry)) → k < length (p .constraints) → i < length (constraintAt p k .scope) → r ≡ at
         (constraintAt p k .scope) i) ⌝ }
 {
-    (number(numbers, SCOPES + k) >> (8 * i + 8)) % 256
+    arrays::scope_at(numbers[SCOPES + k], i)
 }
 
 // Two pairs of one variable.

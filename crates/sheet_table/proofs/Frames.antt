@@ -1,24 +1,12 @@
 -- What the numbers hold: scopes and pairs. Assumes nothing.
-use Rattle.model.specs.Kit.{_≡_, refl, sym, ap, ap₂, _∙_, subst, Bool, false, List, ℕ, zero, suc, _+_, _*_, _/_, _%_, _^_, _≤_, _<_, mul-le-mul, arith, length, lt-ltb, le-ltb}
-use native.Mathlib.Nat.{mod-lt, pow-suc}
-use lib.Pow.{pow-add}
+use Rattle.model.specs.Kit.{_≡_, sym, ap, ap₂, _∙_, subst, Bool, false, List, ℕ, _+_, _*_, _/_, _%_, _^_, _≤_, _<_, mul-le-mul, arith, length, lt-ltb, le-ltb}
+use native.Mathlib.Nat.{mod-lt}
 use Rattle.model.specs.{Lists.at, Lists.both, ValueSets.has, Problem.Problem, Problem.isPair, Problem.constraintAt}
 use Rattle.sheet_table.specs.inner.Table.{Framed}
 use Rattle.sheet_table.proofs.Codes.{good, div-small, init-small}
 
-pow-256 : (i : ℕ) → 256 ^ suc i ≡ 2 ^ (8 * i + 8)
-pow-256 zero = refl
-pow-256 (suc i) =
-    pow-suc 256 (suc i) ∙ ap (λ (n : ℕ). n * 256) (pow-256 i) ∙ sym (pow-add 2 (8 * i + 8) 8) ∙ ap (λ (n : ℕ). 2 ^ n) (let e : 8 * i + 8 + 8 ≡ 8 * suc i + 8 = omega arith in e)
-
 module _ (p : Problem) (numbers : List ℕ) (f : Framed p numbers) where
   -- ---- a constraint's scope
-  pub at-arity : (k r : ℕ) → k < length (p .constraints) → r ≡ at numbers (32 + k) → r % 256 ≡ length (constraintAt p k .scope)
-  at-arity k r h e = ap (λ (n : ℕ). n % 256) e ∙ f .numbered .arity k h
-
-  pub at-scope : (k i r : ℕ) → k < length (p .constraints) → i < length (constraintAt p k .scope) → r ≡ at numbers (32 + k) → r / 2 ^ (8 * i + 8) % 256 ≡ at (constraintAt p k .scope) i
-  at-scope k i r h l e = ap₂ (λ (n m : ℕ). n / m % 256) e (sym (pow-256 i)) ∙ f .numbered .scope k i h l
-
   pub few-places : (k i : ℕ) → k < length (p .constraints) → i < length (constraintAt p k .scope) → i < 3
   few-places k i h l = omega (arith, good p (f .stated) k h .few)
 

@@ -9,16 +9,23 @@ place [] = 0
 place (x ∷ []) = x
 place (x ∷ y ∷ r) = 16 * x + y
 
+-- a packed scope: the arity, then the variables, a byte each
+abbrev pub arityIn : ℕ → ℕ
+arityIn w = w % 256
+
+abbrev pub variableIn : ℕ → ℕ → ℕ
+variableIn w i = w / 256 ^ suc i % 256
+
 -- `numbers`: at the front, for each of sixteen variables, the set of the constraints that have it in their scope;
--- the initial sets, {0} for a variable from n up; for each constraint its arity and its scope, a byte each; n, d, c and g
+-- the initial sets, {0} for a variable from n up; for each constraint its packed scope; n, d, c and g
 pub record Numbers (p : Problem) (numbers : List ℕ) : Type 0 where
   pub touching : (x k : ℕ) → x < 16 → k < length (p .constraints) → has (at numbers x) k ≡ any (eqb x) (constraintAt p k .scope)
   pub touching-few : (x : ℕ) → x < 16 → at numbers x < 2 ^ length (p .constraints)
   pub initial : (x : ℕ) → x < p .variables → at numbers (INITIAL + x) ≡ at (p .initial) x
   pub unused : (x : ℕ) → p .variables ≤ x → x < 16 → at numbers (INITIAL + x) ≡ 1
-  pub arity : (k : ℕ) → k < length (p .constraints) → at numbers (SCOPES + k) % 256 ≡ length (constraintAt p k .scope)
+  pub arity : (k : ℕ) → k < length (p .constraints) → arityIn (at numbers (SCOPES + k)) ≡ length (constraintAt p k .scope)
   pub scope : (k i : ℕ) → k < length (p .constraints) → i < length (constraintAt p k .scope) →
-      at numbers (SCOPES + k) / 256 ^ suc i % 256 ≡ at (constraintAt p k .scope) i
+      variableIn (at numbers (SCOPES + k)) i ≡ at (constraintAt p k .scope) i
   pub variables : at numbers VARIABLES ≡ p .variables
   pub values : at numbers VALUES ≡ p .values
   pub constraints : at numbers CONSTRAINTS ≡ length (p .constraints)

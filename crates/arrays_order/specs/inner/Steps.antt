@@ -3,7 +3,7 @@ use Rattle.model.specs.Kit.{_≡_, Bool, false, _↔_, List, [], _∷_, _++_, L
 use Rattle.model.specs.{Lists.at, Lists.both, ValueSets.has, ValueSets.maskOf, ValueSets.least, inner.Filling.Filled}
 use Rattle.order.specs.Reordered.{valueOf}
 use Rattle.model.proofs.Lists.{Sorted}
-use Rattle.arrays.specs.inner.Layout.{place}
+use Rattle.arrays.specs.inner.Layout.{place, arityIn, variableIn}
 
 -- ---- places
 -- where x stands among the first n of the order, n where it does not
@@ -81,8 +81,8 @@ pub record Sorting (names : List ℕ) (base : ℕ) (old new : List ℕ) (r : ℕ
   pub ascends : Sorted (λ (x y : ℕ). x < y) sorted
   pub same : (i : ℕ) → List·Memᴰ i sorted ↔ List·Memᴰ i names
   pub long : length sorted ≡ length names
-  pub arity : r % 256 ≡ length sorted
-  pub scope : (i : ℕ) → i < length sorted → r / 256 ^ suc i % 256 ≡ at sorted i
+  pub arity : arityIn r ≡ length sorted
+  pub scope : (i : ℕ) → i < length sorted → variableIn r i ≡ at sorted i
   pub meant : (Q : (ℕ → ℕ) → Bool) → Meant Q names base old → Meant Q sorted base new
 
 -- only the 256 sets from a base on may have changed
@@ -93,11 +93,11 @@ pub record Framed (base : ℕ) (old new : List ℕ) : Type 0 where
 
 -- the number w is that of a scope whose variables have these names
 pub record Scope (stands : List ℕ) (w : ℕ) (names : List ℕ) : Type 0 where
-  pub arity : w % 256 ≡ length names
+  pub arity : arityIn w ≡ length names
   pub some : 1 ≤ length names
   pub few : length names ≤ 3
-  pub variable : (i : ℕ) → i < length names → w / 256 ^ suc i % 256 < 16
-  pub name : (i : ℕ) → i < length names → at stands (w / 256 ^ suc i % 256) ≡ at names i
+  pub variable : (i : ℕ) → i < length names → variableIn w i < 16
+  pub name : (i : ℕ) → i < length names → at stands (variableIn w i) ≡ at names i
   pub small : (i : ℕ) → i < length names → at names i < 16
   pub apart : (i j : ℕ) → i < length names → j < length names → at names i ≡ at names j → i ≡ j
 

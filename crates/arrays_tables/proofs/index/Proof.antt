@@ -1,6 +1,6 @@
 -- All tables, one kind after another. Assumes nothing.
 use Rattle.model.specs.Kit.{_∙_, needs}
-use Rattle.arrays_tables.proofs.Assembled.{bounds, link-bounds, looks-bounds, lanes-long, lanes-bounds, made}
+use Rattle.arrays_tables.proofs.Assembled.{bounds, link-bounds, rows-source, looks-bounds, lanes-long, lanes-bounds, made}
 use Rattle.arrays_tables.proofs.index.Statement.{statement}
 use Rattle.arrays_tables.proofs.index.Tie as tie
 
@@ -8,7 +8,7 @@ linked-requires : tie.Need-linked-requires
 linked-requires c κs = let q = c .before .pre in let b = bounds _ _ _ _ _ (q .1) in (b .0, b .1, q .1 .numbers-length)
 
 rows-requires : tie.Need-rows-requires
-rows-requires c κs = let q = c .before .before .before .before .pre in (link-bounds _ _ _ _ _ (q .1) _ (c .before .before .linked .ensures) .1, q .1 .tables-length)
+rows-requires c κs = let q = c .before .before .before .before .pre in ((_, rows-source _ _ _ _ _ (q .1) _ (c .before .before .linked .ensures)), q .1 .tables-length)
 
 loose-requires : tie.Need-loose-requires
 loose-requires c κs = link-bounds _ _ _ _ _ (c .before .before .before .before .before .before .before .pre .1) _ (c .before .before .before .before .before .linked .ensures) .0

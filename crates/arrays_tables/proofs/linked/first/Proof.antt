@@ -1,5 +1,5 @@
 -- No constraint before has the same number. Assumes nothing.
-use Rattle.model.specs.Kit.{_≡_, refl, ℕ, _+_, _-_, _%_, _≤_, _<_, arith, needs}
+use Rattle.model.specs.Kit.{_≡_, refl, sym, _∙_, ℕ, _+_, _-_, _%_, _≤_, _<_, arith, needs}
 use Rattle.model.specs.Lists.{at}
 use Rattle.arrays.specs.inner.Places.{SCOPES}
 use Rattle.arrays_tables.proofs.{Scopes.first-other, Scopes.first-no, Scopes.first-yes, Scopes.none-more, linked.first.Statement.statement}
@@ -22,7 +22,7 @@ element-copy-out-w c = search needs
 
 returns : tie.Need-returns Inv-loop μ-loop
 unfolding at
-returns c = λ p nb h. first-other p _ nb _ h (c .if1 .taken)
+returns c = λ p nb h. first-other p _ nb _ h (λ e. c .if1 .taken (c .before .arity .ensures ∙ e))
 
 loop-holds : tie.Need-loop-holds Inv-loop μ-loop
 unfolding at
@@ -39,7 +39,8 @@ element-copy-out-if2 c = search needs
 
 returns-2 : tie.Need-returns-2 Inv-loop μ-loop
 unfolding at
-returns-2 c = λ p nb h. first-no p _ nb _ h (c .before .before .before .before .if1 .left) _ (c .before .before .loop-test .taken) (c .if2 .taken)
+returns-2 c = λ p nb h. first-no p _ nb _ h (sym (c .before .before .before .before .before .arity .ensures) ∙ c .before .before .before .before .if1 .left) _
+    (c .before .before .loop-test .taken) (c .if2 .taken)
 
 add-i : tie.Need-add-i Inv-loop μ-loop
 add-i c = search needs
@@ -52,16 +53,16 @@ unfolding at
 loop-again c = (
   search needs,
   refl,
-  none-more (λ j. at (c .before .before .before .before .before .before .args .numbers .now) (SCOPES + j) % 16777216) _ _
+  none-more (λ j. at (c .before .before .before .before .before .before .before .args .numbers .now) (SCOPES + j) % 16777216) _ _
       (c .before .before .before .loop .inv .2) (c .if2 .left),
 )
 
 returns-3 : tie.Need-returns-3 Inv-loop μ-loop
 unfolding at
-returns-3 c = λ p nb h. first-yes p _ nb _ h (c .before .before .if1 .left) (λ j l. c .before .loop .inv .2 j (omega arith))
+returns-3 c = λ p nb h. first-yes p _ nb _ h (sym (c .before .before .before .arity .ensures) ∙ c .before .before .if1 .left) (λ j l. c .before .loop .inv .2 j (omega arith))
 
 pub first-spec : {M : Type 1} → statement M
 first-spec =
     tie.close
     (tie.spec
-    Inv-loop μ-loop add-w mul-w element-copy-out-w returns loop-holds add-if2 mul-if2 element-copy-out-if2 returns-2 add-i loop-less loop-again returns-3)
+    Inv-loop μ-loop add-w mul-w element-copy-out-w (λ c κs. search needs) returns loop-holds add-if2 mul-if2 element-copy-out-if2 returns-2 add-i loop-less loop-again returns-3)

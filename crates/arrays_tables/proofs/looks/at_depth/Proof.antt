@@ -3,7 +3,7 @@ use Rattle.model.specs.Kit.{_≡_, refl, _+_, _-_, _*_, _≤_, arith, needs}
 use Rattle.model.specs.{Lists.at, inner.Filling.Gathered}
 use Rattle.model.proofs.{Members.has-0, Filling.gathered-begin, Filling.gathered-turn, Filling.gathered-end}
 use Rattle.arrays.specs.inner.Places.{CONSTRAINTS}
-use Rattle.arrays_tables.proofs.{LookScopes.isLook, LookScopes.look-scopes, looks.at_depth.Statement.statement}
+use Rattle.arrays_tables.proofs.{LookScopes.isLook, LookScopes.look-is, LookScopes.look-scopes, looks.at_depth.Statement.statement}
 use Rattle.arrays_tables.proofs.looks.at_depth.Tie as tie
 
 abbrev Inv-loop : tie.InvT-loop
@@ -40,6 +40,12 @@ mul-w c = search needs
 element-copy-out-w : tie.Need-element-copy-out-w Inv-loop μ-loop
 element-copy-out-w c = search needs
 
+arity-requires : tie.Need-arity-requires Inv-loop μ-loop
+arity-requires c κs = search needs
+
+scope-at-requires : tie.Need-scope-at-requires Inv-loop μ-loop
+scope-at-requires c κs = search needs
+
 add-one-if : tie.Need-add-one-if Inv-loop μ-loop
 add-one-if c = search needs
 
@@ -60,7 +66,13 @@ loop-less c = search needs
 
 loop-again : tie.Need-loop-again Inv-loop μ-loop
 unfolding at
-loop-again c = (search needs, c .before .before .before .loop .inv .1, c .before .before .before .loop .inv .2, gathered-turn _ _ _ _ (c .before .before .before .loop .inv .3) (c .one-if .ensures))
+loop-again c =
+    let l = c .before .before .before .before .before .loop in (
+      search needs,
+      l .inv .1,
+      l .inv .2,
+      gathered-turn _ _ _ _ (l .inv .3) (look-is _ _ _ _ _ _ (c .before .before .arity .ensures) (c .before .scope-at .ensures) (c .one-if .ensures)),
+    )
 
 returns-2 : tie.Need-returns-2 Inv-loop μ-loop
 returns-2 c = look-scopes _ _ _ (gathered-end _ _ _ _ (omega (arith, c .before .loop .inv .1)) (omega (arith, c .before .loop .inv .1)) (c .before .loop .inv .3))
@@ -69,5 +81,5 @@ pub at-depth-spec : {M : Type 1} → statement M
 at-depth-spec =
     tie.close
     (tie.spec
-    Inv-loop μ-loop element-copy-out-if1 returns element-copy-out-c mul-key add-key loop-holds add-w mul-w element-copy-out-w add-one-if mul-one-if add-one-if-2
-    one-if-requires add-i loop-less loop-again returns-2)
+    Inv-loop μ-loop element-copy-out-if1 returns element-copy-out-c mul-key add-key loop-holds add-w mul-w element-copy-out-w arity-requires scope-at-requires add-one-if mul-one-if
+    add-one-if-2 one-if-requires add-i loop-less loop-again returns-2)

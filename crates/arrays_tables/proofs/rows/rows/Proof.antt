@@ -23,7 +23,10 @@ unfolding at
 loop-holds c = (search needs, refl, c .before .clear .ensures .size ∙ c .before .before .before .pre .1, λ p g. rows-begin p _ _ (c .before .clear .ensures))
 
 link-requires : tie.Need-link-requires Inv-loop μ-loop
-link-requires c κs = search needs
+link-requires c κs =
+    let q = c .before .before .before .before .before .before .pre .0 in
+    let l = c .before .before .loop .inv in
+    ((q .0, q .1, omega (arith, q .1 .numbered .constraints, l .1, c .before .loop-test .taken)), l .2)
 
 add-k : tie.Need-add-k Inv-loop μ-loop
 add-k c = search needs

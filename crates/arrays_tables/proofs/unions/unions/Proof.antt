@@ -1,7 +1,7 @@
 -- The unions of one constraint after another. Assumes nothing.
-use Rattle.model.specs.Kit.{_≡_, refl, sym, ap, _∙_, subst₂, _⊎_, inl, inr, ⊎-elim, ℕ, _+_, _-_, _%_, _≤_, arith, needs}
+use Rattle.model.specs.Kit.{_≡_, refl, sym, ap, _∙_, subst₂, _⊎_, inl, inr, ⊎-elim, _+_, _-_, _≤_, arith, needs}
 use Rattle.model.specs.Lists.{at}
-use Rattle.arrays.specs.inner.Places.{SCOPES}
+use Rattle.arrays.specs.{inner.Places.SCOPES, inner.Layout.arityIn}
 use Rattle.arrays_tables.specs.inner.Steps.{Unions}
 use Rattle.arrays_tables.proofs.{UnionTables.unions-begin, UnionTables.unions-turn, UnionTables.unions-end, unions.unions.Statement.statement}
 use Rattle.arrays_tables.proofs.unions.unions.Tie as tie
@@ -15,14 +15,17 @@ abbrev μ-loop : tie.MeasureT-loop
 loop-holds : tie.Need-loop-holds Inv-loop μ-loop
 loop-holds c = (search needs, search needs, unions-begin _ _)
 
-add-if1 : tie.Need-add-if1 Inv-loop μ-loop
-add-if1 c = search needs
+add-arity : tie.Need-add-arity Inv-loop μ-loop
+add-arity c = search needs
 
-mul-if1 : tie.Need-mul-if1 Inv-loop μ-loop
-mul-if1 c = search needs
+mul-arity : tie.Need-mul-arity Inv-loop μ-loop
+mul-arity c = search needs
 
-element-copy-out-if1 : tie.Need-element-copy-out-if1 Inv-loop μ-loop
-element-copy-out-if1 c = search needs
+element-copy-out-arity : tie.Need-element-copy-out-arity Inv-loop μ-loop
+element-copy-out-arity c = search needs
+
+arity-requires : tie.Need-arity-requires Inv-loop μ-loop
+arity-requires c κs = search needs
 
 unite-requires : tie.Need-unite-requires Inv-loop μ-loop
 unite-requires c κs = search needs
@@ -37,20 +40,20 @@ loop-less : tie.Need-loop-less Inv-loop μ-loop
 loop-less c = search needs
 
 -- how many after the turn
-counted : (c : tie.Joined1 Inv-loop μ-loop) → let l = c .before .before .before .loop in (c .if1 .some ≡ l .some + 1) ⊎ (c .if1 .some ≡ l .some)
+counted : (c : tie.Joined1 Inv-loop μ-loop) → let l = c .before .before .before .before .loop in (c .if1 .some ≡ l .some + 1) ⊎ (c .if1 .some ≡ l .some)
 counted c = ⊎-elim (λ q. inl (q .4)) (λ q. inr (q .2)) (c .if1 .came)
 
 loop-again : tie.Need-loop-again Inv-loop μ-loop
 unfolding at
 loop-again c =
-    let r = c .before .before .before .loop .inv .2 in (
+    let r = c .before .before .before .before .loop .inv .2 in (
       search needs,
-      ⊎-elim (λ e. omega (arith, c .before .before .before .loop .inv .1, e)) (λ e. omega (arith, c .before .before .before .loop .inv .1, e)) (counted c),
+      ⊎-elim (λ e. omega (arith, c .before .before .before .before .loop .inv .1, e)) (λ e. omega (arith, c .before .before .before .before .loop .inv .1, e)) (counted c),
       ⊎-elim
           (λ q. subst₂ (Unions _ _ _) (sym (q .3)) (sym (q .4))
           (unions-turn _ _ _ _ _ _ _ r (q .2 .ensures .size) (λ j h. q .2 .ensures .other j (λ v l e. omega arith)) (omega arith) (λ t. (q .2 .ensures .here, omega arith))))
           (λ q. subst₂ (Unions _ _ _) (sym (q .1)) (sym (q .2)) (unions-turn _ _ _ _ _ _ _ r refl (λ j h. refl) (omega arith)
-          (λ t. absurd (q .0 .left (ap (λ (n : ℕ). n % 256) (r .kept (SCOPES + c .before .before .before .loop .k) (omega arith)) ∙ t))))) (c .if1 .came),
+          (λ t. absurd (q .0 .left (c .before .arity .ensures ∙ ap arityIn (r .kept (SCOPES + c .before .before .before .before .loop .k) (omega arith)) ∙ t))))) (c .if1 .came),
     )
 
 returns : tie.Need-returns Inv-loop μ-loop
@@ -60,4 +63,4 @@ pub unions-spec : {M : Type 1} → statement M
 unions-spec =
     tie.close
     (tie.spec
-    Inv-loop μ-loop loop-holds add-if1 mul-if1 element-copy-out-if1 unite-requires add-some add-k loop-less loop-again returns)
+    Inv-loop μ-loop loop-holds add-arity mul-arity element-copy-out-arity arity-requires unite-requires add-some add-k loop-less loop-again returns)
