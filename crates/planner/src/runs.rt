@@ -18,7 +18,7 @@ pub extern "C" fn planner_question(sheet: &[u8]) -> u32
 pub extern "C" fn planner_run(sheet: &[u8], limit: u32, list: &mut [u8], answer: &mut [u8]) -> u32
     ensures { λ r. ⌜ CallExported (now (sheet .entry)) limit (now (list .entry)) (now (answer .entry)) r (now (list .exit)) (now (answer .exit)) ⌝ }
 {
-    export_run::run(sheet, limit, list, answer)
+    export_sheet::run(sheet, limit, list, answer)
 }
 
 // The questions of a run that is lent pairs and a block (paper 02, #108 and #111).

@@ -4,8 +4,9 @@ use Rattle.model.specs.{Run.refusal, Run.ended, Sheet.verdictOf}
 use Rattle.run.specs.Meaning.{means}
 use Rattle.run_state.specs.Meaning.{endingOf}
 use Rattle.wire.proofs.Codes.{verdict-small, refused-small}
-use Rattle.export_run.proofs.{Ran.refusal-of, Ran.counted, Ran.wrong-answer, Ran.right-answer, run.Statement.statement}
-use Rattle.export_run.proofs.run.Tie as tie
+use Rattle.export_run.proofs.Ran.{refusal-of, counted, wrong-answer, right-answer}
+use Rattle.export_sheet.proofs.run.Statement.{statement}
+use Rattle.export_sheet.proofs.run.Tie as tie
 
 returns : tie.Need-returns
 returns c = let a = c .before .before .before .before .args in wrong-answer (a .sheet .now) (a .limit) (a .list .now) (a .answer .now) (c .if1 .taken)
