@@ -7,8 +7,7 @@ use Rattle.model.specs.Sheet.{verdictOf}
 use Rattle.model.proofs.{Lists.at-skip, Lists.below-e, Accepted.HeaderPassed, Accepted.Passed, Accepted.at-words, OneMore.word-of, OneMore.at-left, OneMore.Agree}
 use Rattle.model.proofs.{OneMore.word-agree, OneMore.words-agree, OneMore.constraints-agree, Asked.tablesHeader, Asked.header-passes, Asked.sets-pass, Asked.constraints-pass}
 use Rattle.model.proofs.Demands.{of-accepted}
-use Rattle.families_figure.specs.{Figure.problemBare, Figure.bareSheet}
-use Rattle.families_figure.specs.inner.FigureClaims.{Bare-sheet}
+use Rattle.families_figure.specs.{Figure.problemBare, Figure.bareSheet, FigureClaims.Bare-sheet}
 
 -- the header without exchanges
 abbrev bareHeader : Header → Header

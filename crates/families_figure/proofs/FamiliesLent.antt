@@ -15,8 +15,7 @@ use Rattle.families.proofs.{FamilyCount.families, JoinedBy.leader-earliest-by, 
 use Rattle.families.proofs.JoinedBy.{leaders-each-by}
 use Rattle.families_figure.specs.{Figure.problemBare, Figure.bareSheet, Figure.number, Figure.dash, Figure.figureFor, Figure.familiesLent, inner.FigureClaims.ranWith}
 use Rattle.families_figure.specs.{inner.FigureClaims.ranBare, inner.FigureClaims.Finished, inner.FigureClaims.Families-lent, inner.FigureClaims.Bare-run, FigureClaims.OneListedEach}
-use Rattle.families_figure.specs.inner.FigureClaims.{One-of-each-lent}
-use Rattle.families_figure.specs.FigureClaims.{Block-alone-closed}
+use Rattle.families_figure.specs.inner.FigureClaims.{One-of-each-lent, Block-alone-closed, Block-alone-one-each}
 use Rattle.families_figure.proofs.BareSheet.{bare-passed}
 use Rattle.model.proofs.{Accepted.accepted-is, Accepted.is-accepted, Asked.well-formed-with}
 
@@ -151,3 +150,7 @@ block-closed b pairs block good none =
 
 pub block-alone-closed : Block-alone-closed
 block-alone-closed b pairs block h = block-closed b pairs block (is-accepted (verdictLent b pairs block) h)
+
+pub block-alone-one-each : Block-alone-one-each
+block-alone-one-each b pairs block limit out plans made none h = one-of-each-lent b pairs block limit out plans made
+    (block-closed b pairs block (lent-good b pairs block limit out (finished plans made) h) none) h

@@ -8,12 +8,12 @@ use Rattle.run_input.specs.Lent.{verdictLent, problemWith}
 use Rattle.families.specs.Families.{FamilyCount, familiesOf}
 use Rattle.families_figure.specs.{Figure.Figure, Figure.number, Figure.dash, Figure.figureFor, Figure.bareSheet, Figure.familiesLent, inner.FigureClaims.ranWith, inner.FigureClaims.ranBare}
 use Rattle.families_figure.specs.{inner.FigureClaims.Finished, FigureClaims.OneListedEach}
-use Rattle.families_figure.proofs.FamiliesLent.{families-lent, bare-run, one-of-each-lent}
+use Rattle.families_figure.proofs.FamiliesLent.{families-lent, bare-run, one-of-each-lent, block-alone-one-each}
 use Rattle.run.specs.{Calls.CallLent, declared.Answer.the-variants.Ended}
 use Rattle.promises.proofs.Demands.{is-ended, is-finished}
 use Rattle.families_count.specs.{Told.refusal, Told.told, Told.countedLent, Told.means, declared.Answer.Answer, declared.Answer.the-variants.Number}
 use Rattle.families_count.specs.declared.Answer.the-variants.{Dash, Refused}
-use Rattle.promises.specs.FamilyCalls.{Families-calls, One-of-each-calls}
+use Rattle.promises.specs.FamilyCalls.{Families-calls, One-of-each-calls, Block-calls}
 use Rattle.run.specs.Meaning as M
 use Rattle.run.specs.declared.Answer as SA
 
@@ -102,3 +102,8 @@ pub one-of-each-calls : One-of-each-calls
 one-of-each-calls b pairs block limit out tally r after tally′ x plans nodes e closed =
     subst (λ (l : List ℕ). OneListedEach b pairs block plans (listedPlans (problemOf b .variables) plans l)) (sym (x .leaves))
     (one-of-each-lent b pairs block limit out plans nodes closed (sym (x .answers) ∙ ap M.means e))
+
+pub block-calls : Block-calls
+block-calls b pairs block limit out tally r after tally′ x plans nodes e alone =
+    subst (λ (l : List ℕ). OneListedEach b pairs block plans (listedPlans (problemOf b .variables) plans l)) (sym (x .leaves))
+    (block-alone-one-each b pairs block limit out plans nodes alone (sym (x .answers) ∙ ap M.means e))

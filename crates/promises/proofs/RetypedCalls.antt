@@ -5,7 +5,6 @@ use Rattle.order.specs.RunBy.{resultBy, placeTally, answerBy, talliedBy}
 use Rattle.run_input.specs.Lent.{verdictLent, problemWith, orderLent, answerLent, listLent, tallyLent}
 use Rattle.run_input.proofs.Lent.{lent-passed}
 use Rattle.run_retyped.proofs.{Retyped.same-symmetries, LentRetyped.retyped-lent, LentRetyped.retyped-accepted-lent}
-use Rattle.run_retyped.specs.inner.LentClaims.{SameRunsLent}
 use Rattle.run_state.specs.{Meaning.tallyIn, Meaning.endingOf, declared.Ending.Ending, declared.Ending.the-variants.Finished, declared.Ending.the-variants.Spent}
 use Rattle.run_state.specs.declared.Ending.the-variants.{Full}
 use Rattle.run.specs.{declared.Answer.Answer, declared.Answer.the-variants.Refused, declared.Answer.the-variants.Ended, Meaning.means, Calls.CallLent}
@@ -47,7 +46,6 @@ tally-alone b pairs block limit out out₂ e t t₂ h h₂ =
 
 pub retyped-calls : Retyped-calls
 retyped-calls b c pairs block v s limit out tally r after tally′ x out₂ tally₂ r₂ after₂ tally₂′ y l = record {
-  sets = same .sets;
   answer = same-answer;
   plans = λ e q. ap (λ (n : ℕ). listed n (plansIn (endingOf e))) width ∙ demands-lent b pairs block limit out₂ tally₂ r₂ after₂ tally₂′ z .0 .at-end e (same-answer ∙ q) .plans
       ∙ sym (demands-lent b pairs block limit out tally r after tally′ x .0 .at-end e q .plans);
@@ -57,12 +55,11 @@ retyped-calls b c pairs block v s limit out tally r after tally′ x out₂ tall
   counts = ap (λ (t : Counts). t .counts) same-tally;
 }
   where
-    same : SameRunsLent b c pairs block
-    same = retyped-lent b c pairs block v (retyped-accepted-lent b c pairs block v s) s
-
     -- the second caller's, as a call with the first sheet
     z : CallLent b pairs block limit out₂ tally₂ r₂ after₂ tally₂′
-    z = record { answers = y .answers ∙ same .answers limit out₂; leaves = y .leaves ∙ same .lists limit out₂; counts = y .counts ∙ same .tallies limit out₂ (tallyIn tally₂) }
+    z =
+        let same = retyped-lent b c pairs block v (retyped-accepted-lent b c pairs block v s) s in
+        record { answers = y .answers ∙ same .answers limit out₂; leaves = y .leaves ∙ same .lists limit out₂; counts = y .counts ∙ same .tallies limit out₂ (tallyIn tally₂) }
 
     width : problemOf c .variables ≡ problemOf b .variables
     width = same-symmetries b c (lent-passed b pairs block (is-accepted (verdictLent b pairs block) v) .sheet) s .variables

@@ -3,7 +3,7 @@
 use Rattle.model.specs.Kit.{_≡_, _↔_, List, [], ℕ, _*_, length}
 use Rattle.families_count.specs.{Calls.CallFamilies, declared.Answer.Answer, declared.Answer.the-variants.Number, declared.Answer.the-variants.Dash}
 use Rattle.families_count.specs.declared.Answer.the-variants.{Refused}
-use Rattle.model.specs.{Verdict.accepted, Verdict.refused, Sheet.problemOf}
+use Rattle.model.specs.{Verdict.accepted, Verdict.refused, Sheet.headerOf, Sheet.problemOf}
 use Rattle.run_input.specs.Lent.{verdictLent, problemWith}
 use Rattle.families.specs.Families.{Closed, FamilyCount, familiesOf}
 use Rattle.families_figure.specs.{Figure.bareSheet, FigureClaims.OneListedEach}
@@ -31,9 +31,14 @@ abbrev pub Families-calls : Type 0
 Families-calls = (b pairs block : List ℕ) (limit : ℕ) (r : Answer) → CallFamilies b pairs block limit r → FamiliesHeld b pairs block limit r
 
 -- ---- one of each family
--- a finished run under closed exchanges: the plans in the caller's list are exactly one of each family, the one that reads earliest in the order of the run. Closed they are
--- where `closed` says so (families_closed's `Closed-calls`), and where a block is used with no exchanges of the sheet (families_figure's `Block-alone-closed`)
+-- a finished run under closed exchanges: the plans in the caller's list are exactly one of each family, the one that reads earliest in the order of the run
 abbrev pub One-of-each-calls : Type 0
 One-of-each-calls =
     (b pairs block : List ℕ) (limit : ℕ) (out : List ℕ) (tally : Tally) (r : SA.Answer) (after : List ℕ) (tally′ : Tally) → CallLent b pairs block limit out tally r after tally′ →
     (plans nodes : ℕ) → r ≡ Ended (Done plans nodes) → Closed (problemWith b block) → OneListedEach b pairs block plans (plansFrom b plans after)
+
+-- closed they are where `closed` says so (crate families_closed's `Closed-calls`), and where a block is used with no exchanges of the sheet
+abbrev pub Block-calls : Type 0
+Block-calls =
+    (b pairs block : List ℕ) (limit : ℕ) (out : List ℕ) (tally : Tally) (r : SA.Answer) (after : List ℕ) (tally′ : Tally) → CallLent b pairs block limit out tally r after tally′ →
+    (plans nodes : ℕ) → r ≡ Ended (Done plans nodes) → headerOf b .symmetries ≡ 0 → OneListedEach b pairs block plans (plansFrom b plans after)

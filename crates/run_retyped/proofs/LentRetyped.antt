@@ -17,8 +17,8 @@ use Rattle.families.specs.Families.{Joined, familiesOf}
 use Rattle.families.proofs.{Joined.joined-one, FewerFamilies.joined-more, FewerFamilies.joined-fewer, FewerFamilies.families-same}
 use Rattle.families_figure.specs.Figure.{problemBare, figureFor, familiesLent}
 use Rattle.run_enough.specs.{AtLeast.Enough, AtLeast.enough, AtLeast.tooFew, AtLeast.unknown, AtLeast.nodesTo, AtLeast.enoughOf, Lent.enoughLent}
-use Rattle.run_retyped.specs.{Retyped.SameButOrder}
-use Rattle.run_retyped.specs.inner.LentClaims.{SameRunsLent, Retyped-lent, Retyped-accepted-lent, Retyped-exactly, Retyped-enough, Retyped-families, SameSearch}
+use Rattle.run_retyped.specs.{Retyped.SameSearch, Retyped.SameButOrder, LentClaims.SameRunsLent, LentClaims.Retyped-lent}
+use Rattle.run_retyped.specs.LentClaims.{Retyped-accepted-lent, Retyped-exactly, Retyped-enough, Retyped-families}
 use Rattle.run_retyped.proofs.{SameSearch.SameSymmetries, SameSearch.same-search, Retyped.same-symmetries, Retyped.retyped-accepted}
 use Rattle.model.proofs.Asked as A
 use Rattle.block.proofs.Tables as B

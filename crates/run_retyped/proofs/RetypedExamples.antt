@@ -3,8 +3,7 @@ use Rattle.model.specs.Kit.{_≡_, refl, List, [], _∷_}
 use mathlib.Core.List.{List·Permᴰ·swap}
 use Rattle.model.specs.{Sheet.headerOf, Nogood.Entry, Nogood.equality, Nogood.disequality, Examples.Each, Examples.sheetA, Examples.placesTraded}
 use Rattle.model.proofs.Examples.{opened}
-use Rattle.run_retyped.specs.{Retyped.blocks, inner.RetypedExamples.testsRetyped}
-use Rattle.run_retyped.specs.inner.Turns.{turns, byTurns}
+use Rattle.run_retyped.specs.{Retyped.turns, Retyped.byTurns, Retyped.blocks, inner.RetypedExamples.testsRetyped}
 
 pub examples-retyped : Each testsRetyped
 unfolding opened blocks

@@ -3,7 +3,7 @@ use Rattle.model.specs.Kit.{_≡_, refl, sym, ap, _∙_, subst, Bool, true, fal
 use Rattle.model.specs.{Lists.at, Lists.same, Lists.both, Lists.flat, ValueSets.has, ValueSets.members, ValueSets.anyEmpty, Problem.Problem, Problem.pair, Problem.withSymmetries}
 use Rattle.model.specs.{Nogood.Entry, Nogood.filtered, Search.entriesAt, Search.nogoodsOf, Search.pruned, Search.narrowed, Search.rounds, Search.setsAt, Search.isLive}
 use Rattle.model.specs.{Search.nodesBelow, Search.nodes, Search.isPlan, Run.Result, Run.spent, Run.full, Run.search, Run.resultOf}
-use Rattle.run_retyped.specs.inner.LentClaims.{SameSearch}
+use Rattle.run_retyped.specs.Retyped.{SameSearch}
 use Rattle.model.proofs.{Lists.map-ext, Sets.inside-antisym, Prune.Kept, Prune.pruned-i, Prune.pruned-e, Prune.pruned-sets}
 
 -- ---- problems that differ only in the order of their symmetries

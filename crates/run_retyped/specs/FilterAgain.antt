@@ -1,12 +1,8 @@
 -- Paper 02, #109, of what callers of `filter::filter` hold: a second call, a call with sets inside others, and calls by turns with two lists.
 -- proofs/FilterAgain has the theorems.
-use Rattle.model.specs.Kit.{_≡_, List, ℕ, length, T}
+use Rattle.model.specs.Kit.{_≡_, List, ℕ}
 use Rattle.filter.specs.{FilterCalls.CallFilter, FilterCalls.ListsRight, declared.Answer.Answer}
-use Rattle.model.specs.{Lists.at, ValueSets.has}
-
--- the sets ds lie inside the sets es
-abbrev pub Within : List ℕ → List ℕ → Type 0
-Within ds es = (length ds ≡ length es) × ((x v : ℕ) → T (has (at ds x) v) → T (has (at es x) v))
+use Rattle.run_retyped.specs.Retyped.{Within}
 
 -- two calls one after the other leave what one leaves, whatever the lists
 abbrev pub Twice-calls : Type 0

@@ -1,4 +1,2 @@
 -- What stands between proved functions: no reader has to believe it.
-pub mod Turns
-pub mod LentClaims
 pub mod RetypedExamples

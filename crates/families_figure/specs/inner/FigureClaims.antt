@@ -1,6 +1,6 @@
 -- The figure of a run, and one plan of each family: what promises' `FamilyCalls` says of callers, over the definitions. The proofs are in proofs/FamiliesLent.
 use Rattle.model.specs.Kit.{_≡_, _↔_, _⊎_, List, [], List·Memᴰ, ℕ, length, T}
-use Rattle.model.specs.{Problem.isSolution, Verdict.accepted, Sheet.problemOf, Sheet.verdictOf, Run.Ending, Run.finished, Run.ended, Run.written}
+use Rattle.model.specs.{Problem.isSolution, Verdict.accepted, Sheet.headerOf, Sheet.problemOf, Run.Ending, Run.finished, Run.ended, Run.written}
 use Rattle.order.specs.RunBy.{resultBy}
 use Rattle.run_input.specs.Lent.{verdictLent, problemWith, orderLent, answerLent, listLent, plansLent}
 use Rattle.families.specs.Families.{FamilyCount, Closed, familiesOf}
@@ -44,6 +44,12 @@ One-of-each-lent =
     (b pairs block : List ℕ) (limit : ℕ) (out : List ℕ) (plans made : ℕ) → Closed (problemWith b block) → answerLent b pairs block limit out ≡ ended (finished plans made) →
     OneListedEach b pairs block plans (plansLent b pairs block limit out (finished plans made))
 
--- the sheet without exchanges is accepted where the sheet is
-abbrev pub Bare-sheet : Type 0
-Bare-sheet = (b : List ℕ) → verdictOf b ≡ accepted → (verdictOf (bareSheet b) ≡ accepted) × (problemOf (bareSheet b) ≡ problemBare b)
+-- a block used with no exchanges of the sheet is closed
+abbrev pub Block-alone-closed : Type 0
+Block-alone-closed = (b pairs block : List ℕ) → verdictLent b pairs block ≡ accepted → headerOf b .symmetries ≡ 0 → Closed (problemWith b block)
+
+-- so a finished run with a block alone lists one plan of each family
+abbrev pub Block-alone-one-each : Type 0
+Block-alone-one-each =
+    (b pairs block : List ℕ) (limit : ℕ) (out : List ℕ) (plans made : ℕ) → headerOf b .symmetries ≡ 0 → answerLent b pairs block limit out ≡ ended (finished plans made) →
+    OneListedEach b pairs block plans (plansLent b pairs block limit out (finished plans made))

@@ -1,22 +1,13 @@
--- Retyped exchanges (paper 02, #109) over the definitions: two sheets that differ only in the order of their exchanges, both lent the same pairs and block; of callers it is in
--- promises' RetypedCalls. The proofs are in proofs/LentRetyped.antt.
+-- Retyped exchanges (paper 02, #109): two sheets that differ only in the order of their exchanges, both lent the same pairs and block.
+-- The proofs are in proofs/LentRetyped.antt.
 use Rattle.model.specs.Kit.{_≡_, _↔_, List, ℕ}
-use Rattle.model.specs.{Verdict.accepted, Run.Tally, Problem.Problem, Search.setsAt, Search.isLive, Search.isPlan, Search.nodes, Run.resultOf}
+use Rattle.model.specs.{Verdict.accepted, Run.Tally}
 use Rattle.order.specs.RunBy.{setsBy}
 use Rattle.run_input.specs.Lent.{verdictLent, problemWith, orderLent, problemLent, answerLent, listLent, tallyLent}
 use Rattle.families.specs.Families.{Joined, familiesOf}
 use Rattle.families_figure.specs.Figure.{familiesLent}
 use Rattle.run_enough.specs.Lent.{enoughLent}
-use Rattle.run_retyped.specs.Retyped.{SameButOrder}
-
--- ---- problems that differ only in the order of their symmetries: the same sets at every prefix, the same nodes and plans, and under one limit and room the same rows,
--- figures and ending
-pub record SameSearch (p q : Problem) : Type 0 where
-  pub sets : (prefix : List ℕ) → setsAt q prefix ≡ setsAt p prefix
-  pub live : (prefix : List ℕ) → isLive q prefix ≡ isLive p prefix
-  pub plans : (node : List ℕ) → isPlan q node ≡ isPlan p node
-  pub tree : nodes q ≡ nodes p
-  pub results : (limit room : ℕ) → resultOf q limit room ≡ resultOf p limit room
+use Rattle.run_retyped.specs.Retyped.{SameSearch, SameButOrder}
 
 -- no run can tell them apart: the same sets, by place number, at every prefix, the same tree, and under one limit and room the same answer, list and tally
 pub record SameRunsLent (b c pairs block : List ℕ) : Type 0 where
