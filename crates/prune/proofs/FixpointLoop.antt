@@ -287,14 +287,14 @@ module _ {p : Problem} {gs : List (List ℕ)} {supports tables numbers : List �
 -- ---- before the turns: the look-ups, and then the constraints by variable
 module _ {p : Problem} {gs : List (List ℕ)} {supports tables numbers : List ℕ} (st : ArraysHold p supports tables numbers) (bl : Blocked p gs numbers) {work ds : List ℕ} {k todo dirty : ℕ}
     (n : BeforeFixpoint p gs work numbers ds k todo dirty) (wide : todo < 2 ^ 64) where
-  pub looks-pending : {v : ℕ} → LastSettled work k v dirty → LookUpsPending p numbers supports ds todo (bitAnd todo (at numbers (LOOKS + k))) v
+  pub looks-pending : {v : ℕ} → LastSettled work k v dirty → LookUpsPending p numbers supports ds work todo (bitAnd todo (at numbers (LOOKS + k))) v
   looks-pending {v} a = record { pending = constraints-pending st (n .startable .pending); wide = wide; looks = look }
     where
-      look : (c : ℕ) → T (has (bitAnd todo (at numbers (LOOKS + k))) c) → LookUp p ds c v
+      look : (c : ℕ) → T (has (bitAnd todo (at numbers (LOOKS + k))) c) → LookUp p ds work c v
       look c t = record {
         known = l .known;
         three = l .three;
-        first = settled st bl n (at (constraintAt p c .scope) 0) (omega (arith, l .second, order)) .0;
+        first = settled st bl n (at (constraintAt p c .scope) 0) (omega (arith, l .second, order));
         second = subst
             (Alone (at ds second)) told (settled st bl n second (omega (arith, l .second)));
       }

@@ -365,7 +365,7 @@ module _ {p : Problem} {gs : List (List ℕ)} {stack work supports tables number
     value-is : at middle k ≡ at work k
     value-is = child-early k (omega arith)
 
-    pub value-small : at middle k % 16 ≡ at middle k
+    pub value-small : at work k % 16 ≡ at middle k
     value-small = omega (arith, value-is, v-lt)
 
     middle-length : length middle ≡ WORK
@@ -379,12 +379,9 @@ module _ {p : Problem} {gs : List (List ℕ)} {stack work supports tables number
         ∙ sym (at-take (k + 1) work i h′))
         ∙ longer-is
 
-    module _ (sets : List ℕ) (l : Loaded stack k sets) (one todo dirty : ℕ) (o : one ≡ onlyMask (at sets k) (at middle k % 16))
+    module _ (sets : List ℕ) (l : Loaded stack k sets) (one todo dirty : ℕ) (only : one ≡ onlyMask (at sets k) (at work k % 16))
         (d : (at sets k ≡ one → todo ≡ 0) × ((at sets k ≡ one → ⊥) → todo ≡ at numbers (OTHERS + k)))
         (f : (at sets k ≡ one → dirty ≡ 0) × ((at sets k ≡ one → ⊥) → dirty ≡ bitAnd (at numbers LINKED) (1 * 2 ^ k % 2 ^ 64))) where
-      only : one ≡ onlyMask (at sets k) (at work k % 16)
-      only = o ∙ ap (λ (z : ℕ). onlyMask (at sets k) (z % 16)) value-is
-
       child-known : (j : ℕ) → T (has todo j) → j < length (p .constraints)
       child-known j t = go (ℕ-discrete (at sets k) one)
         where
@@ -482,10 +479,10 @@ module _ {p : Problem} {gs : List (List ℕ)} {stack work supports tables number
       }
 
       -- and after
-      pub child-on-way : (cut : List ℕ) (v : ℕ) → v ≡ at middle k % 16 → setsOf p cut ≡ cutAfter (blockOf numbers) k v (setsOf p (set sets k one)) →
+      pub child-on-way : (cut : List ℕ) (v : ℕ) → v ≡ at work k % 16 → setsOf p cut ≡ cutAfter (blockOf numbers) k v (setsOf p (set sets k one)) →
           Way tree (take (k + 1) middle) (setsOf p cut) × Ascends (blockOf numbers) (take (k + 1) middle) (setsOf p cut)
       child-on-way cut v i e =
-          let w = start-way sets l only cut v (i ∙ ap (λ (z : ℕ). z % 16) value-is) e in (
+          let w = start-way sets l only cut v i e in (
             subst (λ (z : List ℕ). Way tree z (setsOf p cut)) (sym child-prefix) (w .0),
             subst (λ (z : List ℕ). Ascends (blockOf numbers) z (setsOf p cut)) (sym child-prefix) (w .1),
           )

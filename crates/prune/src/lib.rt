@@ -170,7 +170,7 @@ fn fixpoint(
         (now (work .entry)) (now (work .exit)) (now (sets .exit)) r) ⌝ }
 {
     let looks = todo & numbers[LOOKS + k];
-    let looked = prune_constraints::look_ups(sets, numbers, supports, looks, v);
+    let looked = prune_constraints::look_ups(sets, work, numbers, supports, looks, v);
     if looked == DEAD {
         return true;
     }
@@ -367,9 +367,9 @@ pub fn child(
 {
     let mut sets = [1u16; 16];
     load(stack, k, &mut sets);
+    let v = (work[k] % 16) as u16;
     copy_marks(work, numbers, k);
     let old = ValueSet { bits: sets[k] };
-    let v = (work[k] % 16) as u16;
     let one = old.only(v);
     let todo = due(old, one, numbers[OTHERS + k]);
     let dirty = due(old, one, numbers[LINKED] & (1u64 << k));

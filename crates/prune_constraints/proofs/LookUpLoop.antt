@@ -1,19 +1,19 @@
 -- Look-ups: one constraint whose first two sets have one value each, and the loop over some of them. Assumes nothing.
 use Rattle.model.specs.Kit.{_≡_, refl, sym, ap, ap₂, _∙_, subst, false, not, _⊎_, inl, inr, ⊎-elim, List, [], List·Memᴰ·head, List·Memᴰ·tail, ℕ, _+_, _-_, _*_, _/_, _%_, _^_, _≤_}
 use Rattle.model.specs.Kit.{_<_, lt-of-le-of-lt, arith, T, eqb-refl, length, bitAnd, bitOr, and-le-l, trailingZeros, eq-eqb}
-use Rattle.model.specs.{Lists.at, ValueSets.has, ValueSets.anyEmpty, ValueSets.lowestOf, Problem.Problem, Problem.constraintAt, inner.Pruning.Sets}
+use Rattle.model.specs.{Lists.at, ValueSets.has, ValueSets.anyEmpty, Problem.Problem, Problem.constraintAt, inner.Pruning.Sets}
 use Rattle.model.proofs.{Lists.not-of, Lists.of-not, Lists.T-of, Lists.T-ext, Lists.both-i, Lists.mem-at, Sets.has-none, Sets.has-lt, Sets.mask-ext, Sets.member, Masks.has-one}
 use Rattle.model.proofs.{Members.has-0, Members.low-has, Members.or-i, Members.or-e, Members.and-e, Members.rest-e, Firsts.take-full}
 use Rattle.arrays.specs.{inner.Places.SCOPES, inner.Places.OTHERS, inner.Places.DEAD, inner.Places.SUPPORTS, inner.Pruning.setsOf}
 use Rattle.arrays.proofs.Links.{good}
 use Rattle.prune_constraints.specs.{inner.Revised.Revision, inner.Steps.OneValue, inner.Steps.Scoped, inner.Steps.ConstraintsHeld, inner.Steps.SetCut, inner.Steps.Touched}
 use Rattle.prune_constraints.specs.inner.LookUps.{Alone, LookUp, LookUpsPending, LookedUp}
-use Rattle.prune_constraints.proofs.{Bits.without-has, Unions.single, Rows.revised-inside, Removal.fixed-take, Stores.three-last, Stores.u-has, Scopes.scope3}
+use Rattle.prune_constraints.proofs.{Bits.without-has, Unions.single, Rows.revised-inside, Removal.fixed-take, Stores.three-last, Scopes.scope3}
 use Rattle.prune_constraints.proofs.{Scopes.scoped-3, Touching.touchedOf, Touching.touched-lt, Touching.touched-of, ConstrainLoop.without, ConstrainLoop.Chosen}
 use Rattle.prune_constraints.proofs.ConstrainLoop.{ConstrainedSoFar, constrained-begin, k-few, k-full, changed-lt, constrained-dead, constrained-more}
 
 -- ---- one constraint
-module _ {p : Problem} {numbers supports ds : List ℕ} {k v : ℕ} (g : ConstraintsHeld p numbers supports) (l : LookUp p ds k v) (s : Sets 16 ds) where
+module _ {p : Problem} {numbers supports ds work : List ℕ} {k v : ℕ} (g : ConstraintsHeld p numbers supports) (l : LookUp p ds work k v) (s : Sets 16 ds) where
   abbrev x : ℕ
   x = at numbers (SCOPES + k) / 256 % 256
 
@@ -23,25 +23,23 @@ module _ {p : Problem} {numbers supports ds : List ℕ} {k v : ℕ} (g : Constra
   look-scoped : Scoped (constraintAt p k) supports k (scope3 (at numbers (SCOPES + k)))
   look-scoped = scoped-3 g k (l .known) (g .numbered .arity k (l .known) ∙ l .three)
 
-  first : OneValue (at ds x)
-  first = subst (λ (i : ℕ). OneValue (at ds i)) (sym (g .numbered .scope k 0 (l .known) (omega (arith, l .three)))) (l .first)
+  first : Alone (at ds x) (at work x)
+  first = subst (λ (i : ℕ). Alone (at ds i) (at work i)) (sym (g .numbered .scope k 0 (l .known) (omega (arith, l .three)))) (l .first)
 
   second : Alone (at ds y) v
   second = subst (λ (i : ℕ). Alone (at ds i) v) (sym (g .numbered .scope k 1 (l .known) (omega (arith, l .three)))) (l .second)
 
-  pub look-first : at numbers (SCOPES + k) / 256 % 256 < 16
-  look-first = look-scoped .inside _ (List·Memᴰ·head refl)
-
   -- the third variable, and the place of its values in the table
-  pub look-place : (u : ℕ) → u ≡ lowestOf (at ds (at numbers (SCOPES + k) / 256 % 256)) → (at numbers (SCOPES + k) / 16777216 % 256 < 16) × (256 * k + 16 * u + v < SUPPORTS)
-  look-place u e = (
+  pub look-place : (at numbers (SCOPES + k) / 16777216 % 256 < 16) × (256 * k + 16 * at work (at numbers (SCOPES + k) / 256 % 256) + v < SUPPORTS)
+  look-place = (
     look-scoped .inside _ (List·Memᴰ·tail (List·Memᴰ·tail (List·Memᴰ·head refl))),
-    omega (arith, e, u-has look-scoped ds s first (second .0) .1, has-lt 16 (at ds y) v (s .1 y) (second .1), look-scoped .room),
+    omega (arith, has-lt 16 (at ds x) (at work x) (s .1 x) (first .1), has-lt 16 (at ds y) v (s .1 y) (second .1), look-scoped .room),
   )
 
-  pub look-made : {es : List ℕ} {r : ℕ} (u : ℕ) → u ≡ lowestOf (at ds (at numbers (SCOPES + k) / 256 % 256)) → SetCut ds es (at numbers (SCOPES + k) / 16777216 % 256)
-      (bitAnd (at ds (at numbers (SCOPES + k) / 16777216 % 256)) (at supports (256 * k + 16 * u + v))) r → Revision (constraintAt p k) ds es r
-  look-made {es} {r} u e a = three-last look-scoped ds s first (second .0) _ (ap₂ (λ (i j : ℕ). 256 * k + 16 * i + j) e (single (at ds y) (s .1 y) (second .0) v (second .1))) es r a
+  pub look-made : {es : List ℕ} {r : ℕ} → SetCut ds es (at numbers (SCOPES + k) / 16777216 % 256)
+      (bitAnd (at ds (at numbers (SCOPES + k) / 16777216 % 256)) (at supports (256 * k + 16 * at work (at numbers (SCOPES + k) / 256 % 256) + v))) r → Revision (constraintAt p k) ds es r
+  look-made {es} {r} a = three-last look-scoped ds s (first .0) (second .0) _
+      (ap₂ (λ (i j : ℕ). 256 * k + 16 * i + j) (single (at ds x) (s .1 x) (first .0) (at work x) (first .1)) (single (at ds y) (s .1 y) (second .0) v (second .1))) es r a
 
 -- ---- the loop
 -- only the constraints left, those of `todo` that are not looked up, and those of the changed variables may take something
@@ -52,7 +50,7 @@ pub record LookedSoFar (p : Problem) (numbers supports ds es : List ℕ) (todo s
   pub among : (j : ℕ) → T (has left j) → T (has some j)
   pub changed : (x : ℕ) → T (has all x) → at es x ≡ at ds x → ⊥
 
-module _ {p : Problem} {numbers supports ds : List ℕ} {todo some v : ℕ} (w : LookUpsPending p numbers supports ds todo some v) where
+module _ {p : Problem} {numbers supports ds work : List ℕ} {todo some v : ℕ} (w : LookUpsPending p numbers supports ds work todo some v) where
   n-few : p .variables ≤ 16
   n-few = omega (arith, w .pending .wellFormed .few)
 
@@ -131,20 +129,20 @@ module _ {p : Problem} {numbers supports ds : List ℕ} {todo some v : ℕ} (w :
       pub look-few : trailingZeros 64 left < 32
       look-few = k-few (t .so-far) on
 
-      pub look-next : LookUp p es (trailingZeros 64 left) v
-      look-next = record { known = l .known; three = l .three; first = one 0 (omega (arith, l .three)) (l .first); second = alone 1 (omega (arith, l .three)) (l .second) }
+      pub look-next : LookUp p es work (trailingZeros 64 left) v
+      look-next = record { known = l .known; three = l .three; first = alone 0 _ (omega (arith, l .three)) (l .first); second = alone 1 v (omega (arith, l .three)) (l .second) }
         where
-          l : LookUp p ds k v
+          l : LookUp p ds work k v
           l = w .looks k (t .among k (low-has 64 left (omega arith) (t .so-far .wide) .0))
 
           one : (i : ℕ) → i < length (constraintAt p k .scope) → OneValue (at ds (at (constraintAt p k .scope) i)) → OneValue (at es (at (constraintAt p k .scope) i))
           one i h o = record { some = k-full (t .so-far) on _ (mem-at (constraintAt p k .scope) i h); only = λ a b q r. o .only a b (t .so-far .less _ a q) (t .so-far .less _ b r) }
 
-          alone : (i : ℕ) → i < length (constraintAt p k .scope) → Alone (at ds (at (constraintAt p k .scope) i)) v → Alone (at es (at (constraintAt p k .scope) i)) v
-          alone i h o =
+          alone : (i a : ℕ) → i < length (constraintAt p k .scope) → Alone (at ds (at (constraintAt p k .scope) i)) a → Alone (at es (at (constraintAt p k .scope) i)) a
+          alone i a h o =
               let q = one i h (o .0) in
               let m = member (at es (at (constraintAt p k .scope) i)) (t .so-far .sixteen .1 _) (q .some) in
-              (q, subst (λ (u : ℕ). T (has (at es (at (constraintAt p k .scope) i)) u)) (o .0 .only (m .0) v (t .so-far .less _ (m .0) (m .2)) (o .1)) (m .2))
+              (q, subst (λ (u : ℕ). T (has (at es (at (constraintAt p k .scope) i)) u)) (o .0 .only (m .0) a (t .so-far .less _ (m .0) (m .2)) (o .1)) (m .2))
 
       module _ {fs : List ℕ} {changed : ℕ} (r : Revision (constraintAt p (trailingZeros 64 left)) es fs changed) where
         pub looked-dead : changed ≡ DEAD → LookedUp p numbers supports ds fs todo some DEAD

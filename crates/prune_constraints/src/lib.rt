@@ -7,6 +7,7 @@ use arrays::SPREAD;
 use arrays::Supports;
 use arrays::UNIONS;
 use arrays::VALUES;
+use arrays::Work;
 use arrays::arity;
 use arrays::scope_at;
 use model::ValueSet;
@@ -544,37 +545,46 @@ pub fn constrain(
     constrain16(sets, numbers, supports, todo)
 }
 
-// Prunes by constraint number k on three variables, whose first two sets have one value each, the second the value v.
-fn look_up(sets: &mut [u16; 16], numbers: &Numbers, supports: &Supports, k: usize, v: usize) -> u64
+// Prunes by constraint number k on three variables, whose first two sets have one value each, the first that of the prefix, the second the value v.
+fn look_up(
+    sets: &mut [u16; 16],
+    work: &Work,
+    numbers: &Numbers,
+    supports: &Supports,
+    k: usize,
+    v: usize,
+) -> u64
     requires { ⌜ Sets 16 (now sets) ⌝ }
-    requires { ⌜ ((p : Problem) × ConstraintsHeld p (now numbers) (now supports) × LookUp p (now sets) k v) ⌝ }
-    ensures { λ r. ⌜ ((p : Problem) → ConstraintsHeld p (now (numbers .entry)) (now (supports .entry)) → LookUp p (now (sets .entry)) k v → Revision
-        (constraintAt p k) (now (sets .entry)) (now (sets .exit)) r) ⌝ }
+    requires { ⌜ ((p : Problem) × ConstraintsHeld p (now numbers) (now supports) × LookUp p (now sets) (now work) k v) ⌝ }
+    ensures { λ r. ⌜ ((p : Problem) → ConstraintsHeld p (now (numbers .entry)) (now (supports .entry)) → LookUp p (now (sets .entry))
+        (now (work .entry)) k v → Revision (constraintAt p k) (now (sets .entry)) (now (sets .exit)) r) ⌝ }
 {
     let w = numbers[SCOPES + k];
     let x = (w / 256 % 256) as usize;
     let z = (w / 16777216 % 256) as usize;
-    let first = ValueSet { bits: sets[x] }.lowest() as usize;
+    let first = work[x] as usize;
     revise_one(sets, supports, 256 * k + 16 * first + v, z)
 }
 
 // The same for each constraint of `some`, once: DEAD where a set would be empty, else the set of the variables whose sets changed.
 pub fn look_ups(
     sets: &mut [u16; 16],
+    work: &Work,
     numbers: &Numbers,
     supports: &Supports,
     some: u64,
     v: usize,
 ) -> u64
-    requires { ⌜ ((p : Problem) × (todo : ℕ) × LookUpsPending p (now numbers) (now supports) (now sets) todo some v) ⌝ }
-    ensures { λ r. ⌜ ((p : Problem) (todo : ℕ) → LookUpsPending p (now (numbers .entry)) (now (supports .entry)) (now (sets .entry)) todo some v
-        → LookedUp p (now (numbers .entry)) (now (supports .entry)) (now (sets .entry)) (now (sets .exit)) todo some r) ⌝ }
+    requires { ⌜ ((p : Problem) × (todo : ℕ) × LookUpsPending p (now numbers) (now supports) (now sets) (now work) todo some v) ⌝ }
+    ensures { λ r. ⌜ ((p : Problem) (todo : ℕ) → LookUpsPending p (now (numbers .entry)) (now (supports .entry)) (now (sets .entry))
+        (now (work .entry)) todo some v → LookedUp p (now (numbers .entry)) (now (supports .entry)) (now (sets .entry)) (now (sets .exit)) todo some r) ⌝ }
 {
     let mut all = 0u64;
     let mut left = some;
     while left != 0 {
         let changed = look_up(
             sets,
+            work,
             numbers,
             supports,
             u64::trailing_zeros(left) as usize,

@@ -96,4 +96,3 @@ same-turn stack numbers work k pending low s x h e y l t = go (ℕ-discrete y x)
     go : Dec (y ≡ x) → at stack (16 * k + y) ≡ at work (s + SETS + y)
     go (yes q) = subst (λ (j : ℕ). at stack (16 * k + j) ≡ at work (s + SETS + j)) (sym q) (e (subst (λ (j : ℕ). T (compared numbers pending low j)) q t))
     go (no n) = h y (omega arith) t
-

@@ -50,4 +50,3 @@ grown-all counts work s counts′ l h =
   where
     more : List ℕ
     more = tabulate 12 (λ x. at work (s + COUNTS + x))
-

@@ -11,7 +11,7 @@ unfolding at
 cut-later-requires c κs =
     let c10 = c .before .before .before .before .before .before .before .before .before .before in
     let a = c10 .before .before .before .pre .2 in
-    let s = (child-startable a _ (c .before .before .before .before .before .before .before .before .copy-marks .ensures) (c10 .load .last .1 .1 .0) (c10 .load .ensures) _ _ _
+    let s = (child-startable a _ (c .before .before .before .before .before .before .before .copy-marks .ensures) (c10 .load .last .1 .1 .0) (c10 .load .ensures) _ _ _
     (c .before .before .before .before .before .before .only .ensures) (c .before .before .before .before .due .ensures) (c .before .before .due2 .ensures)) in
     (s .live .sixteen, omega (arith, a .room, a .ready .wellFormed .few), omega arith, λ y t. omega (arith, a .ready .block-few y t, a .ready .wellFormed .few))
 
@@ -19,13 +19,13 @@ returns : tie.Need-returns
 unfolding at
 returns c =
     let f = c .before .before in λ p gs a.
-    let s = (child-startable a _ (f .before .before .before .before .before .before .before .before .copy-marks .ensures)
+    let s = (child-startable a _ (f .before .before .before .before .before .before .before .copy-marks .ensures)
     (f .before .before .before .before .before .before .before .before .before .before .load .last .1 .1 .0)
     (f .before .before .before .before .before .before .before .before .before .before .load .ensures) _ _ _ (f .before .before .before .before .before .before .only .ensures)
     (f .before .before .before .before .due .ensures) (f .before .before .due2 .ensures)) in
-    child-dead a _ (f .before .before .before .before .before .before .before .before .copy-marks .ensures) [] _ _
+    child-dead a _ (f .before .before .before .before .before .before .before .copy-marks .ensures) [] _ _
     (cut-dead (arrays-hold (a .ready)) (blocked (a .ready)) (s .live) _ _ (c .before .cut-later .ensures) (c .if1 .taken)
-    ((child-on-way a _ (f .before .before .before .before .before .before .before .before .copy-marks .ensures)
+    ((child-on-way a _ (f .before .before .before .before .before .before .before .copy-marks .ensures)
     (f .before .before .before .before .before .before .before .before .before .before .load .last .1 .1 .0)
     (f .before .before .before .before .before .before .before .before .before .before .load .ensures) _ _ _ (f .before .before .before .before .before .before .only .ensures)
     (f .before .before .before .before .due .ensures) (f .before .before .due2 .ensures) _ _ refl
@@ -36,11 +36,11 @@ unfolding at
 fixpoint-requires c κs =
     let f = c .before .before .before .before .before .before in
     let a = f .before .before .before .before .before .before .before .before .before .before .before .before .before .pre .2 in
-    let s = (child-startable a _ (f .before .before .before .before .before .before .before .before .copy-marks .ensures)
+    let s = (child-startable a _ (f .before .before .before .before .before .before .before .copy-marks .ensures)
     (f .before .before .before .before .before .before .before .before .before .before .load .last .1 .1 .0)
     (f .before .before .before .before .before .before .before .before .before .before .load .ensures) _ _ _ (f .before .before .before .before .before .before .only .ensures)
     (f .before .before .before .before .due .ensures) (f .before .before .due2 .ensures)) in
-    let w = (child-on-way a _ (f .before .before .before .before .before .before .before .before .copy-marks .ensures)
+    let w = (child-on-way a _ (f .before .before .before .before .before .before .before .copy-marks .ensures)
     (f .before .before .before .before .before .before .before .before .before .before .load .last .1 .1 .0)
     (f .before .before .before .before .before .before .before .before .before .before .load .ensures) _ _ _ (f .before .before .before .before .before .before .only .ensures)
     (f .before .before .before .before .due .ensures) (f .before .before .due2 .ensures) _ _ refl
@@ -49,8 +49,8 @@ fixpoint-requires c κs =
     let n = cut-before (arrays-hold (a .ready)) (blocked (a .ready)) (s .live) _ _ (c .before .before .before .before .before .cut-later .ensures) (c .before .before .before .before .if1 .left) s
     (c .before .touched .ensures) refl refl w in
     let l = cut-last (arrays-hold (a .ready)) (blocked (a .ready)) (s .live) _ _ (c .before .before .before .before .before .cut-later .ensures) (c .before .before .before .before .if1 .left) s
-    (c .before .touched .ensures) refl refl (value-small a _ (f .before .before .before .before .before .before .before .before .copy-marks .ensures))
-    (child-later a _ (f .before .before .before .before .before .before .before .before .copy-marks .ensures)
+    (c .before .touched .ensures) refl refl (value-small a _ (f .before .before .before .before .before .before .before .copy-marks .ensures))
+    (child-later a _ (f .before .before .before .before .before .before .before .copy-marks .ensures)
     (f .before .before .before .before .before .before .before .before .before .before .load .last .1 .1 .0)
     (f .before .before .before .before .before .before .before .before .before .before .load .ensures) _ _ _ (f .before .before .before .before .before .before .only .ensures)
     (f .before .before .before .before .due .ensures) (f .before .before .due2 .ensures)) in
@@ -61,11 +61,11 @@ unfolding at
 returns-2 c =
     let g = c .before .before in
     let f = g .before .before .before .before .before .before in λ p gs a.
-    let s = (child-startable a _ (f .before .before .before .before .before .before .before .before .copy-marks .ensures)
+    let s = (child-startable a _ (f .before .before .before .before .before .before .before .copy-marks .ensures)
     (f .before .before .before .before .before .before .before .before .before .before .load .last .1 .1 .0)
     (f .before .before .before .before .before .before .before .before .before .before .load .ensures) _ _ _ (f .before .before .before .before .before .before .only .ensures)
     (f .before .before .before .before .due .ensures) (f .before .before .due2 .ensures)) in
-    let w = (child-on-way a _ (f .before .before .before .before .before .before .before .before .copy-marks .ensures)
+    let w = (child-on-way a _ (f .before .before .before .before .before .before .before .copy-marks .ensures)
     (f .before .before .before .before .before .before .before .before .before .before .load .last .1 .1 .0)
     (f .before .before .before .before .before .before .before .before .before .before .load .ensures) _ _ _ (f .before .before .before .before .before .before .only .ensures)
     (f .before .before .before .before .due .ensures) (f .before .before .due2 .ensures) _ _ refl
@@ -73,7 +73,7 @@ returns-2 c =
     (g .before .before .before .before .if1 .left))) in
     let n = cut-before (arrays-hold (a .ready)) (blocked (a .ready)) (s .live) _ _ (g .before .before .before .before .before .cut-later .ensures) (g .before .before .before .before .if1 .left) s
     (g .before .touched .ensures) refl refl w in
-    child-dead a _ (f .before .before .before .before .before .before .before .before .copy-marks .ensures) _ _ _
+    child-dead a _ (f .before .before .before .before .before .before .before .copy-marks .ensures) _ _ _
     (c .before .fixpoint .ensures p gs (arrays-hold (a .ready)) (blocked (a .ready)) n) (c .if2 .taken)
 
 add-store : tie.Need-add-store
@@ -93,11 +93,11 @@ unfolding at
 returns-3 c =
     let g = c .before .before .before .before .before in
     let f = g .before .before .before .before .before .before in λ p gs a.
-    let s = (child-startable a _ (f .before .before .before .before .before .before .before .before .copy-marks .ensures)
+    let s = (child-startable a _ (f .before .before .before .before .before .before .before .copy-marks .ensures)
     (f .before .before .before .before .before .before .before .before .before .before .load .last .1 .1 .0)
     (f .before .before .before .before .before .before .before .before .before .before .load .ensures) _ _ _ (f .before .before .before .before .before .before .only .ensures)
     (f .before .before .before .before .due .ensures) (f .before .before .due2 .ensures)) in
-    let w = (child-on-way a _ (f .before .before .before .before .before .before .before .before .copy-marks .ensures)
+    let w = (child-on-way a _ (f .before .before .before .before .before .before .before .copy-marks .ensures)
     (f .before .before .before .before .before .before .before .before .before .before .load .last .1 .1 .0)
     (f .before .before .before .before .before .before .before .before .before .before .load .ensures) _ _ _ (f .before .before .before .before .before .before .only .ensures)
     (f .before .before .before .before .due .ensures) (f .before .before .due2 .ensures) _ _ refl
@@ -105,14 +105,14 @@ returns-3 c =
     (g .before .before .before .before .if1 .left))) in
     let n = cut-before (arrays-hold (a .ready)) (blocked (a .ready)) (s .live) _ _ (g .before .before .before .before .before .cut-later .ensures) (g .before .before .before .before .if1 .left) s
     (g .before .touched .ensures) refl refl w in
-    child-live a _ (f .before .before .before .before .before .before .before .before .copy-marks .ensures) _ _ _ _
+    child-live a _ (f .before .before .before .before .before .before .before .copy-marks .ensures) _ _ _ _
     (c .before .before .before .before .fixpoint .ensures p gs (arrays-hold (a .ready)) (blocked (a .ready)) n) (c .before .before .before .if2 .left) (c .store .ensures)
 
 pub child-spec : {M : Type 1} → statement M
 child-spec =
     tie.close
     (tie.spec
-    (λ c κs. search needs) (λ c κs. search needs) (λ c. search needs) (λ c. search needs) (λ c. search needs) (λ c. search needs) (λ c. search needs)
+    (λ c κs. search needs) (λ c. search needs) (λ c. search needs) (λ c. search needs) (λ c κs. search needs) (λ c. search needs) (λ c. search needs)
     (λ c κs. search needs) (λ c. search needs) (λ c. search needs) (λ c. search needs) (λ c κs. search needs) (λ c. search needs) (λ c. search needs)
     (λ c κs. search needs) (λ c. search needs) (λ c. search needs) (λ c. search needs) cut-later-requires returns (λ c. search needs) (λ c κs. search needs)
     (λ c. search needs) (λ c. search needs) fixpoint-requires returns-2 add-store store-requires returns-3)

@@ -19,33 +19,33 @@ wide c = search needs
 -- ready for the look-ups
 looks : (c : tie.Start) → let d = c .args in (p : Problem) (gs : List (List ℕ)) → ArraysHold p (d .supports .now) (d .tables .now) (d .numbers .now) → Blocked p gs (d .numbers .now)
     → BeforeFixpoint p gs (d .work .now) (d .numbers .now) (d .sets .now) (d .k) (d .todo) (d .dirty) →
-    LookUpsPending p (d .numbers .now) (d .supports .now) (d .sets .now) (d .todo) (bitAnd (d .todo) (at (d .numbers .now) (LOOKS + d .k))) (d .v)
+    LookUpsPending p (d .numbers .now) (d .supports .now) (d .sets .now) (d .work .now) (d .todo) (bitAnd (d .todo) (at (d .numbers .now) (LOOKS + d .k))) (d .v)
 looks c p gs s b n = looks-pending s b n (wide c) (c .pre .5)
 
 -- what is due after the look-ups
-looks-made : (c : tie.Else1) → let d = c .before .before .before .before .args in (p : Problem) (gs : List (List ℕ)) → ArraysHold p (d .supports .now) (d .tables .now) (d .numbers .now)
+looks-made : (c : tie.Else1) → let d = c .before .before .before .before .before .args in (p : Problem) (gs : List (List ℕ)) → ArraysHold p (d .supports .now) (d .tables .now) (d .numbers .now)
     → Blocked p gs (d .numbers .now) → BeforeFixpoint p gs (d .work .now) (d .numbers .now) (d .sets .now) (d .k) (d .todo) (d .dirty) →
     BeforeFixpoint p gs (d .work .now) (d .numbers .now) (c .before .look-ups .last .0) (d .k)
     (bitOr (bitAnd (d .todo) ((2 ^ 64 - 1) - bitAnd (d .todo) (at (d .numbers .now) (LOOKS + d .k)))) (touchedOf (d .numbers .now) (c .before .look-ups .result)))
     (bitOr (d .dirty) (bitAnd (c .before .look-ups .result) (at (d .numbers .now) LINKED)))
 unfolding at
-looks-made c p gs s b n = looks-done s b n (c .before .look-ups .ensures p _ (looks (c .before .before .before .before) p gs s b n)) (c .if1 .left)
+looks-made c p gs s b n = looks-done s b n (c .before .look-ups .ensures p _ (looks (c .before .before .before .before .before) p gs s b n)) (c .if1 .left)
 
 -- and after the cuts
-cuts-made : (c : tie.After-touched) → let d = c .before .before .before .before .before .before .before .before .before .args in (p : Problem) (gs : List (List ℕ)) → ArraysHold p
+cuts-made : (c : tie.After-touched) → let d = c .before .before .before .before .before .before .before .before .before .before .args in (p : Problem) (gs : List (List ℕ)) → ArraysHold p
     (d .supports .now) (d .tables .now) (d .numbers .now) → Blocked p gs (d .numbers .now) → BeforeFixpoint p gs (d .work .now) (d .numbers .now) (d .sets .now) (d .k) (d .todo) (d .dirty) →
     BeforeFixpoint p gs (d .work .now) (d .numbers .now) (c .before .before .arcs .last .0) (d .k)
     (bitOr (bitAnd (d .todo) ((2 ^ 64 - 1) - bitAnd (d .todo) (at (d .numbers .now) (LOOKS + d .k)))) (c .touched .result)) 0
 unfolding at
 cuts-made c p gs s b n =
-    let d = c .before .before .before .before .before .before .before .before .before in
+    let d = c .before .before .before .before .before .before .before .before .before .before in
     let m = looks-made (c .before .before .before .before .before) p gs s b n in
     cuts-done s b n (wide d) (c .before .before .before .before .before .before .look-ups .ensures p _ (looks d p gs s b n)) (c .before .before .before .before .before .if1 .left)
     (c .before .before .arcs .ensures p (arcs-pending s (m .startable .pending))) (c .before .if2 .left) (search needs) (c .touched .ensures)
 
 -- and where the sets rest
-rested : (c : tie.Joined3) → let d = c .before .before .before .before .before .before .before .before .before .before .args in (p : Problem) (gs : List (List ℕ)) → ArraysHold p (d .supports .now)
-    (d .tables .now) (d .numbers .now) → Blocked p gs (d .numbers .now) → BeforeFixpoint p gs (d .work .now) (d .numbers .now) (d .sets .now) (d .k) (d .todo) (d .dirty) →
+rested : (c : tie.Joined3) → let d = c .before .before .before .before .before .before .before .before .before .before .before .args in (p : Problem) (gs : List (List ℕ)) → ArraysHold p
+    (d .supports .now) (d .tables .now) (d .numbers .now) → Blocked p gs (d .numbers .now) → BeforeFixpoint p gs (d .work .now) (d .numbers .now) (d .sets .now) (d .k) (d .todo) (d .dirty) →
     BeforeFixpoint p gs (d .work .now) (d .numbers .now) (c .if3 .sets) (d .k) 0 0
 unfolding at
 rested c p gs s b n =
@@ -57,19 +57,20 @@ rested c p gs s b n =
 
 look-ups-requires : tie.Need-look-ups-requires
 unfolding at
-look-ups-requires c κs = let q = c .before .before .pre in (q .0, _, looks (c .before .before) (q .0) (q .1) (q .2) (q .3) (q .4))
+look-ups-requires c κs = let q = c .before .before .before .pre in (q .0, _, looks (c .before .before .before) (q .0) (q .1) (q .2) (q .3) (q .4))
 
 returns : tie.Need-returns
 unfolding at
-returns c = λ p gs s b n. constrained-dead s b n _ (c .before .look-ups .ensures p _ (looks (c .before .before .before .before) p gs s b n) .ended (c .if1 .taken))
+returns c = λ p gs s b n. constrained-dead s b n _ (c .before .look-ups .ensures p _ (looks (c .before .before .before .before .before) p gs s b n) .ended (c .if1 .taken))
 
 sub-arcs : tie.Need-sub-arcs
-sub-arcs c = c .before .before .before .before .before .before .pre .5 .some
+sub-arcs c = c .before .before .before .before .before .before .before .pre .5 .some
 
 arcs-requires : tie.Need-arcs-requires
 unfolding at
-arcs-requires c κs = let q = c .before .before .before .before .before .before .pre in (
-  looks-settled (q .2) (q .3) (q .4) (q .5) (c .before .before .before .look-ups .ensures (q .0) _ (looks (c .before .before .before .before .before .before) (q .0) (q .1) (q .2) (q .3) (q .4)))
+arcs-requires c κs = let q = c .before .before .before .before .before .before .before .pre in (
+  looks-settled (q .2) (q .3) (q .4) (q .5)
+      (c .before .before .before .look-ups .ensures (q .0) _ (looks (c .before .before .before .before .before .before .before) (q .0) (q .1) (q .2) (q .3) (q .4)))
       (c .before .before .if1 .left),
   (q .0, arcs-pending (q .2) (looks-made (c .before .before) (q .0) (q .1) (q .2) (q .3) (q .4) .startable .pending)),
 )
@@ -80,14 +81,14 @@ returns-2 c = λ p gs s b n. let m = looks-made (c .before .before .before .befo
     (c .before .arcs .ensures p (arcs-pending s (m .startable .pending)) .ended (c .if2 .taken))
 
 shl-constrain : tie.Need-shl-constrain
-shl-constrain c = few (c .before .before .before .before .before .before .before .before .before .before .before)
+shl-constrain c = few (c .before .before .before .before .before .before .before .before .before .before .before .before)
 
 sub-constrain : tie.Need-sub-constrain
-sub-constrain c = some-one _ (few (c .before .before .before .before .before .before .before .before .before .before .before))
+sub-constrain c = some-one _ (few (c .before .before .before .before .before .before .before .before .before .before .before .before))
 
 constrain-requires : tie.Need-constrain-requires
 unfolding at
-constrain-requires c κs = let q = c .before .before .before .before .before .before .before .before .before .before .before .pre in
+constrain-requires c κs = let q = c .before .before .before .before .before .before .before .before .before .before .before .before .pre in
     (q .0, q .2, cuts-made (c .before .before) (q .0) (q .1) (q .2) (q .3) (q .4) .startable .pending)
 
 returns-3 : tie.Need-returns-3
@@ -103,7 +104,7 @@ alternate-requires : tie.Need-alternate-requires
 unfolding at
 alternate-requires c κs =
     let c10 = c .before .before .before .before .before .before .before .before .before .before in
-    let q = c10 .before .before .before .before .pre in (q .0, q .1, q .2, q .3, rested (c .before .before .before .before) (q .0) (q .1) (q .2) (q .3) (q .4))
+    let q = c10 .before .before .before .before .before .pre in (q .0, q .1, q .2, q .3, rested (c .before .before .before .before) (q .0) (q .1) (q .2) (q .3) (q .4))
 
 returns-5 : tie.Need-returns-5
 unfolding at

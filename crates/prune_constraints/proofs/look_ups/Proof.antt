@@ -8,11 +8,11 @@ use Rattle.prune_constraints.proofs.look_ups.Statement.{statement}
 use Rattle.prune_constraints.proofs.look_ups.Tie as tie
 
 abbrev Inv-loop : tie.InvT-loop
-Inv-loop sets₀ numbers supports some v all₀ left₀ sets all left = (p : Problem) (todo : ℕ) → LookUpsPending p numbers supports sets₀ todo some v
+Inv-loop sets₀ work numbers supports some v all₀ left₀ sets all left = (p : Problem) (todo : ℕ) → LookUpsPending p numbers supports sets₀ work todo some v
     → LookedSoFar p numbers supports sets₀ sets todo some left all
 
 abbrev μ-loop : tie.MeasureT-loop
-μ-loop sets₀ numbers supports some v all₀ left₀ sets all left = left
+μ-loop sets₀ work numbers supports some v all₀ left₀ sets all left = left
 
 -- the invariant, for the problem of the `requires`
 so-far : (c : tie.In-loop Inv-loop μ-loop) → let d = c .before .before in LookedSoFar (d .pre .0) (d .args .numbers .now) (d .args .supports .now) (d .args .sets .now) (c .before .loop .sets)

@@ -1,5 +1,5 @@
--- Constraints on three variables whose first two sets have one value each, the second the same for all: what the functions that look the third up ask and
--- leave.
+-- Constraints on three variables whose first two sets have one value each, the first that of the prefix in `work`, the second the same for all: what the
+-- functions that look the third up ask and leave.
 use Rattle.model.specs.Kit.{_≡_, List, ℕ, _-_, _^_, _<_, T, length, bitAnd, bitOr}
 use Rattle.model.specs.{Lists.at, ValueSets.has, ValueSets.Inside, Problem.Problem, Problem.constraintAt, inner.Pruning.Sets}
 use Rattle.arrays.specs.{inner.Places.DEAD, inner.Pruning.Lessened, inner.Pruning.Ended}
@@ -9,17 +9,17 @@ use Rattle.prune_constraints.specs.{inner.Revised.ConstraintsPending, in
 abbrev pub Alone : ℕ → ℕ → Type 0
 Alone a v = OneValue a × T (has a v)
 
-pub record LookUp (p : Problem) (sets : List ℕ) (k v : ℕ) : Type 0 where
+pub record LookUp (p : Problem) (sets work : List ℕ) (k v : ℕ) : Type 0 where
   pub known : k < length (p .constraints)
   pub three : length (constraintAt p k .scope) ≡ 3
-  pub first : OneValue (at sets (at (constraintAt p k .scope) 0))
+  pub first : Alone (at sets (at (constraintAt p k .scope) 0)) (at work (at (constraintAt p k .scope) 0))
   pub second : Alone (at sets (at (constraintAt p k .scope) 1)) v
 
 -- ready to look up the constraints of `some`, where those of `todo` are due
-pub record LookUpsPending (p : Problem) (numbers supports sets : List ℕ) (todo some v : ℕ) : Type 0 where
+pub record LookUpsPending (p : Problem) (numbers supports sets work : List ℕ) (todo some v : ℕ) : Type 0 where
   pub pending : ConstraintsPending p numbers supports sets todo
   pub wide : todo < 2 ^ 64
-  pub looks : (k : ℕ) → T (has some k) → LookUp p sets k v
+  pub looks : (k : ℕ) → T (has some k) → LookUp p sets work k v
 
 -- the answer is DEAD at a dead end, else the variables whose sets changed: their constraints are due, and of `todo` those that were not looked up;
 -- which values are gone at a dead end is open, but no set has gained one
