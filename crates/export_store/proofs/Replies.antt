@@ -1,7 +1,7 @@
 -- The store's exported calls: an outcome's numbers fit the code and the answer; answers of 12 bytes and of another length. Assumes nothing.
 use Rattle.model.specs.Kit.{_≡_, sym, ap, _∙_, Bool, true, false, List, ℕ, _+_, _≤_, min, arith, leb, ltb, eqb, length, drop, length-take, eq-eqb, ne-eqb}
 use Rattle.model.specs.{Lists.both, Lists.either, Lists.choose, Verdict.Verdict, Verdict.accepted, Verdict.refused, Verdict.ask, Sheet.«word», Room.Outcome, Room.outcomeOf}
-use Rattle.store.specs.Store.{none, table, isTable, tableIn, Entries, keysOf, Action, put, fetch, remove, Call, call, actionVerdict, callVerdict, written}
+use Rattle.store.specs.Store.{none, table, isTable, tableIn, Entries, keysOf, Action, put, fetch, remove, StoreCall, call, actionVerdict, callVerdict, copiedOut}
 use Rattle.store.specs.Layout.{size, slotAt, slotWith, tableAt, storeOf, verdictOn, replyOn, bytesAfter}
 use Rattle.wire.specs.{Wire.wrongLength, Outcomes.outcomeCode, Outcomes.outcomeAnswer}
 use Rattle.wire.proofs.Codes.{Small, ask-small}
@@ -18,7 +18,7 @@ action-small es key (put t) = ask-plain (leb (length t) 2048) 33 _ (ask-plain (e
 action-small es key (fetch room) = ask-plain (isTable (es key)) 34 _ (ask-plain (leb (length (tableIn (es key))) (length room)) 35 accepted tt)
 action-small es key remove = ask-plain (isTable (es key)) 34 accepted tt
 
-verdict-on-small : (b : List ℕ) (x : Call) → Small (verdictOn b x)
+verdict-on-small : (b : List ℕ) (x : StoreCall) → Small (verdictOn b x)
 unfolding verdictOn callVerdict
 verdict-on-small b (call o key a) = ask-plain (eqb (length b) size) 255 _ (ask-plain (ltb o 4) 31 _ (action-small (storeOf b o) key a))
 
@@ -31,16 +31,16 @@ table-short b o key = go (both (ltb o 4) (ltb (slotWith b o key) 4))
     go true = omega (arith, length-take (min 2048 («word» b (slotAt o (slotWith b o key) + 2))) (drop (slotAt o (slotWith b o key) + 4) b))
     go false = omega arith
 
-written-short : (b : List ℕ) (o key : ℕ) (a : Action) → length (written a (storeOf b o key)) ≤ 2048
+written-short : (b : List ℕ) (o key : ℕ) (a : Action) → length (copiedOut a (storeOf b o key)) ≤ 2048
 written-short b o key (put t) = omega arith
 written-short b o key (fetch room) = table-short b o key
 written-short b o key remove = omega arith
 
-pub reply-holds : (b : List ℕ) (x : Call) → Holds (replyOn b x .outcome)
+pub reply-holds : (b : List ℕ) (x : StoreCall) → Holds (replyOn b x .outcome)
 unfolding replyOn
 reply-holds b (call o key a) = go (verdictOn b (call o key a)) (verdict-on-small b (call o key a))
   where
-    go : (v : Verdict) → Small v → Holds (outcomeOf v (written a (storeOf b o key)))
+    go : (v : Verdict) → Small v → Holds (outcomeOf v (copiedOut a (storeOf b o key)))
     go accepted h = let l = written-short b o key a in omega arith
     go (refused number item) h = h
 
@@ -52,7 +52,7 @@ module _ {A : Type 0} (yes other : A) (answer : List ℕ) where
   full : length answer ≡ 12 → yes ≡ choose (eqb (length answer) 12) yes other
   full h = sym (ap (λ (t : Bool). choose t yes other) (eq-eqb (length answer) 12 h))
 
-module _ (b : List ℕ) (x : Call) (answer : List ℕ) where
+module _ (b : List ℕ) (x : StoreCall) (answer : List ℕ) where
   -- the three things said of a call that may change the store
   abbrev pub Answered : ℕ → List ℕ → List ℕ → Type 0
   Answered n c d = (n ≡ storedCode b x answer) × ((c ≡ storedBytes b x answer) × (d ≡ storedAnswer b x answer))

@@ -2,16 +2,16 @@
 -- buffer afterwards. Where the answer has not 12 bytes nothing is changed.
 use Rattle.model.specs.Kit.{List, ℕ, _^_, _<_, eqb, length}
 use Rattle.model.specs.{Lists.choose, Room.Outcome, Room.answered, Room.refusal}
-use Rattle.store.specs.{Store.Call, Store.call, Store.fetch, Layout.replyOn, Layout.bytesAfter}
+use Rattle.store.specs.{Store.StoreCall, Store.call, Store.fetch, Layout.replyOn, Layout.bytesAfter}
 use Rattle.wire.specs.{Wire.wrongLength, Outcomes.outcomeCode, Outcomes.outcomeAnswer}
 
-unfoldable pub storedCode : List ℕ → Call → List ℕ → ℕ
+unfoldable pub storedCode : List ℕ → StoreCall → List ℕ → ℕ
 storedCode b x answer = choose (eqb (length answer) 12) (outcomeCode (replyOn b x .outcome)) wrongLength
 
-unfoldable pub storedAnswer : List ℕ → Call → List ℕ → List ℕ
+unfoldable pub storedAnswer : List ℕ → StoreCall → List ℕ → List ℕ
 storedAnswer b x answer = choose (eqb (length answer) 12) (outcomeAnswer (replyOn b x .outcome) answer) answer
 
-unfoldable pub storedBytes : List ℕ → Call → List ℕ → List ℕ
+unfoldable pub storedBytes : List ℕ → StoreCall → List ℕ → List ℕ
 storedBytes b x answer = choose (eqb (length answer) 12) (bytesAfter b x) b
 
 unfoldable pub storedRoom : List ℕ → ℕ → ℕ → List ℕ → List ℕ → List ℕ

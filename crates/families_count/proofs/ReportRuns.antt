@@ -11,7 +11,7 @@ use Rattle.sheet.specs.{inner.Form.Compilation, declared.Answer.the-variants.Ac
 use Rattle.sheet.proofs.Whole.{zeros}
 use Rattle.run_state.specs.inner.Walk.{stopIn}
 use Rattle.run_search.proofs.{Begun.numbers-kept, Explored.stop-in}
-use Rattle.run.specs.{Calls.Call, inner.Whole.Stopped, inner.Whole.Answered, declared.Answer.Answer, declared.Answer.the-variants.Refused}
+use Rattle.run.specs.{Calls.CallRun, inner.Whole.Stopped, inner.Whole.Answered, declared.Answer.Answer, declared.Answer.the-variants.Refused}
 use Rattle.run.proofs.Whole.{ended-same}
 use Rattle.families_count.specs.{Told.told, inner.Held.Runs, inner.Held.Ran, inner.Held.Fresh, inner.Held.Listed, inner.Held.RunTold}
 use Rattle.sheet.specs.declared.Answer as A
@@ -81,7 +81,7 @@ module _ (b : List ℕ) (limit : ℕ) (numbers supports images : List ℕ) (c : 
           let o = q .ended (λ z. omega arith) in
           record {
             sized = record { most = report-few; true-of = λ z. c .compiled refl .numbered .variables };
-            call = subst₂ (λ (i j : List ℕ). Call b limit i r j) x (sym (take-at list′ (drop (4096 * at numbers VARIABLES) whole) (4096 * at numbers VARIABLES) (y ∙ long))) record {
+            call = subst₂ (λ (i j : List ℕ). CallRun b limit i r j) x (sym (take-at list′ (drop (4096 * at numbers VARIABLES) whole) (4096 * at numbers VARIABLES) (y ∙ long))) record {
               answers = o .1 ∙ ap ended (ended-same (o .0) e (o .2 ∙ a .plans) (o .3 ∙ m ∙ a .nodes) (o .4 ∙ a .stopped)) ∙ ap (λ (u : Verdict). reply u e) (sym verdict);
               leaves = a .wrote ∙ ap (λ (u : Verdict). kept u list (written (resultOf (problemOf b) limit (length list) .rows) list)) (sym verdict);
             };

@@ -13,7 +13,7 @@ use Rattle.run_input.specs.Lent.{lentInput}
 use Rattle.run_input.proofs.Lent.{demanded-lent, fewer-lent}
 use Rattle.run_state.specs.{Meaning.tallyIn, Meaning.endingOf, declared.Tally.Tally, declared.Ending.Ending, declared.Ending.the-variants.Finished}
 use Rattle.run_state.specs.declared.Ending.the-variants.{Spent, Full}
-use Rattle.run.specs.{Meaning.means, Calls.Call, declared.Answer.Answer, declared.Answer.the-variants.Refused, declared.Answer.the-variants.Ended}
+use Rattle.run.specs.{Meaning.means, Calls.CallRun, declared.Answer.Answer, declared.Answer.the-variants.Refused, declared.Answer.the-variants.Ended}
 use Rattle.promises.specs.{Demands.ofSheet, Demands.AtEnd, Demands.AtFinish, Demands.Demands, Demands.Tallied, Demands.TallyHeld, Demands.MoreHeld, Demands.Run-demands}
 use Rattle.promises.specs.{Demands.Tally-demands, Demands.More-demands, DemandsLent.ofInput, DemandsLent.Lent-demands, DemandsLent.More-demands-lent}
 use Rattle.model.specs.Run as Run
@@ -168,7 +168,7 @@ module _ (b : List ℕ) (good : verdictOf b ≡ accepted) where
     unused = x .unused;
   }
 
-module _ (b : List ℕ) (limit : ℕ) (out : List ℕ) (r : Answer) (after : List ℕ) (c : Call b limit out r after) where
+module _ (b : List ℕ) (limit : ℕ) (out : List ℕ) (r : Answer) (after : List ℕ) (c : CallRun b limit out r after) where
   abbrev i : Input
   i = sheetInput b
 

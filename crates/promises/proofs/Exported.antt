@@ -6,7 +6,7 @@ use Rattle.model.specs.{Verdict.Verdict, Verdict.accepted, Verdict.refused, Ver
 use Rattle.model.specs.Sheet.{scopeAt, rowsAt, afterAt, headerVerdict, setsVerdict, constraintVerdict, constraintsVerdict, permutesPairs, offsetsFit, tablesFit, formVerdict}
 use Rattle.model.specs.{Sheet.symmetriesVerdict, Sheet.verdictOf, Run.refusal, Run.ended, Run.finished, Run.spent, Run.full, Run.answerOf, Run.written, Run.listOf}
 use Rattle.run_state.specs.{Meaning.endingOf, declared.Ending.Ending, declared.Ending.the-variants.Finished, declared.Ending.the-variants.Spent, declared.Ending.the-variants.Full}
-use Rattle.run.specs.{Calls.Call, declared.Answer.Answer, declared.Answer.the-variants.Ended}
+use Rattle.run.specs.{Calls.CallRun, declared.Answer.Answer, declared.Answer.the-variants.Ended}
 use Rattle.promises.proofs.Demands.{demands}
 use Rattle.wire.specs.Wire.{codeOf, wrongLength, threeNumbers, fourAt}
 use Rattle.export_run.specs.{Run.questionCode, Run.endingBytes, Run.answerCode, Run.answerBytes, Run.runCode, Run.runList, Run.runAnswer, Calls.CallExported}
@@ -182,7 +182,7 @@ module _ (b : List ℕ) (limit : ℕ) (list answer : List ℕ) (code : ℕ) (lis
           let n : 0 < number = subst Named e (verdict-named b) in
           absurd (omega arith)
 
-  called : code ≡ 0 → (e : Ending) × Tells answer′ e × Call b limit list (Ended e) list′
+  called : code ≡ 0 → (e : Ending) × Tells answer′ e × CallRun b limit list (Ended e) list′
   called z =
       let f = zero-so z in
       let r = ran-so (f .0) (f .1) .1 in (

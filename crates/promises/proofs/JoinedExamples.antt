@@ -7,7 +7,7 @@ use Rattle.order.specs.Reordered.{read, write, valueOf, scopeIn, rowIn, renamed
 use Rattle.block.specs.Block.{tablesLent, blockLent}
 use Rattle.run_input.specs.Lent.{verdictLent}
 use Rattle.run_cut.specs.Parts.{after, nodesBetween, lastOf}
-use Rattle.run_ranges.specs.{Ranges.resultPart, Ranges.answerPart, Ranges.listPart, Ranges.tallyPart, Ranges.lastPart, Claims.Part, Claims.Call, Claims.Done}
+use Rattle.run_ranges.specs.{Ranges.resultPart, Ranges.answerPart, Ranges.listPart, Ranges.tallyPart, Ranges.lastPart, Claims.Part, Claims.CallRange, Claims.Done}
 use Rattle.wire.specs.Wire.{threeNumbers}
 use Rattle.export_counts.specs.Tallied.{numbersOf}
 use Rattle.export_parts.specs.Head.{digestFrom, digest, nameBytes, pathBytes, headOf}
@@ -92,12 +92,12 @@ examples-joined = (
 )
 
 -- ---- what is supposed of joined heads is met
-own : (from upto : List ℕ) (limit room : ℕ) → Call sheetA [] [] (partA from upto limit room)
+own : (from upto : List ℕ) (limit room : ℕ) → CallRange sheetA [] [] (partA from upto limit room)
 own from upto limit room = record { answers = refl; leaves = refl; counts = refl; stands = refl }
 
-own-all : (cs : List Part) → Each (map (λ c. Call sheetA [] [] c) cs) → (c : Part) → List·Memᴰ c cs → Call sheetA [] [] c
+own-all : (cs : List Part) → Each (map (λ c. CallRange sheetA [] [] c) cs) → (c : Part) → List·Memᴰ c cs → CallRange sheetA [] [] c
 own-all [] h c m = absurd (List·Memᴰ·not-nil m)
-own-all (d ∷ cs) h c (List·Memᴰ·head e) = subst (Call sheetA [] []) (sym e) (h .0)
+own-all (d ∷ cs) h c (List·Memᴰ·head e) = subst (CallRange sheetA [] []) (sym e) (h .0)
 own-all (d ∷ cs) h c (List·Memᴰ·tail m) = own-all cs (h .1) c m
 
 counted : (l : List ℕ) → joinVerdict l ≡ accepted → (x : ℕ) → x < 12 → at (tabulate 12 (countOf l)) x ≡ figureFor (joinVerdict l) (countOf l x)

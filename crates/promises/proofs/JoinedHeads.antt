@@ -7,7 +7,7 @@ use Rattle.model.specs.Run.{plansIn, nodesIn, search, Answer, ended, Tally, set
 use Rattle.model.proofs.{Lists.at-append, Lists.at-tabulate, Lists.at-take, Lists.at-ext, Lists.length-tabulate, Lists.mem-getD, Tally.length-counts}
 use Rattle.wire.specs.Wire.{threeNumbers}
 use Rattle.run_input.specs.Lent.{verdictLent, orderLent, problemLent}
-use Rattle.run_ranges.specs.{Ranges.partNodes, Ranges.resultPart, Ranges.answerPart, Ranges.plansSaid, Ranges.nodesSaid, Ranges.madeBy, Ranges.tallyPart, Claims.Part, Claims.Call}
+use Rattle.run_ranges.specs.{Ranges.partNodes, Ranges.resultPart, Ranges.answerPart, Ranges.plansSaid, Ranges.nodesSaid, Ranges.madeBy, Ranges.tallyPart, Claims.Part, Claims.CallRange}
 use Rattle.run_join.specs.Join.{fourAt, pathAt, headsIn}
 use Rattle.export_run.specs.Run.{endingBytes}
 use Rattle.export_counts.specs.Tallied.{numbersOf}
@@ -153,7 +153,7 @@ module _ (b pairs block : List ℕ) (c : Part) (e : Ending) (twelve : length (c 
       }
 
 -- ---- a call
-module _ (b pairs block : List ℕ) (c : Part) (call : Call b pairs block c) where
+module _ (b pairs block : List ℕ) (c : Part) (call : CallRange b pairs block c) where
   pub twelve-counts : length (c .tally .counts) ≡ 12
   unfolding tallyPart
   twelve-counts =
@@ -189,7 +189,7 @@ module _ (b pairs block : List ℕ) (so : verdictLent b pairs block ≡ accepted
   abbrev lay : List Part → List ℕ
   lay cs = flat (map (headBytes b pairs block) cs)
 
-  length-heads : (cs : List Part) → ((c : Part) → List·Memᴰ c cs → Call b pairs block c) → length (lay cs) ≡ 115 * length cs
+  length-heads : (cs : List Part) → ((c : Part) → List·Memᴰ c cs → CallRange b pairs block c) → length (lay cs) ≡ 115 * length cs
   unfolding flat
   length-heads [] h = refl
   length-heads (c ∷ cs) h =
@@ -198,7 +198,7 @@ module _ (b pairs block : List ℕ) (so : verdictLent b pairs block ≡ accepted
       let z = length-heads cs (λ d m. h d (List·Memᴰ·tail m)) in
       omega arith
 
-  each-found : (cs : List Part) → ((c : Part) → List·Memᴰ c cs → Call b pairs block c) → (k : ℕ) (d : Part) → k < length cs → Found (lay cs) (115 * k) (headBytes b pairs block (getD cs k d))
+  each-found : (cs : List Part) → ((c : Part) → List·Memᴰ c cs → CallRange b pairs block c) → (k : ℕ) (d : Part) → k < length cs → Found (lay cs) (115 * k) (headBytes b pairs block (getD cs k d))
   unfolding flat at
   each-found [] h k d l = absurd (let z : k < 0 = l in omega arith)
   each-found (c ∷ cs) h zero d l = λ i m. let z : 115 * 0 + i ≡ i = omega arith in ap (at (headBytes b pairs block c ++ lay cs)) z ∙ at-append (headBytes b pairs block c) (lay cs) i m
@@ -219,7 +219,7 @@ module _ (b pairs block : List ℕ) (cs : List Part) (l : List ℕ) (h : HeldByt
   pub many-held : headsIn l ≡ length cs
   many-held = let n = size-held in omega arith
 
-  pub call-held : (k : ℕ) → k < length cs → Call b pairs block (partAt b pairs block cs k)
+  pub call-held : (k : ℕ) → k < length cs → CallRange b pairs block (partAt b pairs block cs k)
   call-held k m = h .calls (part k) (mem-getD cs k (partAt b pairs block [] 0) m)
 
   pub found-held : (k : ℕ) → k < length cs → Found l (115 * k) (headBytes b pairs block (partAt b pairs block cs k))

@@ -7,7 +7,7 @@ use Rattle.model.proofs.Lists.{T-of, keep-e, same-eq, both-second, never}
 use Rattle.run_cut.specs.Parts.{after, nodesBetween, lastOf}
 use Rattle.run_cut.proofs.{Parts.after-trans, Parts.after-asym, Parts.after-not, Resume.node-values, Resume.last-in, Resume.taken}
 use Rattle.run_input.specs.Lent.{verdictLent, problemLent}
-use Rattle.run_ranges.specs.{Ranges.nodesSaid, Ranges.madeBy, Ranges.lastPart, Claims.Part, Claims.Call, Claims.Goes, Claims.reachedFor, Claims.reachedBy, Claims.Chain}
+use Rattle.run_ranges.specs.{Ranges.nodesSaid, Ranges.madeBy, Ranges.lastPart, Claims.Part, Claims.CallRange, Claims.Goes, Claims.reachedFor, Claims.reachedBy, Claims.Chain}
 use Rattle.run_ranges.proofs.Between.{between, between-not}
 use Rattle.run_join.specs.Join.{pathAt, kindAt, fromAt, reachAt, headsIn, headShaped, alike, wholeHeads, joinVerdict, standPath, mayTake, reachOr, bestOf, stepOf, takenFrom}
 use Rattle.run_join.specs.Join.{standAfter}
@@ -82,7 +82,7 @@ none-full l v k h =
     leb-true (kindAt l k) 2 (each-below (λ k. leb (kindAt l k) 2) (headsIn l) (p4 .0) k h)
 
 -- ---- where a part stands
-module _ (b pairs block : List ℕ) (c : Part) (so : verdictLent b pairs block ≡ accepted) (call : Call b pairs block c) where
+module _ (b pairs block : List ℕ) (c : Part) (so : verdictLent b pairs block ≡ accepted) (call : CallRange b pairs block c) where
   abbrev p : Problem
   p = problemLent b pairs block
 
@@ -121,7 +121,7 @@ module _ (b pairs block l : List ℕ) (part : ℕ → Part) (held : HeldHeads b 
   pub record Linked (s : List ℕ) (k : ℕ) : Type 0 where
     pub begins : take 12 (part k .from) ≡ s
     pub forth : T (after (take 12 (part k .upto)) (take 12 (part k .from))) → ⊥
-    pub call : Call b pairs block (cutTwelve (part k))
+    pub call : CallRange b pairs block (cutTwelve (part k))
     pub goes : Goes (part k .answer)
     pub reaches : reachedBy (cutTwelve (part k)) ≡ reachAt l k
 
@@ -134,7 +134,7 @@ module _ (b pairs block l : List ℕ) (part : ℕ → Part) (held : HeldHeads b 
       c : Part
       c = cutTwelve (part k)
 
-      is-call : Call b pairs block (cutTwelve (part k))
+      is-call : CallRange b pairs block (cutTwelve (part k))
       is-call = call-twelve b pairs block (part k) (held .lent) (held .calls k i)
 
       begin : take 12 (part k .from) ≡ s

@@ -7,7 +7,7 @@ use Rattle.order.specs.Reordered.{write}
 use Rattle.run_cut.specs.Parts.{nodesBetween, lastOf}
 use Rattle.run_input.specs.Lent.{verdictLent, orderLent, problemLent}
 use Rattle.run_input.proofs.Lent.{well-lent}
-use Rattle.run_ranges.specs.{Ranges.partNodes, Ranges.resultPart, Ranges.answerPart, Ranges.listPart, Ranges.nodesSaid, Ranges.tallyPart, Ranges.lastPart, Claims.Part, Claims.Call}
+use Rattle.run_ranges.specs.{Ranges.partNodes, Ranges.resultPart, Ranges.answerPart, Ranges.listPart, Ranges.nodesSaid, Ranges.tallyPart, Ranges.lastPart, Claims.Part, Claims.CallRange}
 use Rattle.run_cut.proofs.Resume.{node-values}
 use Rattle.run_ranges.proofs.Between.{between, after-short}
 use Rattle.promises.specs.JoinedHeads.{cutTwelve}
@@ -46,7 +46,7 @@ module _ (b pairs block from upto from′ upto′ : List ℕ) (limit : ℕ) (out
 pub small-lent : (b pairs block : List ℕ) → verdictLent b pairs block ≡ accepted → problemOf b .variables ≤ 12
 small-lent b pairs block so = well-lent b pairs block (is-accepted (verdictLent b pairs block) so) .few
 
-pub call-twelve : (b pairs block : List ℕ) (c : Part) → verdictLent b pairs block ≡ accepted → Call b pairs block c → Call b pairs block (cutTwelve c)
+pub call-twelve : (b pairs block : List ℕ) (c : Part) → verdictLent b pairs block ≡ accepted → CallRange b pairs block c → CallRange b pairs block (cutTwelve c)
 call-twelve b pairs block c so h =
     let q = twelve-between (problemLent b pairs block) (c .from) (c .upto) (small-lent b pairs block so) in
     let from = take 12 (c .from) in

@@ -7,7 +7,7 @@ use Rattle.model.specs.{Lists.at, Lists.total, Lists.earlier, Lists.rowsAscend,
 use Rattle.model.specs.{Sheet.verdictOf, Sheet.problemOf, Run.listedPlans, Run.plansIn, Run.nodesIn, Run.tallyAt, Search.setsAt, Search.isLive, Claims.Leader, Claims.leaders, Claims.Chain}
 use Rattle.model.specs.Claims.{CountsAt, Largest, OneMore}
 use Rattle.run_state.specs.{Meaning.endingOf, declared.Tally.Tally, declared.Ending.Ending, declared.Ending.the-variants.Finished}
-use Rattle.run.specs.{Calls.Call, Calls.CallWith, declared.Answer.Answer, declared.Answer.the-variants.Refused, declared.Answer.the-variants.Ended}
+use Rattle.run.specs.{Calls.CallRun, Calls.CallWith, declared.Answer.Answer, declared.Answer.the-variants.Refused, declared.Answer.the-variants.Ended}
 
 -- ---- how a run reads: the verdict of its questions, its problem, a row as it reads, the leaders in reading order; the problem whose tree it walks, and of the tree's first k
 -- nodes those that settle each of twelve variables; which variable a prefix gives its value j to, whether the prefix is live, and the sets there
@@ -98,7 +98,7 @@ pub record MoreHeld (i j : Reading) (limit : ℕ) (out : List ℕ) (r : Answer) 
 
 -- ---- of calls
 abbrev pub Run-demands : Type 0
-Run-demands = (b : List ℕ) (limit : ℕ) (out : List ℕ) (r : Answer) (after : List ℕ) → Call b limit out r after → Demands (ofSheet b) limit out r after
+Run-demands = (b : List ℕ) (limit : ℕ) (out : List ℕ) (r : Answer) (after : List ℕ) → CallRun b limit out r after → Demands (ofSheet b) limit out r after
 
 abbrev pub Tally-demands : Type 0
 Tally-demands =
@@ -108,6 +108,6 @@ Tally-demands =
 abbrev pub More-demands : Type 0
 More-demands =
     (b c t : List ℕ) (k : ℕ) → OneMore b c k t →
-    (limit : ℕ) (out : List ℕ) (r : Answer) (after : List ℕ) → Call b limit out r after →
-    (limit₂ : ℕ) (out₂ : List ℕ) (r₂ : Answer) (after₂ : List ℕ) → Call c limit₂ out₂ r₂ after₂ →
+    (limit : ℕ) (out : List ℕ) (r : Answer) (after : List ℕ) → CallRun b limit out r after →
+    (limit₂ : ℕ) (out₂ : List ℕ) (r₂ : Answer) (after₂ : List ℕ) → CallRun c limit₂ out₂ r₂ after₂ →
     MoreHeld (ofSheet b) (ofSheet c) limit out r after limit₂ out₂ r₂ after₂

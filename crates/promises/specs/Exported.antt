@@ -3,7 +3,7 @@
 use Rattle.model.specs.Kit.{_≡_, _↔_, List, ℕ, _+_, _*_, length}
 use Rattle.export_run.specs.Calls.{CallCode, CallExported}
 use Rattle.model.specs.{Verdict.accepted, Verdict.refused, Sheet.verdictOf}
-use Rattle.run.specs.{Calls.Call, declared.Answer.the-variants.Ended}
+use Rattle.run.specs.{Calls.CallRun, declared.Answer.the-variants.Ended}
 use Rattle.promises.specs.Demands.{ofSheet, AtEnd, AtFinish}
 use Rattle.run_state.specs.{declared.Ending.Ending, declared.Ending.the-variants.Finished, declared.Ending.the-variants.Spent, declared.Ending.the-variants.Full}
 use Rattle.wire.specs.Wire.{wrongLength, fourAt}
@@ -30,7 +30,7 @@ pub record ExportedHeld (b : List ℕ) (limit : ℕ) (list answer : List ℕ) (c
   pub ends : (length answer ≡ 12) × (verdictOf b ≡ accepted) → code ≡ 0
   pub zero : code ≡ 0 → (length answer ≡ 12) × (verdictOf b ≡ accepted)
   -- code 0: the bytes tell an ending of a call of `run` with this list, so that all of `Demands` holds of it ..
-  pub called : code ≡ 0 → (e : Ending) × Tells answer′ e × Call b limit list (Ended e) list′
+  pub called : code ≡ 0 → (e : Ending) × Tells answer′ e × CallRun b limit list (Ended e) list′
   -- .. demand 2 for every ending, and demands 2 and 3 where the first number is 1: the second number of plans stands at the front of the list
   pub at-end : code ≡ 0 → (e : Ending) × Tells answer′ e × AtEnd (ofSheet b) limit list e list′
   pub at-finish : code ≡ 0 → fourAt answer′ 0 ≡ 1 → AtFinish (ofSheet b) (fourAt answer′ 4) list′

@@ -5,7 +5,7 @@ use Rattle.model.specs.{Lists.at, Lists.rowsAscend, Problem.isSolution, Sheet.p
 use Rattle.model.specs.Claims.{Leader}
 use Rattle.order.specs.Reordered.{read, earlierBy}
 use Rattle.run_input.specs.Lent.{verdictLent, problemWith, orderLent, problemLent, answerLent, listLent, tallyLent}
-use Rattle.run_ranges.specs.{Ranges.nodesSaid, Claims.Part, Claims.Call, Claims.plansHeld, Claims.Goes, Claims.Done, Claims.Chain, Claims.allPlans}
+use Rattle.run_ranges.specs.{Ranges.nodesSaid, Claims.Part, Claims.CallRange, Claims.plansHeld, Claims.Goes, Claims.Done, Claims.Chain, Claims.allPlans}
 use Rattle.run_cut.specs.Parts.{after, nodesBetween, Cuts, lastOf}
 use Rattle.run_join.specs.{Join.fromAt, Join.reachAt, Join.headsIn, Join.joinVerdict, Join.standPath, Join.beginOr, Calls.CallJoin, declared.Answer.the-variants.Joined}
 use Rattle.run_join.specs.{declared.Answer.the-variants.Missing, declared.Joining.Joining}
@@ -20,12 +20,12 @@ Twelve-nodes =
     nodesBetween (problemLent b pairs block) from upto ≡ nodesBetween (problemLent b pairs block) (take 12 from) (take 12 upto)
 
 abbrev pub Twelve-values : Type 0
-Twelve-values = (b pairs block : List ℕ) (c : Part) → verdictLent b pairs block ≡ accepted → Call b pairs block c → Call b pairs block (cutTwelve c)
+Twelve-values = (b pairs block : List ℕ) (c : Part) → verdictLent b pairs block ≡ accepted → CallRange b pairs block c → CallRange b pairs block (cutTwelve c)
 
 -- ---- heads
 -- the 115 bytes of a call's head say what the call said ..
 abbrev pub Head-says : Type 0
-Head-says = (b pairs block : List ℕ) (c : Part) → verdictLent b pairs block ≡ accepted → Call b pairs block c → HeadOf (headBytes b pairs block c) 0 c × (length (headBytes b pairs block c) ≡ 115)
+Head-says = (b pairs block : List ℕ) (c : Part) → verdictLent b pairs block ≡ accepted → CallRange b pairs block c → HeadOf (headBytes b pairs block c) 0 c × (length (headBytes b pairs block c) ≡ 115)
 
 -- .. and so does each of many heads, one behind the other
 abbrev pub Heads-say : Type 0
@@ -97,17 +97,17 @@ pub record SameHeld (n : ℕ) (c d : Part) : Type 0 where
 
 abbrev pub Spent-finished : Type 0
 Spent-finished =
-    (b pairs block : List ℕ) (c : Part) → verdictLent b pairs block ≡ accepted → Call b pairs block c → (T (after (c .upto) (c .from)) → ⊥) →
+    (b pairs block : List ℕ) (c : Part) → verdictLent b pairs block ≡ accepted → CallRange b pairs block c → (T (after (c .upto) (c .from)) → ⊥) →
     (plans made : ℕ) → c .answer ≡ ended (spent plans made) →
-    (d : Part) → Call b pairs block d → d .from ≡ c .from → d .upto ≡ c .last → made ≤ d .limit → plans * problemOf b .variables ≤ length (d .out) →
+    (d : Part) → CallRange b pairs block d → d .from ≡ c .from → d .upto ≡ c .last → made ≤ d .limit → plans * problemOf b .variables ≤ length (d .out) →
     (d .answer ≡ ended (finished plans made)) × SameHeld (problemOf b .variables) c d
 
 -- a full part is not: a call of that range finds one plan more than the part listed
 abbrev pub Full-lacks : Type 0
 Full-lacks =
-    (b pairs block : List ℕ) (c : Part) → verdictLent b pairs block ≡ accepted → Call b pairs block c → (T (after (c .upto) (c .from)) → ⊥) →
+    (b pairs block : List ℕ) (c : Part) → verdictLent b pairs block ≡ accepted → CallRange b pairs block c → (T (after (c .upto) (c .from)) → ⊥) →
     (plans made : ℕ) → c .answer ≡ ended (full plans made) →
-    (d : Part) → Call b pairs block d → d .from ≡ c .from → d .upto ≡ c .last → made ≤ d .limit → suc plans * problemOf b .variables ≤ length (d .out) →
+    (d : Part) → CallRange b pairs block d → d .from ≡ c .from → d .upto ≡ c .last → made ≤ d .limit → suc plans * problemOf b .variables ≤ length (d .out) →
     d .answer ≡ ended (finished (suc plans) made)
 
 -- ---- heads that join

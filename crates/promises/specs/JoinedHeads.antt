@@ -2,7 +2,7 @@
 use Rattle.model.specs.Kit.{_≡_, List, [], map, List·Memᴰ, ℕ, _+_, _*_, _<_, take, getD}
 use Rattle.model.specs.{Lists.at, Lists.flat, Run.finished, Run.spent, Run.full, Run.Answer, Run.refusal, Run.answered, Verdict.accepted}
 use Rattle.run_input.specs.Lent.{verdictLent}
-use Rattle.run_ranges.specs.{Ranges.plansSaid, Ranges.nodesSaid, Claims.Part, Claims.Call}
+use Rattle.run_ranges.specs.{Ranges.plansSaid, Ranges.nodesSaid, Claims.Part, Claims.CallRange}
 use Rattle.run_join.specs.Join.{fourAt, pathAt, kindAt, fromAt, headsIn, taken}
 use Rattle.export_parts.specs.{Head.headFor, Parts.partOf}
 
@@ -41,7 +41,7 @@ cutTwelve c = record {
 -- every head is that of a call of one accepted lending, whatever its range, limit and list; in any order, repeats too
 pub record HeldHeads (b pairs block l : List ℕ) (part : ℕ → Part) : Type 0 where
   pub lent : verdictLent b pairs block ≡ accepted
-  pub calls : (k : ℕ) → k < headsIn l → Call b pairs block (part k)
+  pub calls : (k : ℕ) → k < headsIn l → CallRange b pairs block (part k)
   pub heads : (k : ℕ) → k < headsIn l → HeadOf l k (part k)
 
 -- the calls whose heads `join` takes, one behind the other
@@ -54,7 +54,7 @@ headBytes b pairs block c = headFor b pairs block c (c .answer) []
 
 pub record HeldBytes (b pairs block : List ℕ) (cs : List Part) (l : List ℕ) : Type 0 where
   pub lent : verdictLent b pairs block ≡ accepted
-  pub calls : (c : Part) → List·Memᴰ c cs → Call b pairs block c
+  pub calls : (c : Part) → List·Memᴰ c cs → CallRange b pairs block c
   pub bytes : l ≡ flat (map (headBytes b pairs block) cs)
 
 -- call k of them

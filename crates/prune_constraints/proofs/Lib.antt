@@ -8,4 +8,5 @@ pub mod ConstrainLoop
 pub mod Touching
 pub mod LookUpLoop
 pub mod Unions
+pub mod Sixteen
 pub mod Removal

@@ -12,18 +12,25 @@ use Rattle.prune_constraints.specs.inner.Lanes.{FullLanes, LaneUnion, In
 use Rattle.prune_constraints.proofs.Bits.{one-small}
 
 -- the member itself where some set is not empty
+pub full-i : (s u : ℕ) → (s ≡ 0 → ⊥) → T (has (oneIf (not (eqb s 0)) u) u)
+full-i s u n = subst T (sym (has-oneIf (not (eqb s 0)) u u)) (both-i (not (eqb s 0)) (eqb u u) (T-of (not (eqb s 0)) (ap not (ne-eqb s 0 n))) (lib.Dec.eqb-refl u))
+
+pub full-e : (s u w : ℕ) → T (has (oneIf (not (eqb s 0)) u) w) → (w ≡ u) × (s ≡ 0 → ⊥)
+full-e s u w t =
+    let q = subst T (has-oneIf (not (eqb s 0)) u w) t in
+    (lib.Dec.eqb→eq w u (both-r (not (eqb s 0)) (eqb w u) q), λ e. subst T (ap not (eq-eqb s 0 e)) (both-l (not (eqb s 0)) (eqb w u) q))
+
 pub one-i : (s u : ℕ) → (v : ℕ) → T (has s v) → T (has (oneIf (not (eqb s 0)) u) u)
-one-i s u v t =
-    subst T (sym (has-oneIf (not (eqb s 0)) u u)) (both-i (not (eqb s 0)) (eqb u u) (T-of (not (eqb s 0)) (ap not (ne-eqb s 0 (λ e. has-0 v (subst (λ (n : ℕ). T (has n v)) e t)))))
-    (lib.Dec.eqb-refl u))
+one-i s u v t = full-i s u (λ e. has-0 v (subst (λ (n : ℕ). T (has n v)) e t))
 
 pub one-e : (k s u w : ℕ) → s < 2 ^ k → T (has (oneIf (not (eqb s 0)) u) w) → (w ≡ u) × ((v : ℕ) × T (has s v))
-one-e k s u w h t =
-    let q = subst T (has-oneIf (not (eqb s 0)) u w) t in
-    let n : s ≡ 0 → ⊥ = λ e. subst T (ap not (eq-eqb s 0 e)) (both-l (not (eqb s 0)) (eqb w u) q) in
-    (lib.Dec.eqb→eq w u (both-r (not (eqb s 0)) (eqb w u) q), (trailingZeros k s, low-has k s (omega arith) h .0))
+one-e k s u w h t = let q = full-e s u w t in let n : s ≡ 0 → ⊥ = q .1 in (q .0, (trailingZeros k s, low-has k s (omega arith) h .0))
 
-one-lt : (s : ℕ) (b : Bool) (v : ℕ) → s ≡ oneIf b v → v < 16 → s < 2 ^ 16
+-- a value left is the lowest or one of the others
+pub others-or : (m v m′ : ℕ) → m < 2 ^ 16 → (m ≡ 0 → ⊥) → v ≡ lowestOf m → m′ ≡ withoutMask m (lowestOf m) → (u : ℕ) → T (has m u) → T (has m′ u) ⊎ (u ≡ v)
+others-or m v m′ h n low less u r = ⊎-elim (λ o. inl (subst (λ (i : ℕ). T (has i u)) (without-lowest-op m h ∙ sym less) o)) (λ o. inr (o ∙ lowest-op 16 m ∙ sym low)) (rest-i 16 m (omega arith) h u r)
+
+pub one-lt : (s : ℕ) (b : Bool) (v : ℕ) → s ≡ oneIf b v → v < 16 → s < 2 ^ 16
 one-lt s b v e h = subst (λ (z : ℕ). z < 2 ^ 16) (sym e) (one-small b v h)
 
 pub small : (f : ℕ → Bool) (r : ℕ) → r ≡ maskOf f → r < 2 ^ 16
@@ -115,16 +122,13 @@ module _ (t : List ℕ) (base a b : ℕ) where
       (bitAnd (at t (base + v)) b ≡ 0 → ⊥) → all′ ≡ bitOr all (bitAnd (at t (base + v)) b) → Passing m′ all′
   passing-turn k m v m′ {all} {all′} j n low less h z l = record {
     rest = others-left a m v (j .rest) n low m′ less;
-    firsts = λ u q. ⊎-elim inl (λ r. ⊎-elim (λ o. inr o) (λ o. inl (subst (λ (i : ℕ). (w : ℕ) × Gives i w) (sym o) (some-given k v h z))) (passed-i u r)) (j .firsts u q);
+    firsts = λ u q. ⊎-elim inl (λ r. ⊎-elim (λ o. inr o) (λ o. inl (subst (λ (i : ℕ). (w : ℕ) × Gives i w) (sym o) (some-given k v h z)))
+        (others-or m v m′ (j .rest .0) n low less u r)) (j .firsts u q);
     lasts = others-union a m v (j .rest) n low m′ less Gives all x all′ (j .lasts) l (λ w q. and-i (at t (base + v)) b w (q .1) (q .0)) (λ w q. let d = and-e (at t (base + v)) b w q in (d .1, d .0));
   }
     where
       x : ℕ
       x = bitAnd (at t (base + v)) b
-
-      passed-i : (u : ℕ) → T (has m u) → T (has m′ u) ⊎ (u ≡ v)
-      passed-i u r = ⊎-elim (λ o. inl (subst (λ (i : ℕ). T (has i u)) (without-lowest-op m (j .rest .0) ∙ sym less) o)) (λ o. inr (o ∙ lowest-op 16 m ∙ sym low))
-          (rest-i 16 m (omega arith) (j .rest .0) u r)
 
   pub passing-end : (m all : ℕ) → m ≡ 0 → Passing m all → Joined t base a b a all
   passing-end m all e j = record {
@@ -136,60 +140,6 @@ module _ (t : List ℕ) (base a b : ℕ) where
 
 -- ---- three sets by 256 sets of a table
 module _ (t : List ℕ) (base a b e : ℕ) where
-  abbrev Firsts : ℕ → ℕ → Type 0
-  Firsts u x = (x ≡ u) × ((v : ℕ) × ((w : ℕ) × Together t (base + 16 * u) b e v w))
-
-  abbrev Seconds : ℕ → ℕ → Type 0
-  Seconds u v = (w : ℕ) × Together t (base + 16 * u) b e v w
-
-  abbrev Lasts : ℕ → ℕ → Type 0
-  Lasts u w = (v : ℕ) × Together t (base + 16 * u) b e v w
-
-  pub record Joining3 (m first second last : ℕ) : Type 0 where
-    pub rest : Rest 16 a m
-    pub narrow : (first < 2 ^ 16) × (second < 2 ^ 16) × (last < 2 ^ 16)
-    pub firsts : Union Firsts a m first
-    pub seconds : Union Seconds a m second
-    pub lasts : Union Lasts a m last
-
-  pub joining3-begin : a < 2 ^ 16 → Joining3 a 0 0 0
-  joining3-begin h = record { rest = rest-begin 16 a h; narrow = (omega arith, omega arith, omega arith); firsts = union-begin Firsts a; seconds = union-begin Seconds a; lasts = union-begin Lasts a }
-
-  pub joining3-turn : (m u m′ : ℕ) {first s first′ second x second′ last y last′ : ℕ} → Joining3 m first second last → (m ≡ 0 → ⊥) → u ≡ lowestOf m → m′ ≡ withoutMask m (lowestOf m) →
-      x < 2 ^ 16 → y < 2 ^ 16 → Joined t (base + 16 * u) b e x y → s ≡ oneIf (not (eqb x 0)) u → first′ ≡ unionMask first s → second′ ≡ unionMask second x → last′ ≡ unionMask last y
-      → Joining3 m′ first′ second′ last′
-  joining3-turn m u m′ {first} {s} {first′} {second} {x} {second′} {last} {y} {last′} j n low less h i r q f g l = record {
-    rest = others-left a m u (j .rest) n low m′ less;
-    narrow = (small _ first′ f, small _ second′ g, small _ last′ l);
-    firsts =
-        others-union a m u (j .rest) n low m′ less Firsts first s first′ (j .firsts) (f ∙ sym (union-op first s (j .narrow .0) (one-lt s (not (eqb x 0)) u q (lowest-left a m u (j .rest) n low .1))))
-        (λ z i. subst (λ (c : ℕ). T (has c z)) (sym q) (subst (λ (c : ℕ). T (has (oneIf (not (eqb x 0)) u) c)) (sym (i .0)) (one-i x u (i .1 .0) (r .first-i (i .1 .0) (i .1 .1 .0) (i .1 .1 .1)))))
-        (λ z i. let k = one-e 16 x u z h (subst (λ (c : ℕ). T (has c z)) q i) in (k .0, (k .1 .0, r .first-e (k .1 .0) (k .1 .1))));
-    seconds = others-union a m u (j .rest) n low m′ less Seconds second x second′ (j .seconds) (g ∙ sym (union-op second x (j .narrow .1) h)) (λ v i. r .first-i v (i .0) (i .1))
-        (λ v i. r .first-e v i);
-    lasts = others-union a m u (j .rest) n low m′ less Lasts last y last′ (j .lasts) (l ∙ sym (union-op last y (j .narrow .2) i)) (λ w i. r .last-i (i .0) w (i .1)) (λ w i. r .last-e w i);
-  }
-
-  pub joining3-end : (m first second last : ℕ) → m ≡ 0 → Joining3 m first second last → Joined3 (Together3 t base a b e) first second last
-  joining3-end m first second last z j = record {
-    first-i = λ u v w q. union-end Firsts a m first z (j .firsts) u u (q .0) (refl, (v, (w, q .1)));
-    first-e = λ u q. let r = j .firsts .got u q in (
-      r .2 .1 .0,
-      (
-        r .2 .1 .1 .0,
-        (
-          subst (λ (y : ℕ). T (has a y)) (sym (r .2 .0)) (r .1),
-          subst (λ (y : ℕ). Together t (base + 16 * y) b e (r .2 .1 .0) (r .2 .1 .1 .0)) (sym (r .2 .0))
-              (r .2 .1 .1 .1),
-        ),
-      ),
-    );
-    second-i = λ u v w q. union-end Seconds a m second z (j .seconds) u v (q .0) (w, q .1);
-    second-e = λ v q. let r = j .seconds .got v q in (r .0, (r .2 .0, (r .1, r .2 .1)));
-    last-i = λ u v w q. union-end Lasts a m last z (j .lasts) u w (q .0) (v, q .1);
-    last-e = λ w q. let r = j .lasts .got w q in (r .0, (r .2 .0, (r .1, r .2 .1)));
-  }
-
   -- where a has one value u, what goes together by the sixteen sets for u
   pub joined3-one : (u : ℕ) {second last : ℕ} → a < 2 ^ 16 → OneValue a → u ≡ lowestOf a → second < 2 ^ 16 → (second ≡ 0 → ⊥) → Joined t (base + 16 * u) b e second last → Joined3
       (Together3 t base a b e) a second last

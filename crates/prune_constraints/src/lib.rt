@@ -27,7 +27,7 @@ ghost use Rattle.model.specs.Problem.{constraintAt};
 ghost use Rattle.arrays.specs.inner.Tables.{Spreads, Words};
 ghost use Rattle.prune_constraints.specs.inner.Revised.{Revision, ConstraintsPending, Constrained};
 ghost use Rattle.prune_constraints.specs.inner.Steps.{OneValue, Joined, Together3, Joined3, Scoped, Nonempty, Narrow, ConstraintsHeld, SetCut, Touched};
-ghost use Rattle.prune_constraints.specs.inner.Steps.{Waiting, Round};
+ghost use Rattle.prune_constraints.specs.inner.Steps.{Masks, Met, FullSets, Waiting, Round};
 ghost use Rattle.prune_constraints.specs.inner.LookUps.{LookUp, LookUpsPending, LookedUp};
 ghost use Rattle.prune_constraints.specs.inner.Lanes.{FullLanes, LaneUnion, FullHeads, Halves, TogetherIn, InLanes, InLane};
 
@@ -90,29 +90,72 @@ fn joined(supports: &Supports, base: usize, a: ValueSet, b: ValueSet) -> Two
     Two { first, last }
 }
 
-// The same for three sets, by 256 sets of the table.
+// Sixteen sets: e where the set b has the value, else the empty set.
+fn masks(b: ValueSet, e: ValueSet) -> [u16; 16]
+    ensures { λ r. ⌜ Masks (b .bits) (e .bits) r ⌝ }
+{
+    let mut all = [0u16; 16];
+    let mut left = b;
+    while !left.is_empty() {
+        all[left.lowest() as usize] = e.bits;
+        left = left.without_lowest();
+    }
+    all
+}
+
+// Adds to sixteen sets what those of the table from a base on have of the masks; the union of what they have.
+// There is no branch, so that the compiler takes all sixteen at once.
+fn meet(supports: &Supports, base: usize, masks: &[u16; 16], all: &mut [u16; 16]) -> u16
+    requires { ⌜ base + 16 ≤ SUPPORTS ⌝ }
+    requires { ⌜ length (now all) ≡ 16 ⌝ }
+    ensures { λ r. ⌜ Met (now (supports .entry)) base (now (masks .entry)) (now (all .entry)) (now (all .exit)) r ⌝ }
+{
+    let mut some = 0u16;
+    let mut v = 0;
+    while v < 16 {
+        let t = supports[base + v] & masks[v];
+        all[v] = all[v] | t;
+        some = some | t;
+        v += 1;
+    }
+    some
+}
+
+// The values of b whose sets are not empty.
+fn full_sets(all: &[u16; 16], b: ValueSet) -> ValueSet
+    ensures { λ r. ⌜ FullSets (now (all .entry)) (b .bits) (r .bits) ⌝ }
+{
+    let mut full = ValueSet::EMPTY;
+    let mut left = b;
+    while !left.is_empty() {
+        let v = left.lowest();
+        full = full.union(one_if(all[v as usize] != 0, v));
+        left = left.without_lowest();
+    }
+    full
+}
+
+// The values of three sets that go together with some of the other two, by 256 sets of the table.
 fn joined3(supports: &Supports, base: usize, a: ValueSet, b: ValueSet, e: ValueSet) -> Three
     requires { ⌜ base + 256 ≤ SUPPORTS ⌝ }
     ensures { λ r. ⌜ Joined3 (Together3 (now (supports .entry)) base (a .bits) (b .bits) (e .bits)) (r .first .bits) (r .second .bits) (r .last .bits) ⌝ }
 {
+    let masks = masks(b, e);
     let mut first = ValueSet::EMPTY;
-    let mut second = ValueSet::EMPTY;
-    let mut last = ValueSet::EMPTY;
+    let mut last = 0u16;
+    let mut all = [0u16; 16];
     let mut left = a;
     while !left.is_empty() {
         let u = left.lowest();
-        let r = joined(supports, base + 16 * (u as usize), b, e);
-        let t = r.first;
-        let s = r.last;
-        first = first.union(one_if(!t.is_empty(), u));
-        second = second.union(t);
-        last = last.union(s);
+        let some = meet(supports, base + 16 * (u as usize), &masks, &mut all);
+        first = first.union(one_if(some != 0, u));
+        last = last | some;
         left = left.without_lowest();
     }
     Three {
         first,
-        second,
-        last,
+        second: full_sets(&all, b),
+        last: ValueSet { bits: last },
     }
 }
 

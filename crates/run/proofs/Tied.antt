@@ -10,7 +10,7 @@ use contract.Lifetimes.{Lfts}
 use contract.Monad.{Fun, fact}
 use denote.Triple.Entry.{Args, Res}
 use denote.Triple.Clauses.{AtExit, closing}
-use Rattle.run.specs.Calls.{Call, CallWith, CallLent, CallCounted, CallEnough}
+use Rattle.run.specs.Calls.{CallRun, CallWith, CallLent, CallCounted, CallEnough}
 use Rattle.run.proofs.run as run
 use Rattle.run.proofs.at_least as at-least
 use Rattle.run.proofs.run_with as run-with
@@ -20,7 +20,7 @@ use Rattle.run.proofs.run_counted as run-counted
 module _ {M : Type 1} (𝓤 : URA M) (H : Heap 𝓤) (A : Atoms 𝓤) (mem : Memory → SProp 𝓤) (of : Routine → Fun 𝓤) where
   pub run-tied : (κs : Lfts 2) (a : Args run.signature κs) (r : Res run.signature κs) (s : AtExit run.ended κs) →
       (run.clauses 𝓤 H A mem of κs a .requires tt ≡ emp 𝓤)
-      × (run.clauses 𝓤 H A mem of κs a .ensures tt r s ≡ fact 𝓤 (Call (now (a .0)) (a .1 .0) (now (a .1 .1 .0)) r (now (s .1 .1 .0))))
+      × (run.clauses 𝓤 H A mem of κs a .ensures tt r s ≡ fact 𝓤 (CallRun (now (a .0)) (a .1 .0) (now (a .1 .1 .0)) r (now (s .1 .1 .0))))
   run-tied κs a r s = (refl, refl)
 
   pub run-with-tied : (κs : Lfts 3) (a : Args run-with.signature κs) (r : Res run-with.signature κs) (s : AtExit run-with.ended κs) →

@@ -8,13 +8,13 @@ use Rattle.run_state.specs.{Meaning.tallyIn, declared.Tally.Tally}
 use Rattle.run.specs.{Meaning.means, Meaning.saidEnough, declared.Answer.Answer, declared.CountedRun.CountedRun, declared.Enough.Enough}
 
 -- `run`: sheet b, node limit, list `out` as it came, answer r, list `after` at the end
-pub record Call (b : List ℕ) (limit : ℕ) (out : List ℕ) (r : Answer) (after : List ℕ) : Type 0 where
+pub record CallRun (b : List ℕ) (limit : ℕ) (out : List ℕ) (r : Answer) (after : List ℕ) : Type 0 where
   pub answers : means r ≡ answerOf b limit out
   pub leaves : after ≡ listOf b limit out
 
 -- `run_with`, which is lent a tally besides: as it came, and at the end
 pub record CallWith (b : List ℕ) (limit : ℕ) (out : List ℕ) (tally : Tally) (r : Answer) (after : List ℕ) (tally′ : Tally) : Type 0 where
-  pub call : Call b limit out r after
+  pub call : CallRun b limit out r after
   pub counts : tallyIn tally′ ≡ tallyOf b limit out (tallyIn tally)
 
 -- `run_lent`, which is lent pairs and a block besides

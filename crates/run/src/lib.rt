@@ -16,7 +16,7 @@ use run_state::Ending;
 use run_state::Tally;
 ghost use mathlib.Core.Path.{_≡_};
 ghost use Rattle.run.specs.Meaning.{means, saidEnough};
-ghost use Rattle.run.specs.Calls.{Call, CallWith, CallLent, CallCounted, CallEnough};
+ghost use Rattle.run.specs.Calls.{CallRun, CallWith, CallLent, CallCounted, CallEnough};
 ghost use Rattle.run.specs.inner.Tasks.{enoughNone, enoughFor};
 ghost use Rattle.run.specs.inner.Whole.{Stopped, Answered, Wanted};
 
@@ -161,7 +161,7 @@ pub fn run_counted(
 
 // A run of paper 01 whose tally is not asked for.
 pub fn run(sheet: &[u8], limit: u32, list: &mut [u8]) -> Answer
-    ensures { λ r. ⌜ Call (now (sheet .entry)) limit (now (list .entry)) r (now (list .exit)) ⌝ }
+    ensures { λ r. ⌜ CallRun (now (sheet .entry)) limit (now (list .entry)) r (now (list .exit)) ⌝ }
 {
     let none = [0u8; 0];
     let r = run_counted(sheet, &none, &none, limit, list);

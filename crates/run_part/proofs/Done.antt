@@ -18,7 +18,7 @@ use Rattle.run_search.specs.inner.Prepared.{Prepared}
 use Rattle.run_search.proofs.Prepared.{room-fits, room-most}
 use Rattle.run.specs.{Meaning.means, inner.Whole.Stopped, inner.Whole.Answered}
 use Rattle.run.proofs.Whole.{nothing-of}
-use Rattle.run_ranges.specs.{Ranges.resultPart, Ranges.answerPart, Ranges.listPart, Ranges.nodesSaid, Ranges.tallyPart, Ranges.lastPart, Claims.Call, inner.Within.within}
+use Rattle.run_ranges.specs.{Ranges.resultPart, Ranges.answerPart, Ranges.listPart, Ranges.nodesSaid, Ranges.tallyPart, Ranges.lastPart, Claims.CallRange, inner.Within.within}
 use Rattle.run_ranges.proofs.Within.{within-whole}
 use Rattle.run_between.specs.inner.Steps.{AtBelow, Valued, Parted}
 use Rattle.run_between.proofs.Ends.{Begun, put-last, put-short, put-asks, valued-last}
@@ -305,6 +305,6 @@ module _ (task b pairs block from upto : List ℕ) (limit : ℕ) (list : List �
               let z = eqb-false step REFUSED c in
               ap (λ (s : State). s .tally) (ended-so z) ∙ sym (ap (λ (u : Verdict). told (reply u (resultPart b pairs block from upto limit (length list) .ending))) (good z))
 
-      pub part-call : Call b pairs block record { from = from; upto = upto; limit = limit; out = list; answer = means r; list = list₂; tally = tally₂; last = take (at work₂ LAST) last }
+      pub part-call : CallRange b pairs block record { from = from; upto = upto; limit = limit; out = list; answer = means r; list = list₂; tally = tally₂; last = take (at work₂ LAST) last }
       unfolding lastPart
       part-call = record { answers = answers-so; leaves = leaves-so; counts = counts-so; stands = valued-last work₂ last part-short v ∙ stands-so }

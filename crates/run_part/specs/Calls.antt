@@ -2,7 +2,7 @@
 use Rattle.model.specs.Kit.{List, ℕ, take}
 use Rattle.run_state.specs.Meaning.{tallyIn}
 use Rattle.run.specs.Meaning.{means}
-use Rattle.run_ranges.specs.Claims.{Part, Call}
+use Rattle.run_ranges.specs.Claims.{Part, CallRange}
 use Rattle.run_part.specs.declared.PartRun.{PartRun}
 
 -- a call: the two paths, the limit and the list as it came, what came back, and the list at the end
@@ -21,4 +21,4 @@ held from upto limit out r after = record {
 
 -- a call of `run_part`: r came back, `after` is the list at the end. This is its contract
 abbrev pub CallPart : List ℕ → List ℕ → List ℕ → List ℕ → List ℕ → ℕ → List ℕ → PartRun → List ℕ → Type 0
-CallPart b pairs block from upto limit out r after = Call b pairs block (held from upto limit out r after)
+CallPart b pairs block from upto limit out r after = CallRange b pairs block (held from upto limit out r after)

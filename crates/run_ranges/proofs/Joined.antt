@@ -12,7 +12,7 @@ use Rattle.run_cut.proofs.Counts.{counts-append, counts-none}
 use Rattle.run_input.specs.Lent.{verdictLent, problemWith, orderLent, problemLent, answerLent, listLent, tallyLent}
 use Rattle.run_input.proofs.Lent.{well-lent, ordering-lent}
 use Rattle.run_ranges.specs.Ranges.{resultPart, answerPart, listPart, plansSaid, nodesSaid, madeBy, tallyPart, lastPart}
-use Rattle.run_ranges.specs.Claims.{Part, Call, plansHeld, Refused-part, Whole-run, Goes, reachedFor, reachedBy, Chain, allPlans, sumPlans, sumNodes, sumCounts, Together}
+use Rattle.run_ranges.specs.Claims.{Part, CallRange, plansHeld, Refused-part, Whole-run, Goes, reachedFor, reachedBy, Chain, allPlans, sumPlans, sumNodes, sumCounts, Together}
 use Rattle.run_ranges.specs.Claims.{Joined, Joined-run, One-piece, Done, CutAt, Cuts-run}
 use Rattle.run_ranges.proofs.Between.{Before, before-of, join-nodes, none-between, whole-between, stop}
 use Rattle.order.proofs.Reordered as O
@@ -87,22 +87,22 @@ module _ (b pairs block : List ℕ) (so : verdictLent b pairs block ≡ accepted
   abbrev walked : Part → Result
   walked c = search p (c .limit) (length (c .out)) (nodesBetween p (c .from) (c .upto)) 0 []
 
-  told : (c : Part) → Call b pairs block c → c .answer ≡ ended (walked c .ending)
+  told : (c : Part) → CallRange b pairs block c → c .answer ≡ ended (walked c .ending)
   unfolding answerPart resultPart
   told c h = h .answers ∙ ap (λ (v : Verdict). reply v (walked c .ending)) so
 
-  wrote : (c : Part) → Call b pairs block c → c .list ≡ written (map (write order) (walked c .rows)) (c .out)
+  wrote : (c : Part) → CallRange b pairs block c → c .list ≡ written (map (write order) (walked c .rows)) (c .out)
   unfolding listPart resultPart
   wrote c h = h .leaves ∙ ap (λ (v : Verdict). kept v (c .out) (written (map (write order) (walked c .rows)) (c .out))) so
 
-  tallied : (c : Part) → Call b pairs block c → (c .tally .nodes ≡ nodesSaid (c .answer)) × (c .tally .counts ≡ countsBy place (take (nodesSaid (c .answer)) (nodesBetween p (c .from) (c .upto))))
+  tallied : (c : Part) → CallRange b pairs block c → (c .tally .nodes ≡ nodesSaid (c .answer)) × (c .tally .counts ≡ countsBy place (take (nodesSaid (c .answer)) (nodesBetween p (c .from) (c .upto))))
   unfolding tallyPart
   tallied c h = (
     ap (λ (t : Tally). t .nodes) (h .counts) ∙ ap nodesSaid (sym (h .answers)),
     ap (λ (t : Tally). t .counts) (h .counts) ∙ ap (λ (a : Answer). countsBy place (madeBy a b pairs block (c .from) (c .upto))) (sym (h .answers)),
   )
 
-  stands : (c : Part) → Call b pairs block c → c .last ≡ lastOf (take 12 (c .from)) (take (nodesSaid (c .answer)) (nodesBetween p (c .from) (c .upto)))
+  stands : (c : Part) → CallRange b pairs block c → c .last ≡ lastOf (take 12 (c .from)) (take (nodesSaid (c .answer)) (nodesBetween p (c .from) (c .upto)))
   unfolding lastPart
   stands c h = h .stands ∙ ap (λ (a : Answer). lastOf (take 12 (c .from)) (madeBy a b pairs block (c .from) (c .upto))) (sym (h .answers))
 
@@ -122,7 +122,7 @@ module _ (b pairs block : List ℕ) (so : verdictLent b pairs block ≡ accepted
   abbrev held : Part → List (List ℕ) → Type 0
   held c ts = Holds ts (plansHeld n c) (plansSaid (c .answer)) (nodesSaid (c .answer)) (λ x. at (c .tally .counts) x)
 
-  held-by : (c : Part) (ts : List (List ℕ)) (e : Ending) → Call b pairs block c → c .answer ≡ ended e → Passed p (c .limit) (length (c .out)) (nodesBetween p (c .from) (c .upto)) e →
+  held-by : (c : Part) (ts : List (List ℕ)) (e : Ending) → CallRange b pairs block c → c .answer ≡ ended e → Passed p (c .limit) (length (c .out)) (nodesBetween p (c .from) (c .upto)) e →
       ts ≡ take (nodesIn e) (nodesBetween p (c .from) (c .upto)) → held c ts
   held-by c ts e h a q i =
       let l : nodesIn e ≤ length (nodesBetween p (c .from) (c .upto)) = q .2 in
@@ -137,7 +137,7 @@ module _ (b pairs block : List ℕ) (so : verdictLent b pairs block ≡ accepted
       }
 
   -- a part that went on to its end or to its last node holds the nodes up to there
-  piece : (c : Part) → Call b pairs block c → Goes (c .answer) → (T (after (c .upto) (c .from)) → ⊥) → Before p (c .from) (reachedBy c) × held c (nodesBetween p (c .from) (reachedBy c))
+  piece : (c : Part) → CallRange b pairs block c → Goes (c .answer) → (T (after (c .upto) (c .from)) → ⊥) → Before p (c .from) (reachedBy c) × held c (nodesBetween p (c .from) (reachedBy c))
   piece c h g f = go (walked c .ending) refl
     where
       ts : List (List ℕ)

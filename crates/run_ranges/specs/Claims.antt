@@ -19,7 +19,7 @@ pub record Part : Type 0 where
   pub last : List ℕ
 
 -- they are as defined: the contract of the call
-pub record Call (b pairs block : List ℕ) (c : Part) : Type 0 where
+pub record CallRange (b pairs block : List ℕ) (c : Part) : Type 0 where
   pub answers : c .answer ≡ answerPart b pairs block (c .from) (c .upto) (c .limit) (c .out)
   pub leaves : c .list ≡ listPart b pairs block (c .from) (c .upto) (c .limit) (c .out)
   pub counts : c .tally ≡ tallyPart b pairs block (c .from) (c .upto) (c .limit) (c .out)
@@ -32,7 +32,7 @@ plansHeld n c = listedPlans n (plansSaid (c .answer)) (c .list)
 -- ---- a refusal: the number and item of the run's, no byte written, nothing counted, and the part stands where it began
 abbrev pub Refused-part : Type 0
 Refused-part =
-    (b pairs block : List ℕ) (c : Part) → Call b pairs block c → (number item : ℕ) → verdictLent b pairs block ≡ refused number item →
+    (b pairs block : List ℕ) (c : Part) → CallRange b pairs block c → (number item : ℕ) → verdictLent b pairs block ≡ refused number item →
     (c .answer ≡ refusal number item) × (c .list ≡ c .out) × (c .tally ≡ record { nodes = 0; counts = replicate 12 0 })
 
 -- ---- from the empty path to the path 255 the part is the run
@@ -65,7 +65,7 @@ reachedBy c = reachedFor (c .answer) (c .upto) (c .last)
 abbrev pub Chain : List ℕ → List ℕ → List ℕ → List ℕ → List Part → List ℕ → Type 0
 Chain b pairs block from [] upto = from ≡ upto
 Chain b pairs block from (c ∷ cs) upto =
-    (c .from ≡ from) × (T (after (c .upto) (c .from)) → ⊥) × Call b pairs block c × Goes (c .answer) × Chain b pairs block (reachedBy c) cs upto
+    (c .from ≡ from) × (T (after (c .upto) (c .from)) → ⊥) × CallRange b pairs block c × Goes (c .answer) × Chain b pairs block (reachedBy c) cs upto
 
 -- the plans of all parts, one behind the other, and the sums of their figures
 abbrev pub allPlans : ℕ → List Part → List (List ℕ)
@@ -92,7 +92,7 @@ pub record Together (n : ℕ) (cs : List Part) (out : List ℕ) (a : Answer) (li
 abbrev pub Joined : Type 0
 Joined =
     (b pairs block from upto : List ℕ) (cs : List Part) → verdictLent b pairs block ≡ accepted → Chain b pairs block from cs upto →
-    (c : Part) → Call b pairs block c → c .from ≡ from → c .upto ≡ upto → sumNodes cs ≤ c .limit → sumPlans cs * problemOf b .variables ≤ length (c .out) →
+    (c : Part) → CallRange b pairs block c → c .from ≡ from → c .upto ≡ upto → sumNodes cs ≤ c .limit → sumPlans cs * problemOf b .variables ≤ length (c .out) →
     Together (problemOf b .variables) cs (c .out) (c .answer) (c .list) (c .tally)
 
 -- .. and so is the run, where they go from the empty path to the path 255
@@ -113,7 +113,7 @@ pub record SoFar (n : ℕ) (cs : List Part) (out : List ℕ) (a : Answer) (list 
 abbrev pub One-piece : Type 0
 One-piece =
     (b pairs block from came upto : List ℕ) (cs : List Part) → verdictLent b pairs block ≡ accepted → Chain b pairs block from cs came → (T (after upto came) → ⊥) →
-    (c : Part) → Call b pairs block c → c .from ≡ from → c .upto ≡ upto → c .limit ≡ sumNodes cs → sumPlans cs * problemOf b .variables ≤ length (c .out) →
+    (c : Part) → CallRange b pairs block c → c .from ≡ from → c .upto ≡ upto → c .limit ≡ sumNodes cs → sumPlans cs * problemOf b .variables ≤ length (c .out) →
     SoFar (problemOf b .variables) cs (c .out) (c .answer) (c .list) (c .tally)
 
 -- ---- cuts in order (parts' `Cuts`), the last of them the path 255, and a finished call of each range between two of them
@@ -127,7 +127,7 @@ abbrev pub CutAt : List ℕ → List ℕ → List ℕ → List ℕ → List (Lis
 CutAt b pairs block from [] [] = Unit {0}
 CutAt b pairs block from [] (c ∷ cs) = ⊥
 CutAt b pairs block from (cut ∷ cuts) [] = ⊥
-CutAt b pairs block from (cut ∷ cuts) (c ∷ cs) = (c .from ≡ from) × (c .upto ≡ cut) × Call b pairs block c × Done (c .answer) × CutAt b pairs block cut cuts cs
+CutAt b pairs block from (cut ∷ cuts) (c ∷ cs) = (c .from ≡ from) × (c .upto ≡ cut) × CallRange b pairs block c × Done (c .answer) × CutAt b pairs block cut cuts cs
 
 abbrev pub Cuts-run : Type 0
 Cuts-run =

@@ -3,7 +3,7 @@ use Rattle.model.specs.Kit.{_≡_, sym, ap, ap₂, _∙_, Bool, List, _++_, ℕ
 use Rattle.model.specs.Kit.{le-leb, lt-leb}
 use native.Mathlib.Nat.{zero-add}
 use Rattle.model.specs.{Lists.at, Verdict.Verdict, Verdict.accepted, Verdict.refused, Verdict.ask, Sheet.«word», Written.placed, Room.Outcome, Room.wrote, Room.refusal}
-use Rattle.store.specs.Store.{Entry, table, isTable, tableIn, Action, put, fetch, remove, call, actionVerdict, callVerdict, storeAfter, written, roomIn, replyOf}
+use Rattle.store.specs.Store.{StoreEntry, table, isTable, tableIn, Action, put, fetch, remove, call, actionVerdict, callVerdict, storeAfter, copiedOut, roomIn, replyOf}
 use Rattle.store.specs.Layout.{size, slotAt, tableAt, slotWith, storeOf, slotFor, changed, verdictOn, replyOn, bytesAfter}
 use Rattle.store.proofs.{Slots.entry-there, Free.held-with, Free.room-left, Calls.after-accepted, Calls.after-refused, Calls.verdict-whole, Calls.means-after}
 
@@ -20,7 +20,7 @@ module _ (b : List ℕ) (o key : ℕ) (a : Action) where
       let f = after-refused b (call o key a) e in
       (sym (ap (λ (v : Verdict). replyOf v a (storeOf b o key) .outcome) e), (sym f, λ h. ap storeOf (sym f) ∙ means-after b (call o key a) (h, bytes)))
 
-  pub accepts : ((i : ℕ) → at b i < 256) → (c : List ℕ) → verdictOn b (call o key a) ≡ accepted → c ≡ changed b (call o key a) → Answers (wrote (length (written a (storeOf b o key)))) c
+  pub accepts : ((i : ℕ) → at b i < 256) → (c : List ℕ) → verdictOn b (call o key a) ≡ accepted → c ≡ changed b (call o key a) → Answers (wrote (length (copiedOut a (storeOf b o key)))) c
   unfolding replyOn
   accepts bytes c e q =
       let f : c ≡ bytesAfter b (call o key a) = q ∙ sym (after-accepted b (call o key a) e) in
@@ -97,7 +97,7 @@ module _ (b : List ℕ) (o key : ℕ) (whole : length b ≡ size) (own : o < 4) 
       stands-verdict : verdictOn b (call o key (fetch room)) ≡ ask (leb n (length room)) 35 0 accepted
       unfolding actionVerdict
       stands-verdict =
-          asks-more b o key (fetch room) whole own ∙ ap (λ (e : Entry). ask (isTable e) 34 0 (ask (leb (length (tableIn e)) (length room)) 35 0 accepted)) stands
+          asks-more b o key (fetch room) whole own ∙ ap (λ (e : StoreEntry). ask (isTable e) 34 0 (ask (leb (length (tableIn e)) (length room)) 35 0 accepted)) stands
           ∙ ap (λ (m : ℕ). ask (leb m (length room)) 35 0 accepted) part-length
 
       pub fetch-35 : length room < n → verdictOn b (call o key (fetch room)) ≡ refused 35 0
@@ -107,6 +107,6 @@ module _ (b : List ℕ) (o key : ℕ) (whole : length b ≡ size) (own : o < 4) 
       unfolding replyOn placed
       fetch-yes c h e =
           let v = stands-verdict ∙ ap (λ (u : Bool). ask u 35 0 accepted) (le-leb n (length room) h) in (
-            sym (ap₂ (λ (w : Verdict) (d : Entry). replyOf w (fetch room) d .outcome) v stands ∙ ap wrote part-length),
-            e ∙ ap (λ (k : ℕ). part ++ drop k room) (zero-add (length part)) ∙ sym (ap₂ (λ (w : Verdict) (d : Entry). replyOf w (fetch room) d .room) v stands),
+            sym (ap₂ (λ (w : Verdict) (d : StoreEntry). replyOf w (fetch room) d .outcome) v stands ∙ ap wrote part-length),
+            e ∙ ap (λ (k : ℕ). part ++ drop k room) (zero-add (length part)) ∙ sym (ap₂ (λ (w : Verdict) (d : StoreEntry). replyOf w (fetch room) d .room) v stands),
           )

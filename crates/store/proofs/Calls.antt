@@ -5,7 +5,7 @@ use mathlib.Core.Path.{fun-ext}
 use lib.Seq.{set-out}
 use Rattle.model.specs.{Lists.both, Lists.either, Lists.choose, Lists.at, Verdict.Verdict, Verdict.accepted, Verdict.refused, Verdict.ask, Verdict.isAccepted, Written.placed}
 use Rattle.model.proofs.{Lists.of-T, Lists.at-replicate, Lists.set-each, Written.length-placed, Written.placed-before, Written.placed-in, Written.placed-after}
-use Rattle.store.specs.Store.{isTable, Store, keysOf, Action, put, fetch, remove, Call, call, actionVerdict, callVerdict, entryAfter, storeAfter, StoreReply, replyOf}
+use Rattle.store.specs.Store.{isTable, Store, keysOf, Action, put, fetch, remove, StoreCall, call, actionVerdict, callVerdict, entryAfter, storeAfter, StoreReply, replyOf}
 use Rattle.store.specs.{Store.ownerOf, Layout.size, Layout.slotAt, Layout.holds, Layout.slotWith, Layout.storeOf, Layout.slotFor}
 use Rattle.store.specs.{Layout.slotBytes, Layout.freed, Layout.changed, Layout.verdictOn, Layout.replyOn, Layout.bytesAfter}
 use Rattle.store.specs.inner.Claims.{replyTo, storeEnd, repliesTo, Each-call, bytesEnd, repliesOn, All-calls, Isolated-bytes}
@@ -47,7 +47,7 @@ remove-owner : (b : List ℕ) (o key : ℕ) → callVerdict (storeOf b) (call o 
 unfolding callVerdict
 remove-owner b o key e = ltb-true o 4 (of-T _ (ask-e (ltb o 4) 31 0 _ e .0))
 
-changed-means : (b : List ℕ) (x : Call) → StoreBytes b → callVerdict (storeOf b) x ≡ accepted → storeOf (changed b x) ≡ storeAfter (storeOf b) x
+changed-means : (b : List ℕ) (x : StoreCall) → StoreBytes b → callVerdict (storeOf b) x ≡ accepted → storeOf (changed b x) ≡ storeAfter (storeOf b) x
 changed-means b (call o key (put t)) g e =
     let f = put-fits b o key t (g .1) e in
     changed-to b _ o key (put t) e (put-here b (g .0) o key t (f .owner) (f .short) (f .slot)) (put-there b (g .0) o key t (f .owner) (f .short) (f .slot))
@@ -58,7 +58,7 @@ changed-means b (call o key remove) g e =
     changed-to b (freed b o key 4) o key remove e (remove-here b o key (g .0) l) (remove-there b o key (g .0) l) (remove-elsewhere b o key (g .0) l)
 
 -- ---- bytes of any length
-module _ (b : List ℕ) (x : Call) where
+module _ (b : List ℕ) (x : StoreCall) where
   pub after-accepted : verdictOn b x ≡ accepted → bytesAfter b x ≡ changed b x
   unfolding bytesAfter
   after-accepted e = ap (λ (v : Verdict). choose (isAccepted v) (changed b x) b) e
@@ -117,7 +117,7 @@ freed-bytes b o key (suc n) h i = go (holds (freed b o key n) key (slotAt o n)) 
         zeroed false e = subst (λ (l : List ℕ). at l i < 256) (sym (set-out (freed b o key n) (slotAt o n) 0 (ltb-false (slotAt o n) (length (freed b o key n)) e))) (ih i)
     go false ih = ih i
 
-changed-bytes : (b : List ℕ) (x : Call) → StoreBytes b → ByteCall x → callVerdict (storeOf b) x ≡ accepted → StoreBytes (changed b x)
+changed-bytes : (b : List ℕ) (x : StoreCall) → StoreBytes b → ByteCall x → callVerdict (storeOf b) x ≡ accepted → StoreBytes (changed b x)
 unfolding slotBytes
 changed-bytes b (call o key (put t)) g k e =
     let f = put-fits b o key t (g .1) e in
@@ -143,7 +143,7 @@ each-call b (call o key a) g k = (
     go accepted e = subst StoreBytes (sym (after-accepted b (call o key a) e)) (changed-bytes b (call o key a) g k (sym (verdict-whole b (call o key a) (g .0)) ∙ e))
     go (refused number item) e = subst StoreBytes (sym (after-refused b (call o key a) e)) g
 
-same-replies : (o : ℕ) (b : List ℕ) (xs : List Call) → StoreBytes b → ByteCalls xs → repliesOn o b xs ≡ repliesTo o (storeOf b) xs
+same-replies : (o : ℕ) (b : List ℕ) (xs : List StoreCall) → StoreBytes b → ByteCalls xs → repliesOn o b xs ≡ repliesTo o (storeOf b) xs
 unfolding repliesOn repliesTo
 same-replies o b [] g k = refl
 same-replies o b (x ∷ xs) g k =
@@ -156,7 +156,7 @@ same-replies o b (x ∷ xs) g k =
     go true e f = ap₂ (λ (r : StoreReply) (l : List StoreReply). r ∷ l) e f
     go false e f = f
 
-same-end : (b : List ℕ) (xs : List Call) → StoreBytes b → ByteCalls xs → (storeOf (bytesEnd b xs) ≡ storeEnd (storeOf b) xs) × StoreBytes (bytesEnd b xs)
+same-end : (b : List ℕ) (xs : List StoreCall) → StoreBytes b → ByteCalls xs → (storeOf (bytesEnd b xs) ≡ storeEnd (storeOf b) xs) × StoreBytes (bytesEnd b xs)
 unfolding bytesEnd storeEnd
 same-end b [] g k = (refl, g)
 same-end b (x ∷ xs) g k =

@@ -2,7 +2,7 @@
 use Rattle.model.specs.Kit.{_≡_, refl, sym, ap, ap₂, _∙_, Bool, true, false, List, [], _∷_, map, ℕ, eqb}
 use Rattle.model.specs.{Lists.choose, Verdict.Verdict, Verdict.accepted, Verdict.refused, Verdict.isAccepted}
 use Rattle.model.proofs.Lists.{never}
-use Rattle.store.specs.{Store.Entry, Store.Call, Store.call, Store.put, Store.fetch, Store.remove, Store.StoreReply, Store.replyOf, Layout.storeOf, Layout.verdictOn}
+use Rattle.store.specs.{Store.StoreEntry, Store.StoreCall, Store.call, Store.put, Store.fetch, Store.remove, Store.StoreReply, Store.replyOf, Layout.storeOf, Layout.verdictOn}
 use Rattle.store.specs.{Layout.replyOn, Layout.changed, Layout.bytesAfter, Meaning.means, declared.Answer.Answer, declared.Answer.the-variants.Done}
 use Rattle.store.specs.inner.Claims.{repliesOn}
 use Rattle.store.specs.{declared.Answer.the-variants.Refused, Calls.Got, Calls.own, Calls.Called, Calls.none, Calls.puts, Calls.fetches, Calls.removes, Calls.Isolated-calls}
@@ -28,7 +28,7 @@ all-known (g ∷ gs) [] e = never (cc)
 all-known (g ∷ gs) (h ∷ hs) e = ap₂ (λ (x : Got) (l : List Got). x ∷ l) (got-known g h (let q : meant g ≡ meant h = cc in q)) (all-known gs hs (let q : map meant gs ≡ map meant hs = cc in q))
 
 -- no room is lent to put and remove, and none comes back
-no-room : (v : Verdict) (t : List ℕ) (e : Entry) → (replyOf v (put t) e .room ≡ []) × (replyOf v remove e .room ≡ [])
+no-room : (v : Verdict) (t : List ℕ) (e : StoreEntry) → (replyOf v (put t) e .room ≡ []) × (replyOf v remove e .room ≡ [])
 no-room accepted t e = (refl, refl)
 no-room (refused n i) t e = (refl, refl)
 
@@ -60,7 +60,7 @@ own-meant o owner g gs r rs e q = go (eqb owner o)
 reply-is : (g : Got) (r : StoreReply) → means (g .answer) ≡ r .outcome → g .room ≡ r .room → meant g ≡ r
 reply-is g r e q = λ i. record { outcome = e i; room = q i }
 
-replies : (o : ℕ) (b : List ℕ) (xs : List Call) (gs : List Got) → Called o b xs gs → map meant gs ≡ repliesOn o b xs
+replies : (o : ℕ) (b : List ℕ) (xs : List StoreCall) (gs : List Got) → Called o b xs gs → map meant gs ≡ repliesOn o b xs
 unfolding repliesOn
 replies o b xs gs (none c) = refl
 replies o b xs gs (puts c c′ owner key t r ys hs p q) =

@@ -5,7 +5,7 @@ use Rattle.model.specs.{Lists.all, Lists.both, Lists.below, Lists.at, Lists.asc
 use Rattle.model.specs.Sheet.{words, headerOf, scopeAt, rowsAt, afterAt, tableAt, problemOf, headerVerdict, setsVerdict, constraintVerdict, constraintsVerdict, formVerdict}
 use Rattle.model.specs.Sheet.{symmetriesVerdict, verdictOf}
 use Rattle.model.proofs.Lists.{at-append, at-skip, map-ext}
-use Rattle.store.specs.{Store.Entry, Store.table, Store.isTable, Store.tableIn, Store.call, Store.fetch, Store.actionVerdict, Store.replyOf, Layout.size, Layout.storeOf}
+use Rattle.store.specs.{Store.StoreEntry, Store.table, Store.isTable, Store.tableIn, Store.call, Store.fetch, Store.actionVerdict, Store.replyOf, Layout.size, Layout.storeOf}
 use Rattle.store.specs.{Layout.verdictOn, Layout.replyOn}
 use Rattle.store.specs.inner.Claims.{Early, tablesIn, Asked-as-any}
 use Rattle.store.proofs.Answers.{asks-more}
@@ -93,9 +93,9 @@ room-after : (b : List ℕ) (owner key : ℕ) (room t : List ℕ) → length b �
 unfolding replyOn actionVerdict
 room-after b owner key room t whole own e l =
     let v : verdictOn b (call owner key (fetch room)) ≡ accepted =
-    asks-more b owner key (fetch room) whole own ∙ ap (λ (d : Entry). ask (isTable d) 34 0 (ask (leb (length (tableIn d)) (length room)) 35 0 accepted)) e
+    asks-more b owner key (fetch room) whole own ∙ ap (λ (d : StoreEntry). ask (isTable d) 34 0 (ask (leb (length (tableIn d)) (length room)) 35 0 accepted)) e
     ∙ ap (λ (u : Bool). ask u 35 0 accepted) (le-leb (length t) (length room) l) in
-    ap₂ (λ (w : Verdict) (d : Entry). replyOf w (fetch room) d .room) v e
+    ap₂ (λ (w : Verdict) (d : StoreEntry). replyOf w (fetch room) d .room) v e
 
 pub asked-as-any : Asked-as-any
 asked-as-any b owner key front room t whole own e l long third =

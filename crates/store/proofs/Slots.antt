@@ -7,7 +7,7 @@ use Rattle.model.specs.{ValueSets.least, Lists.both, Lists.either, Lists.choose
 use Rattle.model.proofs.Lists.{T-of, of-T, not-of, both-l, both-r, either-e, at-take, at-ext, at-set, at-set-other}
 use Rattle.model.proofs.{Written.length-placed, Written.placed-then, Written.placed-before, Written.placed-in, Written.placed-after, Least.first-is, Least.first-most}
 use Rattle.model.proofs.Least.{first-no, first-yes, first-before, first-same}
-use Rattle.store.specs.{Store.Entry, Store.none, Store.table, Layout.size, Layout.slotAt, Layout.holds, Layout.tableAt, Layout.slotWith, Layout.storeOf, Layout.isFree}
+use Rattle.store.specs.{Store.StoreEntry, Store.none, Store.table, Layout.size, Layout.slotAt, Layout.holds, Layout.tableAt, Layout.slotWith, Layout.storeOf, Layout.isFree}
 use Rattle.store.specs.Layout.{slotFor, slotBytes, freed}
 
 -- a text put at the front is read back
@@ -88,7 +88,7 @@ module _ (b : List ℕ) (o key : ℕ) where
   with-is i h g e = first-is (λ i. holds b key (slotAt o i)) 4 i h g e
 
   -- the entry that it means
-  abbrev entry : Bool → Entry
+  abbrev entry : Bool → StoreEntry
   entry t = choose t (table (tableAt b (slotAt o (slotWith b o key)))) none
 
   pub entry-there : o < 4 → slotWith b o key < 4 → storeOf b o key ≡ table (tableAt b (slotAt o (slotWith b o key)))

@@ -6,7 +6,7 @@ use Rattle.model.specs.{Lists.both, Lists.either, Lists.choose, Lists.keep, Lis
 use Rattle.model.specs.Sheet.{distinct}
 use Rattle.model.proofs.Lists.{T-of, of-T, not-of, of-not, both-i, both-l, both-r, either-l, either-r, either-e, keep-i, keep-e, keep-none, Sorted, sorted-keep, sorted-below, never}
 use Rattle.model.proofs.Counting.{distinct-i, no-more}
-use Rattle.store.specs.Store.{Entry, none, table, isTable, tableIn, Entries, Store, emptyStore, keysOf, Action, put, fetch, remove, Call, call, actionVerdict, callVerdict}
+use Rattle.store.specs.Store.{StoreEntry, none, table, isTable, tableIn, Entries, Store, emptyStore, keysOf, Action, put, fetch, remove, StoreCall, call, actionVerdict, callVerdict}
 use Rattle.store.specs.Store.{entryAfter, storeAfter, StoreReply, replyOf, ownerOf, callsOf}
 use Rattle.store.specs.inner.Claims.{replyTo, storeEnd, repliesTo, Isolated, writes, spares, allSpare, Fetches-last, Fetches-none, Four-keys, Refused-same}
 
@@ -15,24 +15,24 @@ use Rattle.store.specs.inner.Claims.{replyTo, storeEnd, repliesTo, Isola
 abbrev entriesAfter : ℕ → ℕ → Action → Entries → Entries
 entriesAfter owner key a es = λ k. choose (both (both (eqb owner owner) (eqb key k)) (isAccepted (ask (ltb owner 4) 31 0 (actionVerdict es key a)))) (entryAfter a (es k)) (es k)
 
-own-after : (s s′ : Store) (x : Call) (o : ℕ) → ownerOf x ≡ o → s o ≡ s′ o → storeAfter s x o ≡ storeAfter s′ x o
+own-after : (s s′ : Store) (x : StoreCall) (o : ℕ) → ownerOf x ≡ o → s o ≡ s′ o → storeAfter s x o ≡ storeAfter s′ x o
 unfolding storeAfter callVerdict
 own-after s s′ (call owner key a) o q e = subst (λ (z : ℕ). s z ≡ s′ z → storeAfter s (call owner key a) z ≡ storeAfter s′ (call owner key a) z) q (λ d. ap (entriesAfter owner key a) d) e
 
-own-reply : (s s′ : Store) (x : Call) (o : ℕ) → ownerOf x ≡ o → s o ≡ s′ o → replyTo s x ≡ replyTo s′ x
+own-reply : (s s′ : Store) (x : StoreCall) (o : ℕ) → ownerOf x ≡ o → s o ≡ s′ o → replyTo s x ≡ replyTo s′ x
 unfolding replyTo callVerdict
 own-reply s s′ (call owner key a) o q e =
     let d : s owner ≡ s′ owner = subst (λ (z : ℕ). s z ≡ s′ z) (sym q) e in
     ap (λ (es : Entries). replyOf (ask (ltb owner 4) 31 0 (actionVerdict es key a)) a (es key)) d
 
 -- another owner's call leaves them
-other-after : (s : Store) (x : Call) (o : ℕ) → eqb (ownerOf x) o ≡ false → storeAfter s x o ≡ s o
+other-after : (s : Store) (x : StoreCall) (o : ℕ) → eqb (ownerOf x) o ≡ false → storeAfter s x o ≡ s o
 unfolding storeAfter
 other-after s (call owner key a) o e = ap (λ (b : Bool). λ (k : ℕ). choose (both (both b (eqb key k)) (isAccepted (callVerdict s (call owner key a)))) (entryAfter a (s o k)) (s o k)) e
 
 -- ---- isolation
 -- the replies to one owner's calls alone
-replies-alone : (o : ℕ) (s s′ : Store) (xs : List Call) → s o ≡ s′ o → repliesTo o s xs ≡ repliesTo o s′ (callsOf o xs)
+replies-alone : (o : ℕ) (s s′ : Store) (xs : List StoreCall) → s o ≡ s′ o → repliesTo o s xs ≡ repliesTo o s′ (callsOf o xs)
 unfolding repliesTo callsOf keep
 replies-alone o s s′ [] e = refl
 replies-alone o s s′ (x ∷ xs) e = go (eqb (ownerOf x) o) refl (λ r r′ f. replies-alone o r r′ xs f)
@@ -50,13 +50,13 @@ pub isolated : Isolated
 isolated o s s′ xs ys e q = replies-alone o s s xs refl ∙ ap (repliesTo o s) q ∙ sym (replies-alone o s′ s ys (sym e))
 
 -- ---- what a fetch gives
-ends-append : (s : Store) (xs ys : List Call) → storeEnd s (xs ++ ys) ≡ storeEnd (storeEnd s xs) ys
+ends-append : (s : Store) (xs ys : List StoreCall) → storeEnd s (xs ++ ys) ≡ storeEnd (storeEnd s xs) ys
 unfolding storeEnd
 ends-append s [] ys = refl
 ends-append s (x ∷ xs) ys = ends-append (storeAfter s x) xs ys
 
 -- a call that spares the entry leaves it
-spared-once : (o k : ℕ) (s : Store) (x : Call) → T (spares o k s x) → storeAfter s x o k ≡ s o k
+spared-once : (o k : ℕ) (s : Store) (x : StoreCall) → T (spares o k s x) → storeAfter s x o k ≡ s o k
 unfolding storeAfter
 spared-once o k s (call owner key a) t = go a (both (eqb owner o) (eqb key k)) (isAccepted (callVerdict s (call owner key a))) t
   where
@@ -67,7 +67,7 @@ spared-once o k s (call owner key a) t = go a (both (eqb owner o) (eqb key k)) (
     go a true false h = refl
     go a false c h = refl
 
-spared : (o k : ℕ) (s : Store) (xs : List Call) → T (allSpare o k s xs) → storeEnd s xs o k ≡ s o k
+spared : (o k : ℕ) (s : Store) (xs : List StoreCall) → T (allSpare o k s xs) → storeEnd s xs o k ≡ s o k
 unfolding storeEnd allSpare
 spared o k s [] t = refl
 spared o k s (x ∷ xs) t =
@@ -96,7 +96,7 @@ refused-same s (call owner key a) number item e = fun-ext (λ o. fun-ext (λ k. 
     go o k false = refl
 
 -- what stands there after an accepted call and calls that spare it
-kept : (o k : ℕ) (xs ys : List Call) (a : Action) → callVerdict (storeEnd emptyStore xs) (call o k a) ≡ accepted → T (allSpare o k (storeAfter (storeEnd emptyStore xs) (call o k a)) ys) →
+kept : (o k : ℕ) (xs ys : List StoreCall) (a : Action) → callVerdict (storeEnd emptyStore xs) (call o k a) ≡ accepted → T (allSpare o k (storeAfter (storeEnd emptyStore xs) (call o k a)) ys) →
     storeEnd emptyStore (xs ++ (call o k a ∷ ys)) o k ≡ entryAfter a (storeEnd emptyStore xs o k)
 unfolding storeEnd
 kept o k xs ys a e t =
@@ -108,11 +108,11 @@ ask-e true number item later e = (tt, e)
 ask-e false number item later e = never (cc)
 
 -- the reply to a fetch, by what stands there
-fetched : (s : Store) (o k : ℕ) (room : List ℕ) (e : Entry) → T (ltb o 4) → s o k ≡ e →
+fetched : (s : Store) (o k : ℕ) (room : List ℕ) (e : StoreEntry) → T (ltb o 4) → s o k ≡ e →
     replyTo s (call o k (fetch room)) ≡ replyOf (ask (isTable e) 34 0 (ask (leb (length (tableIn e)) (length room)) 35 0 accepted)) (fetch room) e
 unfolding replyTo callVerdict actionVerdict
 fetched s o k room e l q =
-    ap₂ (λ (b : Bool) (d : Entry). replyOf (ask b 31 0 (ask (isTable d) 34 0 (ask (leb (length (tableIn d)) (length room)) 35 0 accepted))) (fetch room) d) (of-T (ltb o 4) l) q
+    ap₂ (λ (b : Bool) (d : StoreEntry). replyOf (ask b 31 0 (ask (isTable d) 34 0 (ask (leb (length (tableIn d)) (length room)) 35 0 accepted))) (fetch room) d) (of-T (ltb o 4) l) q
 
 pub fetches-last : Fetches-last
 unfolding callVerdict
@@ -173,7 +173,7 @@ four-own s o k a accepted e l =
     after = storeAfter s (call o k a) o
 
     other : (j : ℕ) → (k ≡ j → ⊥) → T (isTable (after j)) → T (isTable (s o j))
-    other j n t = subst (λ (f : Entry). T (isTable f)) (there-after s o k a o j (not-of (both (eqb o o) (eqb k j)) (λ u. n (eqb→eq k j (both-r (eqb o o) (eqb k j) u))))) t
+    other j n t = subst (λ (f : StoreEntry). T (isTable f)) (there-after s o k a o j (not-of (both (eqb o o) (eqb k j)) (λ u. n (eqb→eq k j (both-r (eqb o o) (eqb k j) u))))) t
 
     held : T (isTable (s o k)) → (j : ℕ) → T (isTable (after j)) → T (isTable (s o j))
     held h j t = go (eqb k j) refl
@@ -182,7 +182,7 @@ four-own s o k a accepted e l =
         go true q = subst (λ (z : ℕ). T (isTable (s o z))) (eqb-true k j q) h
         go false q = other j (λ r. of-not (eqb k j) q (subst (λ (z : ℕ). T (eqb k z)) r (eqb-refl k))) t
 
-four-after : (s : Store) (x : Call) (o : ℕ) → length (keysOf (s o)) ≤ 4 → length (keysOf (storeAfter s x o)) ≤ 4
+four-after : (s : Store) (x : StoreCall) (o : ℕ) → length (keysOf (s o)) ≤ 4 → length (keysOf (storeAfter s x o)) ≤ 4
 four-after s (call owner key a) o l = go (eqb owner o) refl
   where
     go : (b : Bool) → eqb owner o ≡ b → length (keysOf (storeAfter s (call owner key a) o)) ≤ 4
@@ -190,7 +190,7 @@ four-after s (call owner key a) o l = go (eqb owner o) refl
         subst (λ (z : ℕ). length (keysOf (s z)) ≤ 4 → length (keysOf (storeAfter s (call owner key a) z)) ≤ 4) (eqb-true owner o e) (four-own s owner key a (callVerdict s (call owner key a)) refl) l
     go false e = subst (λ (es : Entries). length (keysOf es) ≤ 4) (sym (other-after s (call owner key a) o e)) l
 
-four-end : (s : Store) (xs : List Call) (o : ℕ) → length (keysOf (s o)) ≤ 4 → length (keysOf (storeEnd s xs o)) ≤ 4
+four-end : (s : Store) (xs : List StoreCall) (o : ℕ) → length (keysOf (s o)) ≤ 4 → length (keysOf (storeEnd s xs o)) ≤ 4
 unfolding storeEnd
 four-end s [] o l = l
 four-end s (x ∷ xs) o l = four-end (storeAfter s x) xs o (four-after s x o l)

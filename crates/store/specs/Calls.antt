@@ -2,7 +2,7 @@
 -- the function's contract. And paper 02, #110, of what the owners hold who make calls one after another; proofs/Isolated has the theorem.
 use Rattle.model.specs.Kit.{_≡_, List, [], _∷_, List·Memᴰ, ℕ, _<_, length, replicate, eqb}
 use Rattle.model.specs.Lists.{at, choose}
-use Rattle.store.specs.Store.{emptyStore, Call, call, put, fetch, remove, storeAfter, callsOf}
+use Rattle.store.specs.Store.{emptyStore, StoreCall, call, put, fetch, remove, storeAfter, callsOf}
 use Rattle.store.specs.{Layout.size, Layout.storeOf, Layout.replyOn, Layout.bytesAfter, Meaning.means, declared.Answer.Answer}
 
 abbrev pub CallPut : List ℕ → ℕ → ℕ → List ℕ → Answer → List ℕ → Type 0
@@ -22,13 +22,13 @@ CallRemove b owner key r b′ =
 abbrev pub StoreBytes : List ℕ → Type 0
 StoreBytes b = (length b ≡ size) × ((i : ℕ) → at b i < 256)
 
-abbrev pub ByteCall : Call → Type 0
+abbrev pub ByteCall : StoreCall → Type 0
 ByteCall (call owner key (put t)) = (key < 256) × ((i : ℕ) → at t i < 256)
 ByteCall (call owner key (fetch room)) = key < 256
 ByteCall (call owner key remove) = key < 256
 
-abbrev pub ByteCalls : List Call → Type 0
-ByteCalls xs = (x : Call) → List·Memᴰ x xs → ByteCall x
+abbrev pub ByteCalls : List StoreCall → Type 0
+ByteCalls xs = (x : StoreCall) → List·Memᴰ x xs → ByteCall x
 
 -- zeros are the empty store
 abbrev pub Zeros-empty : Type 0
@@ -45,18 +45,18 @@ abbrev pub own : ℕ → ℕ → Got → List Got → List Got
 own o owner g gs = choose (eqb owner o) (g ∷ gs) gs
 
 -- from the bytes b on these calls were made, and o got this back
-pub data Called (o : ℕ) : List ℕ → List Call → List Got → Type 0 where
+pub data Called (o : ℕ) : List ℕ → List StoreCall → List Got → Type 0 where
   none : (b : List ℕ) → Called o b [] []
-  puts : (b b′ : List ℕ) (owner key : ℕ) (t : List ℕ) (r : Answer) (xs : List Call) (gs : List Got) → CallPut b owner key t r b′ → Called o b′ xs gs →
+  puts : (b b′ : List ℕ) (owner key : ℕ) (t : List ℕ) (r : Answer) (xs : List StoreCall) (gs : List Got) → CallPut b owner key t r b′ → Called o b′ xs gs →
       Called o b (call owner key (put t) ∷ xs) (own o owner (record { answer = r; room = [] }) gs)
-  fetches : (b : List ℕ) (owner key : ℕ) (room : List ℕ) (r : Answer) (room′ : List ℕ) (xs : List Call) (gs : List Got) → CallFetch b owner key room r room′ → Called o b xs gs →
+  fetches : (b : List ℕ) (owner key : ℕ) (room : List ℕ) (r : Answer) (room′ : List ℕ) (xs : List StoreCall) (gs : List Got) → CallFetch b owner key room r room′ → Called o b xs gs →
       Called o b (call owner key (fetch room) ∷ xs) (own o owner (record { answer = r; room = room′ }) gs)
-  removes : (b b′ : List ℕ) (owner key : ℕ) (r : Answer) (xs : List Call) (gs : List Got) → CallRemove b owner key r b′ → Called o b′ xs gs →
+  removes : (b b′ : List ℕ) (owner key : ℕ) (r : Answer) (xs : List StoreCall) (gs : List Got) → CallRemove b owner key r b′ → Called o b′ xs gs →
       Called o b (call owner key remove ∷ xs) (own o owner (record { answer = r; room = [] }) gs)
 
 -- what an owner gets back depends only on its own calls: two sequences with the same calls of one owner, all else changed at will, on the bytes of any two
 -- stores in which it has the same entries
 abbrev pub Isolated-calls : Type 0
 Isolated-calls =
-    (o : ℕ) (b b′ : List ℕ) (xs ys : List Call) (gs hs : List Got) → StoreBytes b → StoreBytes b′ → ByteCalls xs → ByteCalls ys →
+    (o : ℕ) (b b′ : List ℕ) (xs ys : List StoreCall) (gs hs : List Got) → StoreBytes b → StoreBytes b′ → ByteCalls xs → ByteCalls ys →
     Called o b xs gs → Called o b′ ys hs → storeOf b o ≡ storeOf b′ o → callsOf o xs ≡ callsOf o ys → gs ≡ hs

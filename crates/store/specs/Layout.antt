@@ -3,7 +3,7 @@
 use Rattle.model.specs.Kit.{Bool, not, List, _∷_, _++_, ℕ, zero, suc, _+_, _*_, min, length, take, drop, set, ltb, eqb}
 use Rattle.model.specs.{ValueSets.least, Lists.both, Lists.either, Lists.choose, Lists.at, Verdict.Verdict, Verdict.ask, Verdict.isAccepted, Sheet.«word», Bytes.twoBytes}
 use Rattle.model.specs.Written.{placed}
-use Rattle.store.specs.Store.{none, table, Store, put, fetch, remove, Call, call, callVerdict, StoreReply, replyOf}
+use Rattle.store.specs.Store.{none, table, Store, put, fetch, remove, StoreCall, call, callVerdict, StoreReply, replyOf}
 
 abbrev pub size : ℕ
 size = 32832
@@ -48,17 +48,17 @@ freed b owner key (suc i) =
     let c = freed b owner key i in
     choose (holds c key (slotAt owner i)) (set c (slotAt owner i) 0) c
 
-abbrev pub changed : List ℕ → Call → List ℕ
+abbrev pub changed : List ℕ → StoreCall → List ℕ
 changed b (call owner key (put t)) = placed b (slotAt owner (slotFor b owner key)) (slotBytes key t)
 changed b (call owner key (fetch room)) = b
 changed b (call owner key remove) = freed b owner key 4
 
 -- ---- a call on lent bytes of any length: asked first, refusal 255 where they have not the store's size
-unfoldable pub verdictOn : List ℕ → Call → Verdict
+unfoldable pub verdictOn : List ℕ → StoreCall → Verdict
 verdictOn b x = ask (eqb (length b) size) 255 0 (callVerdict (storeOf b) x)
 
-unfoldable pub replyOn : List ℕ → Call → StoreReply
+unfoldable pub replyOn : List ℕ → StoreCall → StoreReply
 replyOn b (call owner key a) = replyOf (verdictOn b (call owner key a)) a (storeOf b owner key)
 
-unfoldable pub bytesAfter : List ℕ → Call → List ℕ
+unfoldable pub bytesAfter : List ℕ → StoreCall → List ℕ
 bytesAfter b x = choose (isAccepted (verdictOn b x)) (changed b x) b

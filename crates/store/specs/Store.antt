@@ -6,21 +6,21 @@ use Rattle.model.specs.Room.{outcomeOf, roomAfter}
 
 -- ---- the store
 -- what stands under an owner and a key
-pub data Entry : Type 0 where
-  none : Entry
-  table : List ℕ → Entry
+pub data StoreEntry : Type 0 where
+  none : StoreEntry
+  table : List ℕ → StoreEntry
 
-abbrev pub isTable : Entry → Bool
+abbrev pub isTable : StoreEntry → Bool
 isTable none = false
 isTable (table t) = true
 
-abbrev pub tableIn : Entry → List ℕ
+abbrev pub tableIn : StoreEntry → List ℕ
 tableIn none = []
 tableIn (table t) = t
 
 -- an owner's entries by key, and a store: the entries by owner
 abbrev pub Entries : Type 0
-Entries = ℕ → Entry
+Entries = ℕ → StoreEntry
 
 abbrev pub Store : Type 0
 Store = ℕ → Entries
@@ -40,8 +40,8 @@ pub data Action : Type 0 where
   remove : Action
 
 -- at an owner and a key
-pub data Call : Type 0 where
-  call : ℕ → ℕ → Action → Call
+pub data StoreCall : Type 0 where
+  call : ℕ → ℕ → Action → StoreCall
 
 -- the questions after 31, given the owner's entries
 unfoldable pub actionVerdict : Entries → ℕ → Action → Verdict
@@ -55,17 +55,17 @@ actionVerdict es key (fetch room) =
     accepted)
 actionVerdict es key remove = ask (isTable (es key)) 34 0 accepted
 
-unfoldable pub callVerdict : Store → Call → Verdict
+unfoldable pub callVerdict : Store → StoreCall → Verdict
 callVerdict s (call owner key a) = ask (ltb owner 4) 31 0 (actionVerdict (s owner) key a)
 
 -- the entry that an accepted call leaves in place of another
-abbrev pub entryAfter : Action → Entry → Entry
+abbrev pub entryAfter : Action → StoreEntry → StoreEntry
 entryAfter (put t) e = table t
 entryAfter (fetch room) e = e
 entryAfter remove e = none
 
 -- the store after a call: only an accepted one changes it, and only under its owner and key
-unfoldable pub storeAfter : Store → Call → Store
+unfoldable pub storeAfter : Store → StoreCall → Store
 storeAfter s (call owner key a) o k =
     choose (both (both (eqb owner o) (eqb key k)) (isAccepted (callVerdict s (call owner key a)))) (entryAfter a (s o k)) (s o k)
 
@@ -74,23 +74,23 @@ pub record StoreReply : Type 0 where
   pub outcome : Outcome
   pub room : List ℕ
 
-abbrev pub written : Action → Entry → List ℕ
-written (put t) e = []
-written (fetch room) e = tableIn e
-written remove e = []
+abbrev pub copiedOut : Action → StoreEntry → List ℕ
+copiedOut (put t) e = []
+copiedOut (fetch room) e = tableIn e
+copiedOut remove e = []
 
 abbrev pub roomIn : Action → List ℕ
 roomIn (put t) = []
 roomIn (fetch room) = room
 roomIn remove = []
 
-abbrev pub replyOf : Verdict → Action → Entry → StoreReply
-replyOf v a e = record { outcome = outcomeOf v (written a e); room = roomAfter v (written a e) (roomIn a) }
+abbrev pub replyOf : Verdict → Action → StoreEntry → StoreReply
+replyOf v a e = record { outcome = outcomeOf v (copiedOut a e); room = roomAfter v (copiedOut a e) (roomIn a) }
 
 -- ---- calls one after another
-abbrev pub ownerOf : Call → ℕ
+abbrev pub ownerOf : StoreCall → ℕ
 ownerOf (call owner key a) = owner
 
 -- one owner's calls among those of all
-unfoldable pub callsOf : ℕ → List Call → List Call
+unfoldable pub callsOf : ℕ → List StoreCall → List StoreCall
 callsOf o xs = keep (λ x. eqb (ownerOf x) o) xs

@@ -6,7 +6,7 @@ use Rattle.run_input.specs.{Lent.verdictLent, Lent.problemLent, inner.Compile.W
 use Rattle.arrays.specs.{inner.Places.LIMIT, inner.Places.PLANS, inner.Places.NUMBERS, inner.Layout.Compiled}
 use Rattle.run_state.specs.inner.Walk.{stopIn}
 use Rattle.run_search.specs.inner.Begun.{Writable}
-use Rattle.run.specs.Calls.{Call}
+use Rattle.run.specs.Calls.{CallRun}
 use Rattle.families_figure.specs.Figure.{reportFigure}
 use Rattle.families_count.specs.{Told.told, Told.means, declared.ReportRun.ReportRun}
 
@@ -75,5 +75,5 @@ pub record Listed (b : List ℕ) (limit : ℕ) (stack work supports tables numbe
 -- a call of `report_run`: that of `run` on the front of the list, and the figure where the sheet is accepted
 pub record RunTold (b : List ℕ) (limit : ℕ) (list : List ℕ) (r : ReportRun) (list′ : List ℕ) : Type 0 where
   pub sized : Sized b (r .variables)
-  pub call : Call b limit (take (4096 * r .variables) list) (r .answer) (take (4096 * r .variables) list′)
+  pub call : CallRun b limit (take (4096 * r .variables) list) (r .answer) (take (4096 * r .variables) list′)
   pub figure : verdictOf b ≡ accepted → means (r .figure) ≡ told (reportFigure b limit)

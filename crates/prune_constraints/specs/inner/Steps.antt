@@ -1,5 +1,5 @@
 -- What the functions inside this crate say to each other: tables of sets, and one constraint at a time.
-use Rattle.model.specs.Kit.{_≡_, not, _⊎_, List, [], _∷_, _++_, List·Memᴰ, ℕ, suc, _+_, _*_, _<_, T, eqb, length, set}
+use Rattle.model.specs.Kit.{_≡_, not, _⊎_, List, [], _∷_, _++_, List·Memᴰ, ℕ, suc, _+_, _*_, _^_, _<_, T, eqb, length, set, bitAnd, bitOr}
 use Rattle.model.specs.{Lists.any, Lists.at, Lists.same, Lists.ascending, ValueSets.has, ValueSets.maskOf, ValueSets.oneIf, Problem.Problem, Problem.Constraint}
 use Rattle.model.specs.WellFormed.{WellFormed}
 use Rattle.arrays.specs.{inner.Places.VALUES, inner.Places.OTHERS, inner.Places.DEAD, inner.Layout.Numbers, inner.Layout.Supports, inner.Layout.place, inner.Tables.Words}
@@ -19,6 +19,24 @@ pub record Joined (t : List ℕ) (base a b first last : ℕ) : Type 0 where
   pub first-e : (v : ℕ) → T (has first v) → (w : ℕ) × Together t base a b v w
   pub last-i : (v w : ℕ) → Together t base a b v w → T (has last w)
   pub last-e : (w : ℕ) → T (has last w) → (v : ℕ) × Together t base a b v w
+
+-- sixteen sets: e where b has the value, else the empty set
+pub record Masks (b e : ℕ) (ms : List ℕ) : Type 0 where
+  pub narrow : (v : ℕ) → at ms v < 2 ^ 16
+  pub mask-i : (v w : ℕ) → T (has b v) → T (has e w) → T (has (at ms v) w)
+  pub mask-e : (v w : ℕ) → T (has (at ms v) w) → T (has b v) × T (has e w)
+
+-- sixteen sets with what those of the table from a base on have of the masks; r is the union of what they have
+pub record Met (t : List ℕ) (base : ℕ) (ms old new : List ℕ) (r : ℕ) : Type 0 where
+  pub size : length new ≡ length old
+  pub each : (v : ℕ) → v < 16 → at new v ≡ bitOr (at old v) (bitAnd (at t (base + v)) (at ms v))
+  pub some-i : (v w : ℕ) → v < 16 → T (has (bitAnd (at t (base + v)) (at ms v)) w) → T (has r w)
+  pub some-e : (w : ℕ) → T (has r w) → (v : ℕ) × (v < 16) × T (has (bitAnd (at t (base + v)) (at ms v)) w)
+
+-- the values of b whose sets are not empty
+pub record FullSets (sets : List ℕ) (b r : ℕ) : Type 0 where
+  pub full-i : (v : ℕ) → T (has b v) → (at sets v ≡ 0 → ⊥) → T (has r v)
+  pub full-e : (v : ℕ) → T (has r v) → T (has b v) × (at sets v ≡ 0 → ⊥)
 
 -- three values that go together, each of its set: sixteen sets of the table for each value of the first
 abbrev pub Together3 : List ℕ → ℕ → ℕ → ℕ → ℕ → ℕ → ℕ → ℕ → Type 0

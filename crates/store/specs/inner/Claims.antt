@@ -2,20 +2,20 @@
 -- store. What callers may rely on is in specs/Calls.
 use Rattle.model.specs.Kit.{List, [], _∷_, ℕ, eqb, _≡_, _⊎_, Bool, true, false, not, _++_, map, _+_, _*_, _≤_, _<_, length, drop, T, leb}
 use Rattle.model.specs.{Lists.choose, Lists.both, Lists.below, Verdict.Verdict, Verdict.accepted, Verdict.refused, Verdict.ask, Verdict.isAccepted, Sheet.words}
-use Rattle.store.specs.Store.{Store, Call, callVerdict, storeAfter, StoreReply, replyOf, ownerOf, call, none, table, isTable, emptyStore, keysOf, Action, put, fetch, remove}
+use Rattle.store.specs.Store.{Store, StoreCall, callVerdict, storeAfter, StoreReply, replyOf, ownerOf, call, none, table, isTable, emptyStore, keysOf, Action, put, fetch, remove}
 use Rattle.model.specs.Sheet.{headerOf, problemOf, symmetriesVerdict, verdictOf}
 use Rattle.store.specs.{Store.callsOf, Layout.size, Layout.storeOf, Layout.replyOn, Layout.bytesAfter}
 use Rattle.store.specs.Calls.{StoreBytes, ByteCall, ByteCalls}
 
-unfoldable pub replyTo : Store → Call → StoreReply
+unfoldable pub replyTo : Store → StoreCall → StoreReply
 replyTo s (call owner key a) = replyOf (callVerdict s (call owner key a)) a (s owner key)
 
 -- ---- calls one after another
-unfoldable pub storeEnd : Store → List Call → Store
+unfoldable pub storeEnd : Store → List StoreCall → Store
 storeEnd s [] = s
 storeEnd s (x ∷ xs) = storeEnd (storeAfter s x) xs
 
-unfoldable pub repliesTo : ℕ → Store → List Call → List StoreReply
+unfoldable pub repliesTo : ℕ → Store → List StoreCall → List StoreReply
 repliesTo o s [] = []
 repliesTo o s (x ∷ xs) =
     let later = repliesTo o (storeAfter s x) xs in
@@ -25,7 +25,7 @@ repliesTo o s (x ∷ xs) =
 -- what an owner gets back depends only on its own calls: two sequences of calls with the same calls of one owner, all else changed at will,
 -- give it the same replies, on any two stores in which it has the same entries
 abbrev pub Isolated : Type 0
-Isolated = (o : ℕ) (s s′ : Store) (xs ys : List Call) → s o ≡ s′ o → callsOf o xs ≡ callsOf o ys → repliesTo o s xs ≡ repliesTo o s′ ys
+Isolated = (o : ℕ) (s s′ : Store) (xs ys : List StoreCall) → s o ≡ s′ o → callsOf o xs ≡ callsOf o ys → repliesTo o s xs ≡ repliesTo o s′ ys
 
 -- a call that can change an entry
 abbrev pub writes : Action → Bool
@@ -34,17 +34,17 @@ writes (fetch room) = false
 writes remove = true
 
 -- the call leaves the entry under an owner and a key: it is made elsewhere, or refused, or a fetch
-abbrev pub spares : ℕ → ℕ → Store → Call → Bool
+abbrev pub spares : ℕ → ℕ → Store → StoreCall → Bool
 spares o k s (call owner key a) = not (both (both (eqb owner o) (eqb key k)) (both (isAccepted (callVerdict s (call owner key a))) (writes a)))
 
-unfoldable pub allSpare : ℕ → ℕ → Store → List Call → Bool
+unfoldable pub allSpare : ℕ → ℕ → Store → List StoreCall → Bool
 allSpare o k s [] = true
 allSpare o k s (x ∷ xs) = both (spares o k s x) (allSpare o k (storeAfter s x) xs)
 
 -- a fetch gives what the owner last put there and did not drop; 35 where the room is short
 abbrev pub Fetches-last : Type 0
 Fetches-last =
-    (o k : ℕ) (xs ys : List Call) (t room : List ℕ) →
+    (o k : ℕ) (xs ys : List StoreCall) (t room : List ℕ) →
     callVerdict (storeEnd emptyStore xs) (call o k (put t)) ≡ accepted →
     T (allSpare o k (storeAfter (storeEnd emptyStore xs) (call o k (put t))) ys) →
     replyTo (storeEnd emptyStore (xs ++ (call o k (put t) ∷ ys))) (call o k (fetch room)) ≡ replyOf (ask (leb (length t) (length room)) 35 0 accepted) (fetch room) (table t)
@@ -53,35 +53,35 @@ Fetches-last =
 abbrev pub Fetches-none : Type 0
 Fetches-none =
     (o k : ℕ) (room : List ℕ) → o < 4 →
-    ((ys : List Call) → T (allSpare o k emptyStore ys) → replyTo (storeEnd emptyStore ys) (call o k (fetch room)) ≡ replyOf (refused 34 0) (fetch room) none)
-    × ((xs ys : List Call) → callVerdict (storeEnd emptyStore xs) (call o k remove) ≡ accepted →
+    ((ys : List StoreCall) → T (allSpare o k emptyStore ys) → replyTo (storeEnd emptyStore ys) (call o k (fetch room)) ≡ replyOf (refused 34 0) (fetch room) none)
+    × ((xs ys : List StoreCall) → callVerdict (storeEnd emptyStore xs) (call o k remove) ≡ accepted →
     T (allSpare o k (storeAfter (storeEnd emptyStore xs) (call o k remove)) ys) →
     replyTo (storeEnd emptyStore (xs ++ (call o k remove ∷ ys))) (call o k (fetch room)) ≡ replyOf (refused 34 0) (fetch room) none)
 
 -- an owner never has more than four keys, and can always have four: with fewer, and for a key that it has, a table of at most 2,048 bytes is taken
 abbrev pub Four-keys : Type 0
 Four-keys =
-    (xs : List Call) (o : ℕ) →
+    (xs : List StoreCall) (o : ℕ) →
     (length (keysOf (storeEnd emptyStore xs o)) ≤ 4)
     × ((k : ℕ) (t : List ℕ) → o < 4 → length t ≤ 2048 → (length (keysOf (storeEnd emptyStore xs o)) < 4) ⊎ T (isTable (storeEnd emptyStore xs o k)) →
     callVerdict (storeEnd emptyStore xs) (call o k (put t)) ≡ accepted)
 
 -- a refused call leaves the store
 abbrev pub Refused-same : Type 0
-Refused-same = (s : Store) (x : Call) (number item : ℕ) → callVerdict s x ≡ refused number item → storeAfter s x ≡ s
+Refused-same = (s : Store) (x : StoreCall) (number item : ℕ) → callVerdict s x ≡ refused number item → storeAfter s x ≡ s
 
 -- each call on bytes is the call on the store that they mean
 abbrev pub Each-call : Type 0
 Each-call =
-    (b : List ℕ) (x : Call) → StoreBytes b → ByteCall x →
+    (b : List ℕ) (x : StoreCall) → StoreBytes b → ByteCall x →
     (replyOn b x ≡ replyTo (storeOf b) x) × (storeOf (bytesAfter b x) ≡ storeAfter (storeOf b) x) × StoreBytes (bytesAfter b x)
 
 -- calls one after another on bytes, and what those of one owner give back
-unfoldable pub bytesEnd : List ℕ → List Call → List ℕ
+unfoldable pub bytesEnd : List ℕ → List StoreCall → List ℕ
 bytesEnd b [] = b
 bytesEnd b (x ∷ xs) = bytesEnd (bytesAfter b x) xs
 
-unfoldable pub repliesOn : ℕ → List ℕ → List Call → List StoreReply
+unfoldable pub repliesOn : ℕ → List ℕ → List StoreCall → List StoreReply
 repliesOn o b [] = []
 repliesOn o b (x ∷ xs) =
     let later = repliesOn o (bytesAfter b x) xs in
@@ -90,12 +90,12 @@ repliesOn o b (x ∷ xs) =
 -- so all that is said of the store above holds of its bytes
 abbrev pub All-calls : Type 0
 All-calls =
-    (b : List ℕ) (xs : List Call) → StoreBytes b → ByteCalls xs →
+    (b : List ℕ) (xs : List StoreCall) → StoreBytes b → ByteCalls xs →
     (storeOf (bytesEnd b xs) ≡ storeEnd (storeOf b) xs) × ((o : ℕ) → repliesOn o b xs ≡ repliesTo o (storeOf b) xs) × StoreBytes (bytesEnd b xs)
 
 abbrev pub Isolated-bytes : Type 0
 Isolated-bytes =
-    (o : ℕ) (b b′ : List ℕ) (xs ys : List Call) → StoreBytes b → StoreBytes b′ → ByteCalls xs → ByteCalls ys →
+    (o : ℕ) (b b′ : List ℕ) (xs ys : List StoreCall) → StoreBytes b → StoreBytes b′ → ByteCalls xs → ByteCalls ys →
     storeOf b o ≡ storeOf b′ o → callsOf o xs ≡ callsOf o ys → repliesOn o b xs ≡ repliesOn o b′ ys
 
 -- ---- fetched tables in a sheet

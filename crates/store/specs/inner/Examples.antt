@@ -2,14 +2,14 @@
 -- each holds (proofs/Examples).
 use Rattle.model.specs.Kit.{_≡_, true, List, [], _∷_, _++_}
 use Rattle.model.specs.{Verdict.accepted, Room.wrote, Room.refusal}
-use Rattle.store.specs.Store.{emptyStore, put, fetch, remove, Call, call, callVerdict, storeAfter, callsOf}
+use Rattle.store.specs.Store.{emptyStore, put, fetch, remove, StoreCall, call, callVerdict, storeAfter, callsOf}
 use Rattle.store.specs.inner.Claims.{storeEnd, repliesTo, allSpare}
 
 -- owner 0 puts two bytes and fetches them twice; between these owner 1 does this, or that
-abbrev this : List Call
+abbrev this : List StoreCall
 this = call 0 7 (put (3 ∷ 4 ∷ [])) ∷ call 1 7 (put (9 ∷ [])) ∷ call 0 7 (fetch (0 ∷ 0 ∷ 5 ∷ [])) ∷ call 1 7 remove ∷ call 0 7 (fetch (0 ∷ [])) ∷ []
 
-abbrev that : List Call
+abbrev that : List StoreCall
 that = call 1 7 (put (8 ∷ [])) ∷ call 0 7 (put (3 ∷ 4 ∷ [])) ∷ call 0 7 (fetch (0 ∷ 0 ∷ 5 ∷ [])) ∷ call 1 7 (put []) ∷ call 4 7 remove ∷ call 0 7 (fetch (0 ∷ [])) ∷ []
 
 abbrev pub testsStore : List (Type 0)
