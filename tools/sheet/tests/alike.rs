@@ -9,10 +9,8 @@ use sheet::runner::Manner;
 use sheet::watch::Watch;
 use sheets::Rng;
 
-mod common;
-mod program;
-use common::enumerated;
-use program::{ended, folder, sheet};
+use crate::common::enumerated;
+use crate::program::{ended, folder, sheet};
 
 const ALL: Limits = Limits { trials: u32::MAX, plans: 10_000, first: false };
 

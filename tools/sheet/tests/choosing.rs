@@ -2,8 +2,7 @@
 
 use std::process::{Command, Output};
 
-mod program;
-use program::{fed, root};
+use crate::program::{fed, root};
 
 const STAND: &str = "examples/stand.txt";
 

@@ -1,10 +1,8 @@
 //! Rows to stores and back through the program: what it writes, and its words and exit status for each refusal.
 
-mod program;
-
 /// The program's standard output, or what it says where its exit status is 1.
 fn sheet(words: &[&str], input: &[u8]) -> Result<Vec<u8>, String> {
-    let done = program::fed(words, input);
+    let done = crate::program::fed(words, input);
     if done.status.success() {
         return Ok(done.stdout);
     }

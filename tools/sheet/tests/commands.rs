@@ -6,8 +6,7 @@ use std::io::Write;
 use std::path::Path;
 use std::process::{Command, Output, Stdio};
 
-mod program;
-use program::{root, said};
+use crate::program::{root, said};
 
 /// The program at the repository's root, with words parted by spaces.
 fn sheet(words: &str) -> Command {
@@ -22,7 +21,7 @@ fn output(words: &str) -> Output {
 
 /// What the program prints for a text on standard input.
 fn fed(words: &str, input: &[u8]) -> Output {
-    program::fed(&words.split(' ').collect::<Vec<_>>(), input)
+    crate::program::fed(&words.split(' ').collect::<Vec<_>>(), input)
 }
 
 /// Status, standard output and standard error.

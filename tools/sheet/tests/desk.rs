@@ -4,10 +4,8 @@ use sheet::json::Json;
 use std::path::PathBuf;
 use std::process::Output;
 
-mod program;
-mod schema;
-use program::{fed, root, said};
-use schema::{field, members, parse, Schema};
+use crate::program::{fed, root, said};
+use crate::schema::{field, members, parse, Schema};
 
 /// The program with words parted by spaces.
 fn sheet(words: &str) -> Output {

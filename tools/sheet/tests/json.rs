@@ -3,10 +3,8 @@
 use sheet::json::Json;
 use std::process::Output;
 
-mod program;
-mod schema;
-use program::{fed, root, said};
-use schema::{field, members, parse, Schema};
+use crate::program::{fed, root, said};
+use crate::schema::{field, members, parse, Schema};
 
 fn schema() -> Schema {
     let text = std::fs::read_to_string(root().join("docs/schema/sheet.json")).unwrap();

@@ -4,8 +4,7 @@ use sheet::parse::parse;
 use std::path::PathBuf;
 use std::process::{Command, Output};
 
-mod common;
-use common::enumerated;
+use crate::common::enumerated;
 
 /// A folder for a test's files, and the program run in it.
 struct Folder(PathBuf);

@@ -18,8 +18,7 @@ use sheet::watch::Watch;
 use sheets::Rng;
 use std::collections::BTreeSet;
 
-mod common;
-use common::enumerated;
+use crate::common::enumerated;
 
 const ALL: Limits = Limits { trials: u32::MAX, plans: 10_000, first: false };
 

@@ -10,10 +10,8 @@ use sheet::runner::Manner;
 use sheet::watch::Watch;
 use sheets::Rng;
 
-mod common;
-mod program;
-use common::enumerated;
-use program::{ended, folder, said, sheet};
+use crate::common::enumerated;
+use crate::program::{ended, folder, said, sheet};
 
 const TEXT: &str =
     "windows a b c\nduties x y\ndifferent a c\nbefore c a\nexchange windows a c\nbefore b a\nbefore c a\n";

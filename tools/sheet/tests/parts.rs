@@ -23,10 +23,8 @@ const TEXTS: [&str; 9] = [
     "tools/sheet/tests/golden/order.txt",
 ];
 
-mod program;
-mod schema;
-use program::{root, said, sheet};
-use schema::{field, members, parse, Schema};
+use crate::program::{root, said, sheet};
+use crate::schema::{field, members, parse, Schema};
 
 fn is_silent(output: Output) {
     assert_eq!(said(&output.stderr), "");

@@ -8,8 +8,7 @@ use sheet::runner::Manner;
 use sheet::watch::Watch;
 use sheets::Rng;
 
-mod common;
-use common::enumerated;
+use crate::common::enumerated;
 
 const ALL: Limits = Limits { trials: u32::MAX, plans: 1_000_000, first: false };
 

@@ -5,8 +5,7 @@ use std::io::{BufRead, BufReader, Read};
 use std::path::PathBuf;
 use std::process::{Child, Command, Output, Stdio};
 
-mod program;
-use program::{root, said};
+use crate::program::{root, said};
 
 fn sheet(words: &[&str]) -> Command {
     let mut command = Command::new(env!("CARGO_BIN_EXE_sheet"));

@@ -8,8 +8,7 @@ use sheet::watch::Watch;
 use sheet::why::{narrow, Left};
 use sheets::Rng;
 
-mod common;
-use common::enumerated;
+use crate::common::enumerated;
 
 const LIMITS: Limits = Limits { trials: 1_000_000, plans: 1, first: true };
 
