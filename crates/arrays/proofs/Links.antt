@@ -1,7 +1,7 @@
 -- A problem's constraints by number, the first constraint on two variables, and the values that go together by it. Assumes nothing.
 use Rattle.model.specs.Kit.{_≡_, sym, ap, subst, Bool, true, false, List, [], _∷_, List·Memᴰ, ℕ, _≤_, _<_, T, eqb, eqb→eq, eqb-refl, length, lt-ltb, le-ltb, le-leb, lt-leb}
 use Rattle.model.specs.{Lists.both, Lists.either, Lists.any, Lists.at, Lists.same, Lists.ascending, Problem.Problem, Problem.Constraint, Problem.constraintAt}
-use Rattle.model.specs.WellFormed.{WellFormed, GoodConstraint}
+use Rattle.model.specs.inner.WellFormed.{WellFormed, GoodConstraint}
 use Rattle.model.proofs.{Lists.T-of, Lists.both-l, Lists.same-eq, Lists.mem-getD, Lists.ascending-2, Masks.least-is}
 use Rattle.arrays.specs.inner.Tables.{linkOf, byRows, allowed, goes}
 

@@ -3,7 +3,7 @@ use Rattle.model.specs.Kit.{_≡_, refl, sym, ap, ap₂, _∙_, subst, Bool, tr
 use Rattle.model.specs.Kit.{getD, add-one}
 use Rattle.model.specs.{Lists.at, Lists.both, Lists.flat, Problem.Problem, Problem.respects, Verdict.accepted, Verdict.refused, Sheet.permutesPairs}
 use Rattle.sheet_table.specs.inner.Table.{Asked, answerOf, tableAnswer}
-use Rattle.block.specs.Block.{orderings, factorial, orderingTable, isBlock, blockVerdict, TradePasses}
+use Rattle.block.specs.{Block.orderings, Block.factorial, Block.orderingTable, Block.isBlock, Block.blockVerdict, inner.Claims.TradePasses}
 use Rattle.arrays_block.specs.inner.Asked.{Held, BlockRow, TableBytes, rowAnswer}
 use Rattle.block.proofs.Orderings.{Few, factorial-le, factorial-up}
 use Rattle.block.proofs.Block as K

@@ -1,6 +1,6 @@
 -- The table of a row as bytes: low bytes are set one by one, and the high ones stay 0. Assumes nothing.
 use Rattle.model.specs.Kit.{_≡_, refl, sym, ap, ap₂, _∙_, subst, List, ℕ, _+_, _*_, _<_, ℕ-discrete, arith, length, set, replicate, length-set}
-use Rattle.model.specs.{Lists.at, Problem.Problem, Sheet.word, Sheet.words, WellFormed.WellFormed}
+use Rattle.model.specs.{Lists.at, Problem.Problem, Sheet.word, Sheet.words, inner.WellFormed.WellFormed}
 use Rattle.block.specs.Block.{orderingTable, imageOf, ordering}
 use Rattle.arrays_block.specs.inner.Asked.{TableBytes}
 use Rattle.model.proofs.{Lists.at-replicate, Lists.at-set, Lists.at-set-other, Lists.at-ext, Accepted.length-words, Accepted.at-words}

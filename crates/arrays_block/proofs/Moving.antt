@@ -1,6 +1,6 @@
 -- Rows of the table of orderings, and where the table of a row takes a number. Assumes nothing.
 use Rattle.model.specs.Kit.{_≡_, sym, ap, ap₂, _∙_, subst, true, false, List, _⊎_, ℕ, _+_, _-_, _*_, _/_, _%_, _≤_, _<_, mul-le-mul, arith, getD}
-use Rattle.model.specs.{Lists.at, Problem.Problem, Problem.pair, Problem.isPair, WellFormed.WellFormed}
+use Rattle.model.specs.{Lists.at, Problem.Problem, Problem.pair, Problem.isPair, inner.WellFormed.WellFormed}
 use Rattle.block.specs.Block.{ordering, imageOf, orderingTable}
 use Rattle.arrays_block.specs.inner.Asked.{Row, BlockRow}
 use Rattle.model.proofs.Lists.{T-of, of-not}

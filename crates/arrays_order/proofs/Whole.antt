@@ -3,7 +3,7 @@ use Rattle.model.specs.Kit.{_≡_, refl, sym, ap, ap₂, _∙_, subst, Bool, fa
 use Rattle.model.specs.Kit.{_^_, _≤_, _<_, not-suc-le-zero, le-of-suc-le-suc, decLt, arith, eqb, length, getD, length-map}
 use mathlib.Core.Path.{fun-ext}
 use Rattle.model.specs.{Lists.any, Lists.at, Lists.same, ValueSets.has, ValueSets.maskOf, ValueSets.least, ValueSets.leastStep, Problem.Problem, Problem.Constraint, Problem.pair}
-use Rattle.model.specs.{Problem.constraintAt, Problem.symmetryAt, WellFormed.WellFormed, WellFormed.GoodConstraint, WellFormed.GoodSymmetry, inner.Filling.Filled}
+use Rattle.model.specs.{Problem.constraintAt, Problem.symmetryAt, inner.WellFormed.WellFormed, inner.WellFormed.GoodConstraint, inner.WellFormed.GoodSymmetry, inner.Filling.Filled}
 use Rattle.order.specs.{Order.Ordering, Reordered.position, Reordered.valueOf, Reordered.scopeIn, Reordered.constraintIn, Reordered.renamed, Reordered.symmetryIn}
 use Rattle.order.specs.Reordered.{reordered}
 use Rattle.model.proofs.{Sets.has-mask, Lists.not-of, Lists.any-e, Lists.same-eq, Lists.among-e, Lists.mem-at, Lists.mem-getD, Lists.at-take, Lists.at-map, Lists.ascending-sorted}

@@ -1,6 +1,6 @@
 -- What is stored are the problem's image tables. Assumes nothing.
 use Rattle.model.specs.Kit.{_≡_, sym, ap, _∙_, subst, List, ℕ, _+_, _*_, _<_, arith, T, eqb, ltb, length}
-use Rattle.model.specs.{Lists.any, Lists.at, Lists.keep, ValueSets.has, ValueSets.members, Problem.Problem, WellFormed.WellFormed}
+use Rattle.model.specs.{Lists.any, Lists.at, Lists.keep, ValueSets.has, ValueSets.members, Problem.Problem, inner.WellFormed.WellFormed}
 use Rattle.model.proofs.{Lists.T-ext, Lists.any-i, Lists.any-e, Lists.keep-e, Sets.has-mask, Sets.mask-lt, Sets.mask-ext, Sets.members-e}
 use Rattle.arrays.specs.{inner.Places.OWN, inner.Places.SMALLER, inner.Places.SYMMETRIES, inner.Places.VARIABLES, inner.Layout.Numbers, inner.Layout.Images, inner.Tables.imageOf}
 use Rattle.arrays.specs.inner.Tables.{ImageTables}

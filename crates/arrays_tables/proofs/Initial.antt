@@ -1,6 +1,6 @@
 -- The initial sets, as the code reads them. Assumes nothing.
 use Rattle.model.specs.Kit.{_≡_, ap, _∙_, List, ℕ, _%_, _<_, mod-eq-of-lt}
-use Rattle.model.specs.{Lists.at, Problem.Problem, WellFormed.WellFormed}
+use Rattle.model.specs.{Lists.at, Problem.Problem, inner.WellFormed.WellFormed}
 use Rattle.model.proofs.Tree.{well-sized}
 use Rattle.arrays.specs.inner.Layout.{Numbers}
 use Rattle.arrays_tables.specs.inner.Steps.{initialOf}

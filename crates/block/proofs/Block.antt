@@ -1,9 +1,10 @@
 -- A block's symmetries: what an ordering does to pairs, that trades of neighbours are enough to ask, that its variables have equal initial sets, and that two of them make one. Assumes nothing.
-use Rattle.model.specs.Kit.{_≡_, sym, ap, ap₂, _∙_, subst, Bool, false, List, [], _∷_, _++_, map, List·Memᴰ, Memᴰ·cast, Memᴰ·map, Memᴰ·of-map, _⊎_, inl, inr, ℕ, zero, suc, _+_}
-use Rattle.model.specs.Kit.{_-_, _*_, _≤_, _<_, arith, ℕ-discrete, decLt, T, leb, ltb, leb→le, ltb→lt, length, le-leb, lt-ltb}
-use Rattle.model.specs.{Lists.both, Lists.upFrom, Lists.below, Lists.at, ValueSets.has, Problem.Problem, Problem.pair, Problem.respects, Verdict.Verdict, Verdict.accepted}
-use Rattle.model.specs.{Verdict.refused, Verdict.ask, Verdict.isAccepted, Sheet.permutesPairs, Sheet.symmetriesVerdict, WellFormed.WellFormed, WellFormed.GoodSymmetry}
-use Rattle.block.specs.Block.{ordering, factorial, composed, inBlock, imageOf, orderingTable, blockTables, withBlock, isBlock, blockVerdict, TradePasses}
+use Rattle.model.specs.Kit.{_≡_, sym, ap, ap₂, _∙_, subst, Bool, false, List, [], _∷_, _++_, map, List·Memᴰ, Memᴰ·cast, Memᴰ·map, Memᴰ·of-map, _⊎_, inl, inr, ℕ, zero, suc, _+_, _-_, _*_, _≤_, _<_}
+use Rattle.model.specs.Kit.{arith, ℕ-discrete, decLt, T, leb, ltb, leb→le, ltb→lt, length, le-leb, lt-ltb}
+use Rattle.model.specs.{Lists.both, Lists.upFrom, Lists.below, Lists.at, ValueSets.has, Problem.Problem, Problem.pair, Problem.respects, Verdict.Verdict, Verdict.accepted, Verdict.refused}
+use Rattle.model.specs.{Verdict.ask, Verdict.isAccepted, Sheet.permutesPairs, Sheet.symmetriesVerdict, inner.WellFormed.WellFormed, inner.WellFormed.GoodSymmetry}
+use Rattle.block.specs.Block.{ordering, factorial, composed, inBlock, imageOf, orderingTable, blockTables, withBlock, isBlock, blockVerdict}
+use Rattle.block.specs.inner.Claims.{TradePasses}
 use Rattle.model.proofs.{Asked.symmetries-i, Asked.symmetries-first, Lists.both-l, Lists.both-r, Lists.T-of, Lists.of-T, Lists.not-of, Lists.T-ext, Lists.map-append, Lists.below-i}
 use Rattle.model.proofs.{Lists.below-e, Lists.upFrom-add, Lists.length-below, Sets.mask-ext, Accepted.asked, Accepted.symmetries-e}
 use Rattle.block.proofs.Orderings.{Few, factorial-up, Moves, moves, moves-small, moves-high, at-composed, product-row, generated, trade-at, row-zero}

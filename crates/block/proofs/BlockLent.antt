@@ -1,8 +1,6 @@
 -- A block as it is lent: by the number of bytes, the tables of an accepted one, and its variables in an order. Assumes nothing.
-use Rattle.model.specs.Kit.{_≡_, refl, sym, subst, Bool, false, List, [], _∷_, _++_, map, append-nil, List·Memᴰ, List·Memᴰ·not-nil, inl, inr, ⊎-elim, ℕ, _<_, arith, T, length}
-use Rattle.model.specs.Kit.{getD}
-use Rattle.model.specs.{Lists.at, Problem.Problem, Problem.pair, Problem.isPair, Problem.withSymmetries, Verdict.accepted, Verdict.refused, Verdict.isAccepted}
-use Rattle.model.specs.WellFormed.{WellFormed}
+use Rattle.model.specs.Kit.{_≡_, refl, sym, subst, Bool, false, List, [], _∷_, _++_, map, append-nil, List·Memᴰ, List·Memᴰ·not-nil, inl, inr, ⊎-elim, ℕ, _<_, arith, T, length, getD}
+use Rattle.model.specs.{Lists.at, Problem.Problem, Problem.pair, Problem.isPair, Problem.withSymmetries, Verdict.accepted, Verdict.refused, Verdict.isAccepted, inner.WellFormed.WellFormed}
 use Rattle.order.specs.{Order.Ordering, Reordered.symmetryIn, Reordered.reordered}
 use Rattle.block.specs.Block.{variableTable, inBlock, orderingTable, blockTables, blockVerdict, tablesLent, blockLent, inLent}
 use Rattle.block.specs.inner.BlockSets.{Reorders, BlockIn}

@@ -2,7 +2,7 @@
 use Rattle.model.specs.Kit.{_≡_, refl, sym, ap, _∙_, subst, true, false, List, _++_, map, List·Memᴰ, Memᴰ·append-left, Memᴰ·map, Memᴰ·of-map, _⊎_, inl, inr, ⊎-elim, ℕ, _+_, _-_}
 use Rattle.model.specs.Kit.{_≤_, _<_, ℕ-discrete, arith, T, eqb, leb, ltb, leb→le, ltb→lt, eq-eqb, ne-eqb, le-leb, lt-ltb}
 use mathlib.Core.List.{List·Memᴰ·append-cases, Memᴰ·append-right}
-use Rattle.model.specs.{Lists.below, Lists.at, Problem.Problem, Problem.pair, Verdict.accepted, WellFormed.WellFormed}
+use Rattle.model.specs.{Lists.below, Lists.at, Problem.Problem, Problem.pair, Verdict.accepted, inner.WellFormed.WellFormed}
 use Rattle.block.specs.{Block.ordering, Block.factorial, Block.inBlock, Block.imageOf, Block.orderingTable, Block.blockTables, Block.blockVerdict, inner.BlockSets.Reorders}
 use Rattle.block.specs.inner.BlockSets.{Trades, BlockIn}
 use Rattle.model.proofs.Lists.{T-of, T-dec, not-of, both-i, both-l, both-r, below-i, below-e, at-below, length-below}

@@ -1,7 +1,7 @@
 -- A block of a problem whose variables are settled in another order: the reordered problem has a block too, of the positions of the block's variables. Assumes nothing.
 use Rattle.model.specs.Kit.{_≡_, sym, ap, ap₂, _∙_, subst, Bool, false, List, _++_, map, List·Memᴰ, Memᴰ·map, Memᴰ·of-map, _⊎_, inl, inr, _↔_, ℕ, _*_, _≤_, _<_, T}
-use Rattle.model.specs.{Lists.at, ValueSets.has, ValueSets.anyEmpty, Problem.Problem, Problem.pair, Verdict.accepted, Search.isPlan, Claims.Consistent, WellFormed.WellFormed}
-use Rattle.block.specs.{Block.inBlock, Block.blockTables, Block.withBlock, Block.blockVerdict, inner.BlockSets.Reorders, inner.BlockSets.Trades, inner.BlockSets.BlockIn, BlockClaims.Ascends}
+use Rattle.model.specs.{Lists.at, ValueSets.has, ValueSets.anyEmpty, Problem.Problem, Problem.pair, Verdict.accepted, Search.isPlan, Claims.Consistent, inner.WellFormed.WellFormed}
+use Rattle.block.specs.{Block.inBlock, Block.blockTables, Block.withBlock, Block.blockVerdict, inner.BlockSets.Reorders, inner.BlockSets.Trades, inner.BlockSets.BlockIn, inner.Claims.Ascends}
 use Rattle.order.specs.{Order.Ordering, Reordered.position, Reordered.read, Reordered.renamed, Reordered.symmetryIn, Reordered.reordered}
 use Rattle.model.proofs.Lists.{at-below}
 use Rattle.block.proofs.BlockOrderings.{accepted-block}

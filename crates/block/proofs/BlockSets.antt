@@ -3,11 +3,10 @@ use Rattle.model.specs.Kit.{_≡_, refl, sym, ap, _∙_, subst, Bool, false, no
 use Rattle.model.specs.Kit.{le-of-suc-le-suc, ℕ-discrete, decLt, arith, T, eqb, ltb, eqb→eq, eqb-refl, ltb→lt, lt→ltb, T-not, not-T, length, getD, set, length-append}
 use native.Mathlib.Nat.{le-refl}
 use lib.Seq.{getD-set-same, getD-set-other}
-use Rattle.model.specs.{Lists.both, Lists.at, ValueSets.has, ValueSets.maskOf, ValueSets.members, ValueSets.anyEmpty, ValueSets.Inside, Problem.Problem, Problem.pair}
-use Rattle.model.specs.{Problem.assignments, Problem.withSymmetries, Nogood.Entry, Nogood.obeys, Nogood.filtered, Search.entriesAt, Search.nogoodsOf, Search.pruned}
-use Rattle.model.specs.{Search.narrowed, Search.setsAt, Search.isLive, Search.isPlan, Claims.Consistent, Claims.Drawn, inner.Pruning.Sets, inner.Pruning.closed, inner.Pruning.Way}
-use Rattle.model.specs.{inner.Pruning.Prunes, WellFormed.WellFormed}
-use Rattle.block.specs.{inner.BlockSets.Reorders, inner.BlockSets.Trades, inner.BlockSets.BlockIn, BlockClaims.Ascends, inner.BlockSets.lostAfter, inner.BlockSets.cutAfter}
+use Rattle.model.specs.{Lists.both, Lists.at, ValueSets.has, ValueSets.maskOf, ValueSets.members, ValueSets.anyEmpty, ValueSets.Inside, Problem.Problem, Problem.pair, Problem.assignments}
+use Rattle.model.specs.{Problem.withSymmetries, Nogood.Entry, Nogood.obeys, Nogood.filtered, Search.entriesAt, Search.nogoodsOf, Search.pruned, Search.narrowed, Search.setsAt, Search.isLive}
+use Rattle.model.specs.{Search.isPlan, Claims.Consistent, Claims.Drawn, inner.Pruning.Sets, inner.Pruning.closed, inner.Pruning.Way, inner.Pruning.Prunes, inner.WellFormed.WellFormed}
+use Rattle.block.specs.{inner.BlockSets.Reorders, inner.BlockSets.Trades, inner.BlockSets.BlockIn, inner.BlockSets.lostAfter, inner.BlockSets.cutAfter, inner.Claims.Ascends}
 use Rattle.model.proofs.Lists.{of-not, not-of, T-of, both-i, both-l, both-r, keep-i, keep-e, getD-at, at-out, at-append, at-seam, at-tabulate, length-tabulate, stable}
 use Rattle.model.proofs.{Counting.twice, Sets.members-i, Sets.members-e, Sets.mask-i, Sets.mask-e, Sets.mask-lt, Sets.inside-antisym, Sets.has-at-lt, Sets.has-lt, Sets.member}
 use Rattle.model.proofs.{Sets.empty-i, Masks.has-one, Assignments.drawn-i, Assignments.drawn-e, Assignments.drawn-through, Filter.filtered-i, Filter.filtered-e}

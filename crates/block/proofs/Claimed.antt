@@ -1,5 +1,5 @@
--- The claims of specs/BlockClaims, from the laws. Assumes nothing.
-use Rattle.block.specs.BlockClaims.{Rows-all, First-rows, Trades-enough, Sets-ascend, Plans-ascend, Alone-closed}
+-- The claims of specs/BlockClaims and specs/inner/Claims, from the laws. Assumes nothing.
+use Rattle.block.specs.{BlockClaims.Rows-all, BlockClaims.First-rows, inner.Claims.Trades-enough, inner.Claims.Sets-ascend, inner.Claims.Plans-ascend, inner.Claims.Alone-closed}
 use Rattle.block.proofs.Orderings.{count, orderings-ascend, row-ordering, ordering-row}
 use Rattle.block.proofs.Orderings as O
 use Rattle.block.proofs.Block as K

@@ -2,9 +2,8 @@
 use Rattle.model.specs.Kit.{_≡_, refl, sym, ap, ap₂, _∙_, subst, Bool, true, false, List, [], _∷_, map, List·Memᴰ, List·Memᴰ·head, List·Memᴰ·tail, List·Memᴰ·not-nil}
 use Rattle.model.specs.Kit.{List·Memᴰ·cases-cons, Memᴰ·cast, Memᴰ·map, Memᴰ·of-map, _⊎_, inl, inr, ⊎-elim, ℕ, suc, _*_, _/_, _%_, _<_, arith, T, eqb, eqb-refl, length}
 use mathlib.Core.List.{List·Memᴰ·eq-of-singleton}
-use Rattle.model.specs.{Lists.all, Lists.any, Lists.below, Lists.at, ValueSets.has, Problem.Problem, Problem.Constraint, Problem.pair, Problem.isPair, Problem.pairsAt}
-use Rattle.model.specs.{Problem.within, Problem.doubled, Problem.excluded, Problem.forbidden, Problem.respects, Sheet.distinct, Sheet.permutesPairs}
-use Rattle.model.specs.{Claims.Drawn, WellFormed.WellFormed, WellFormed.GoodSymmetry}
+use Rattle.model.specs.Problem.{Problem, Constraint, pair, isPair, pairsAt, within, doubled, excluded, forbidden, respects}
+use Rattle.model.specs.{Lists.all, Lists.any, Lists.below, Lists.at, ValueSets.has, Sheet.distinct, Sheet.permutesPairs, Claims.Drawn, inner.WellFormed.WellFormed, inner.WellFormed.GoodSymmetry}
 use Rattle.block.specs.Block.{composed, variableTable}
 use Rattle.model.proofs.Lists.{both-i, T-dec, of-T, not-of, all-i, any-i, below-e, length-below, at-below, at-ext}
 use Rattle.model.proofs.Assignments.{drawn-e}

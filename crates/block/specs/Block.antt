@@ -1,7 +1,7 @@
 -- A block of neighbouring variables that may be put in any order (paper 02, #111): the orderings of five, the symmetries that a block adds, and its questions.
-use Rattle.model.specs.Kit.{Bool, true, false, List, [], _∷_, _++_, map, ℕ, zero, suc, _+_, _-_, _*_, _/_, _%_, length, getD, replicate, T, leb, ltb}
-use Rattle.model.specs.{Lists.keep, Lists.below, Lists.at, Lists.both, ValueSets.fullMask, Problem.Problem, Problem.pair, Problem.isPair, Problem.assignments, Problem.respects}
-use Rattle.model.specs.{Problem.withSymmetries, Verdict.Verdict, Verdict.accepted, Verdict.refused, Verdict.ask, Sheet.distinct, Sheet.permutesPairs, Sheet.symmetriesVerdict}
+use Rattle.model.specs.Kit.{Bool, true, false, List, [], _∷_, _++_, map, ℕ, zero, suc, _+_, _-_, _*_, _/_, _%_, length, getD, replicate, leb, ltb}
+use Rattle.model.specs.{Lists.keep, Lists.below, Lists.at, Lists.both, ValueSets.fullMask, Problem.Problem, Problem.pair, Problem.isPair, Problem.assignments, Problem.withSymmetries}
+use Rattle.model.specs.{Verdict.Verdict, Verdict.accepted, Verdict.refused, Verdict.ask, Sheet.distinct, Sheet.symmetriesVerdict}
 
 -- ---- orderings
 -- the orderings of 0 to 4, in reading order: five numbers below five, no two of them equal
@@ -54,10 +54,6 @@ isBlock p first m = both (both (leb 2 m) (leb m 5)) (leb (first + m) (p .variabl
 -- 36; then 15 and 16 for each row, items counting on from the problem's own symmetries
 unfoldable pub blockVerdict : Problem → ℕ → ℕ → Verdict
 blockVerdict p first m = ask (isBlock p first m) 36 0 (symmetriesVerdict p (length (p .symmetries)) (blockTables p first m))
-
--- the k-th trade of neighbours, row k!, passes 15 and 16
-abbrev pub TradePasses : Problem → ℕ → ℕ → ℕ → Type 0
-TradePasses p first m k = T (permutesPairs p (orderingTable p first m (factorial k))) × T (respects p (orderingTable p first m (factorial k)))
 
 -- ---- as it is lent: no bytes for none, or two: its first variable and how many
 -- the symmetries that it adds

@@ -3,7 +3,7 @@ use Rattle.model.specs.Kit.{_≡_, refl, sym, ap, ap₂, _∙_, subst, Bool, tr
 use Rattle.model.specs.Kit.{length, take, drop, set, replicate, length-take, length-drop, ltb, getD-drop, length-take-le, ltb-true, ltb-false}
 use Rattle.model.specs.{Lists.at, Sheet.«word», Bytes.twoBytes, Bytes.fourBytes, Written.placed}
 use Rattle.model.proofs.{Lists.at-take, Lists.at-ext, Written.length-placed, Written.placed-before, Written.placed-in, Written.placed-after}
-use Rattle.desk.specs.Layout.{long}
+use Rattle.desk.specs.inner.Layout.{long}
 
 -- a part with the same bytes
 pub part-is : (c d : List ℕ) (from at-d n : ℕ) → from + n ≤ length c → at-d + n ≤ length d → ((i : ℕ) → i < n → at c (from + i) ≡ at d (at-d + i)) → take n (drop from c) ≡ take n (drop at-d d)

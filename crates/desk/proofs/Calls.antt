@@ -2,12 +2,13 @@
 use Rattle.model.specs.Kit.{_≡_, refl, sym, ap, ap₂, _∙_, subst, List, [], _∷_, List·Memᴰ, List·Memᴰ·head, List·Memᴰ·tail, Memᴰ·of-map, ℕ, _+_, _%_, _<_, arith, T, set, length-set}
 use Rattle.model.specs.Lists.{at, below}
 use Rattle.model.proofs.Lists.{at-set, at-set-other}
-use Rattle.desk.specs.Queue.{Job, jobTurned, Slot, waits, slotTurned, Queue, slotAt, Found, none-found, slot, roundFrom, toServe, QueueCall, submit, turn, release}
-use Rattle.desk.specs.{Queue.QueueReply, Queue.turnQueue, Queue.queueAfter, Queue.queueEnd, Queue.queueReplies, Places.NEXT, Layout.slotPlace, Layout.jobAt, Layout.slotOf}
-use Rattle.desk.specs.{Layout.queueOf, Layout.withRun, Layout.turnBytes, Layout.callBytes, Layout.bytesAfter, Claims.QueueBytes, Claims.ByteCall, Claims.Each-call}
-use Rattle.desk.specs.inner.Claims.{bytesEnd, repliesOn, All-calls}
-use Rattle.desk.proofs.{Queue.first-in, Bytes.small-set, Slots.slot-in, Slots.free-at, Slots.taken-at, Slots.reply-whole, Slots.bytes-whole, Meaning.slot-same}
-use Rattle.desk.proofs.{Meaning.slots-set, Refines.queue-is, Refines.submit-call, Refines.release-call, Turning.Fits, Turning.at-fits, Turning.turned-fits, Turned.run-whole}
+use Rattle.desk.specs.Queue.{Job, jobTurned, Slot, waits, slotTurned, Queue, slotAt, Found, none-found, slot, roundFrom, toServe, QueueCall, submit, turn, release, QueueReply, turnQueue}
+use Rattle.desk.specs.Queue.{queueAfter, queueEnd, queueReplies}
+use Rattle.desk.specs.{inner.Places.NEXT, inner.Layout.slotPlace, inner.Layout.jobAt, inner.Layout.slotOf, inner.Layout.queueOf, inner.Layout.withRun, inner.Layout.turnBytes}
+use Rattle.desk.specs.{inner.Layout.callBytes, inner.Layout.bytesAfter, Claims.QueueBytes, Claims.ByteCall, Claims.Each-call, Claims.Other-size, inner.Claims.bytesEnd}
+use Rattle.desk.specs.inner.Claims.{repliesOn, All-calls}
+use Rattle.desk.proofs.{Queue.first-in, Bytes.small-set, Slots.slot-in, Slots.free-at, Slots.taken-at, Slots.reply-whole, Slots.reply-wrong, Slots.bytes-whole, Slots.bytes-wrong}
+use Rattle.desk.proofs.{Meaning.slot-same, Meaning.slots-set, Refines.queue-is, Refines.submit-call, Refines.release-call, Turning.Fits, Turning.at-fits, Turning.turned-fits, Turned.run-whole}
 use Rattle.desk.proofs.Turned.{run-slot, run-others, run-bytes}
 
 -- ---- where to look
@@ -72,6 +73,9 @@ each-call b x d y =
     let e = bytes-whole b x (d .0) in
     let r = call-on b x d y in
     (reply-whole b x (d .0), ap queueOf e ∙ r .0, subst QueueBytes (sym e) (r .1))
+
+pub other-size : Other-size
+other-size b x n = (reply-wrong b x n, bytes-wrong b x n)
 
 pub all-calls : All-calls
 unfolding bytesEnd repliesOn queueEnd queueReplies

@@ -8,9 +8,9 @@ use Rattle.model.specs.{Sheet.permutesPairs, Sheet.symmetriesVerdict, Sheet.hea
 use Rattle.model.specs.{Nogood.filtered, Search.entriesAt, Search.nogoodsOf, Search.rowWith, Search.supported, Search.pruned, Search.narrowed, Search.rounds, Search.setsAt}
 use Rattle.model.specs.{Search.isLive, Search.nodesBelow, Search.nodes, Search.isPlan, Run.finished, Run.spent, Run.search, Run.resultOf, Run.written, Run.countsBy}
 use Rattle.model.specs.Examples.{sheetA}
-use Rattle.run_cut.specs.Parts.{after, nodesAfter, nodesBetween, nodesOf, lastOf, goOn, added}
-use Rattle.desk.specs.Queue.{over, jobTurned, firstOf, emptyQueue, Queue, submit, turn, release, refusal, answered, queued, idle, served, released, queueEnd, queueReplies, due}
-use Rattle.desk.specs.{Queue.roundsQueue, Queue.turnsGiven, Queue.endedIn, Queue.goingOn, Queue.statusReply, inner.Examples.Stay}
+use Rattle.run_cut.specs.{Parts.after, Parts.nodesAfter, Parts.lastOf, Parts.goOn, Parts.added, Between.nodesBetween, inner.Paths.nodesOf}
+use Rattle.desk.specs.Queue.{over, jobTurned, firstOf, emptyQueue, Queue, submit, turn, release, refusal, answered, queued, idle, served, released, queueEnd, queueReplies}
+use Rattle.desk.specs.{Rounds.due, Rounds.roundsQueue, Rounds.turnsGiven, Rounds.endedIn, Rounds.goingOn, Status.statusReply, inner.Examples.Stay}
 
 -- every definition that computes
 opened : ℕ

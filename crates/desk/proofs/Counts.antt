@@ -5,7 +5,7 @@ use Rattle.model.specs.{Lists.at, Lists.flat, Bytes.fourBytes}
 use Rattle.model.proofs.Lists.{at-ext, at-out, at-append, at-skip, at-replicate, length-tabulate, at-tabulate}
 use Rattle.run_cut.specs.Parts.{added}
 use Rattle.run_cut.proofs.Counts.{length-added, at-added}
-use Rattle.desk.specs.{Places.COUNTS, Layout.long, Layout.nodesAt, Layout.countsAt, Layout.countBytes}
+use Rattle.desk.specs.{inner.Places.COUNTS, inner.Layout.long, inner.Layout.nodesAt, inner.Layout.countsAt, inner.Layout.countBytes}
 use Rattle.desk.proofs.Bytes.{Small, small-nil, small-append, small-four}
 
 -- ---- none is more than all

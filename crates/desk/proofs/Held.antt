@@ -1,7 +1,6 @@
--- The contracts of `submit`, `status` and `release` (specs/Calls) from what is shown of the replies and the bytes. Assumes nothing.
+-- The contracts of `submit`, `status` and `release` (specs/Calls, specs/StatusCalls) from what is shown of the replies and the bytes. Assumes nothing.
 use Rattle.model.specs.Kit.{_≡_, _∙_, List, [], ℕ}
-use Rattle.desk.specs.{Queue.refusal, Queue.noCounts, Meaning.means, Calls.SubmitDone, Calls.StatusDone, Calls.ReleaseDone, declared.Answer.Answer}
-use Rattle.desk.specs.declared.SlotStatus.{SlotStatus}
+use Rattle.desk.specs.{Queue.refusal, Status.noCounts, Meaning.means, Calls.SubmitDone, Calls.ReleaseDone, StatusCalls.StatusDone, declared.Answer.Answer, declared.SlotStatus.SlotStatus}
 use Rattle.desk.proofs.Slots.{Submits, Seen, Releasing}
 
 pub submit-done : {b sheet : List ℕ} {limit : ℕ} {c : List ℕ} {r : Answer} → Submits b sheet limit (means r []) c → SubmitDone b sheet limit c r

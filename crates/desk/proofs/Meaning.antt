@@ -5,10 +5,9 @@ use lib.Seq.{take-length, getD-set-same, getD-set-other, ext-getD}
 use Rattle.model.specs.{Lists.at, Lists.choose, Lists.below, Verdict.Verdict, Verdict.accepted, Verdict.isAccepted, Sheet.«word», Sheet.verdictOf, Bytes.fourBytes, Written.placed}
 use Rattle.model.specs.Run.{listedPlans}
 use Rattle.model.proofs.{Lists.of-T, Lists.at-append, Lists.at-skip, Written.length-placed, Written.placed-before, Written.placed-in, Written.placed-after}
-use Rattle.desk.specs.{Queue.Standing, Queue.Job, Queue.newJob, Queue.Slot, Queue.free, Queue.taken, Queue.slotAt, Places.LENGTH, Places.LIMIT, Places.STANDING, Places.NODES}
-use Rattle.desk.specs.Places.{PLANS, DEPTH, LAST, COUNTS, SHEET, SHEET-BYTES, LIST, LIST-BYTES, SLOT, NEXT, size}
-use Rattle.desk.specs.Layout.{slotPlace, long, standingBy, standingAt, sheetLength, nodesAt, countsAt, plansAt, widthAt, rowsAt, lastAt, sheetAt, jobAt, slotOf, queueOf}
-use Rattle.desk.specs.Layout.{headBytes, slotBytes}
+use Rattle.desk.specs.inner.Places.{LENGTH, LIMIT, STANDING, NODES, PLANS, DEPTH, LAST, COUNTS, SHEET, SHEET-BYTES, LIST, LIST-BYTES, SLOT, NEXT}
+use Rattle.desk.specs.inner.Layout.{slotPlace, long, standingAt, sheetLength, nodesAt, countsAt, plansAt, widthAt, rowsAt, lastAt, sheetAt, jobAt, slotOf, queueOf, headBytes, slotBytes}
+use Rattle.desk.specs.Queue.{Standing, Job, newJob, Slot, free, taken, slotAt, size, standingBy}
 use Rattle.sheet.specs.Meaning.{compilable}
 use Rattle.sheet.proofs.Compilable.{accepted-compilable}
 use Rattle.desk.proofs.{Sheets.answered-length, Bytes.part-is, Bytes.word-of, Bytes.long-of, Counts.counts-length, Counts.counts-is, Counts.counts-zero, Counts.counts-as}

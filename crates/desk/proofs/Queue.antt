@@ -10,14 +10,13 @@ use Rattle.model.specs.{Verdict.kept, Sheet.word, Sheet.Header, Sheet.headerOf,
 use Rattle.model.specs.{Sheet.constraintVerdict, Sheet.constraintsVerdict, Sheet.symmetriesVerdict, Sheet.headerVerdict, Sheet.formVerdict, Sheet.verdictOf, Run.Ending}
 use Rattle.model.specs.Run.{finished, spent, full, plansIn, nodesIn, Result, search, resultOf, Answer, ended, answerOf, written, listOf, Tally, settledBy, countsBy, tallyAt}
 use Rattle.model.specs.Run.{tallyFor, tallyOf}
-use Rattle.run_cut.specs.Parts.{nodesAfter, lastOf, Progress, start, progressAt, goOn, added, countsAfter, resumed}
-use Rattle.desk.specs.Queue.{Standing, running, over, goesOn, Job, newJob, listRoom, turnLimit, standingAfter, jobAfter, jobTurned, turned, Slot, free, taken, isFree, waits}
-use Rattle.desk.specs.Queue.{slotTurned, Queue, emptyQueue, slotAt, Found, none-found, slot, firstOf, lowestFree, toServe, QueueCall, submit, turn, release, refusal, answered, queued}
-use Rattle.desk.specs.Queue.{idle, served, released, servedAs, submitReply, submitQueue, turnReply, turnQueue, fits, releaseFor, releaseReply, releaseSlot, queueReply}
-use Rattle.desk.specs.{Queue.queueAfter, Queue.queueEnd, Queue.queueReplies, Queue.jobIn, Claims.serves, Claims.turnsIn}
-use Rattle.desk.specs.Claims.{WaitsOn, Fair, alone, Going-on, Same-as-run}
+use Rattle.run_cut.specs.{Parts.nodesAfter, Parts.lastOf, Parts.Progress, Parts.start, Parts.progressAt, Parts.goOn, Parts.added, Parts.countsAfter, Between.resumed}
+use Rattle.desk.specs.Queue.{Standing, running, over, goesOn, Job, newJob, listRoom, turnLimit, standingAfter, jobAfter, jobTurned, Slot, free, taken, isFree, waits, slotTurned, Queue}
+use Rattle.desk.specs.Queue.{emptyQueue, slotAt, Found, none-found, slot, firstOf, lowestFree, toServe, QueueCall, submit, turn, release, refusal, answered, queued, idle, served, released}
+use Rattle.desk.specs.Queue.{servedAs, submitReply, submitQueue, turnReply, turnQueue, fits, releaseFor, releaseReply, releaseSlot, queueReply, queueAfter, queueEnd, queueReplies}
 use Rattle.desk.specs.inner.Claims.{timesServed, Throughout, Remains, HoldsAs, Holds, As-alone, Turn-of-64, Sixty-four-each, Turn-answers, Refused-same, Idle-exactly, Past-eighth}
 use Rattle.desk.specs.inner.Claims.{By-own-turns, Others-nothing, Releases, Lowest-slot, Slots-taken, Keeps-slot}
+use Rattle.desk.specs.{Rounds.turned, Claims.serves, Claims.turnsIn, Claims.WaitsOn, Claims.Fair, Claims.alone, Claims.Going-on, Claims.Same-as-run}
 use Rattle.model.proofs.{Lists.T-of, Lists.of-T, Lists.of-not, Lists.any-cons, Lists.either-l, Lists.either-r, Lists.below-i, Lists.below-e, Room.length-flat, Runs.Ended, Lists.never}
 use Rattle.model.proofs.Runs.{walk, rows-counted, rows-fit, rows-sized}
 use Rattle.run_cut.proofs.{Resume.stands, Resume.from-start, Resume.from-cut, Resume.in-parts, Resume.last-moves, Anywhere.no-fewer, Anywhere.counts-move}
@@ -335,8 +334,7 @@ same-as-run xs k h e out tally q s n = (
       ∙ ap₂ (λ (n : ℕ) (room : List ℕ). answered (released n room)) (sized ∙ ap (λ (m : ℕ). m * p .variables) (a .2))
       (sym (ap (λ (v : Verdict). kept v out (written (resultOf p (h .limit) (length out) .rows) out)) c ∙ ap
       (λ (m : ℕ). written (resultOf p (h .limit) m .rows) out) n ∙ ap (λ (r : Result). written (r .rows) out) (a .0))),
-  ap (λ (x : Answer). tallyFor x (tallyAt p) tally) same-answer ∙ ap₂ (λ (m : ℕ) (l : List ℕ). let t : Tally = record { nodes = m; counts = l } in t) (sym (a .1)) (sym (a .3)
-      ∙ sym (ap (λ (x : Slot). jobIn x .progress .counts) q)),
+  ap (λ (x : Answer). tallyFor x (tallyAt p) tally) same-answer ∙ ap₂ (λ (m : ℕ) (l : List ℕ). let t : Tally = record { nodes = m; counts = l } in t) (sym (a .1)) (sym (a .3)),
 )
   where
     p : Problem

@@ -4,9 +4,9 @@ use Rattle.model.specs.Kit.{ltb-true, ltb-false}
 use lib.Seq.{set-getD, ext-getD}
 use Rattle.model.specs.{Lists.choose, Lists.below, Verdict.Verdict, Verdict.accepted, Verdict.refused, Sheet.verdictOf, Bytes.twoBytes, Bytes.fourBytes, Written.placed}
 use Rattle.model.proofs.Lists.{below-e, at-set, at-set-other}
-use Rattle.desk.specs.Queue.{newJob, Job, Slot, free, taken, isFree, Queue, slotAt, Found, none-found, slot, lowestFree, submit, release, submitQueue, fits, releaseSlot}
-use Rattle.desk.specs.{Queue.queueAfter, Places.NEXT, Layout.slotPlace, Layout.slotOf, Layout.queueOf, Layout.headBytes, Layout.slotBytes, Layout.submitBytes}
-use Rattle.desk.specs.{Layout.releaseBytes, Layout.callBytes, Claims.QueueBytes, Claims.Zeros-empty}
+use Rattle.desk.specs.Queue.{newJob, Job, Slot, free, taken, isFree, Queue, slotAt, Found, none-found, slot, lowestFree, submit, release, submitQueue, fits, releaseSlot, queueAfter}
+use Rattle.desk.specs.inner.Layout.{slotPlace, slotOf, queueOf, headBytes, slotBytes, submitBytes, releaseBytes, callBytes}
+use Rattle.desk.specs.{inner.Places.NEXT, Claims.QueueBytes, Claims.Zeros-empty}
 use Rattle.desk.proofs.{Queue.first-in, Queue.no-slots, Sheets.answered-length, Bytes.Small, Bytes.small-cons, Bytes.small-append, Bytes.small-replicate, Bytes.small-placed}
 use Rattle.desk.proofs.{Bytes.small-set, Bytes.small-four, Bytes.small-two, Slots.row-length, Slots.slot-in, Slots.slot-out, Slots.free-at, Meaning.slot-same}
 use Rattle.desk.proofs.Meaning.{slots-set, submitted-length, submitted-slot, submitted-others, submitted-next}

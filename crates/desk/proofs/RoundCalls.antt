@@ -1,13 +1,13 @@
--- Rounds on bytes are rounds on the queue that they mean (specs/Claims). Assumes nothing.
+-- Rounds on bytes are rounds on the queue that they mean (specs/RoundsClaims). Assumes nothing.
 use Rattle.model.specs.Kit.{_≡_, refl, sym, ap, _∙_, subst, Bool, true, false, List, [], _∷_, map, List·Memᴰ, List·Memᴰ·head, List·Memᴰ·tail, List·Memᴰ·not-nil, ℕ, zero, suc, _+_}
-use Rattle.model.specs.Kit.{_%_, _<_, arith, eqb, ltb, leb, length, set, getD, length-set, length-map, eqb-true, eqb-false}
+use Rattle.model.specs.Kit.{_%_, _<_, arith, eqb, ltb, leb, length, set, getD, length-set, length-map, eqb-true, eqb-false, eq-eqb, ne-eqb}
 use lib.ListN.{List·getD-map}
 use lib.Seq.{ext-getD}
 use Rattle.model.specs.Lists.{at, both, choose, below}
-use Rattle.desk.specs.Queue.{Job, jobTurned, turned, Slot, free, taken, Queue, slotAt, roundFrom, due, dueAt, given, roundsQueue}
-use Rattle.desk.specs.inner.Rounds.{slotGiven, behindLast, roundsAtOnce}
-use Rattle.desk.specs.{Places.NEXT, Layout.slotPlace, Layout.jobAt, Layout.slotOf, Layout.queueOf, Layout.withRun, Layout.roundBytes, Layout.roundsBytes, Claims.QueueBytes}
-use Rattle.desk.specs.Claims.{Rounds-call}
+use Rattle.desk.specs.{Queue.Job, Queue.jobTurned, Queue.Slot, Queue.free, Queue.taken, Queue.Queue, Queue.slotAt, Queue.roundFrom, Rounds.turned, Rounds.due, Rounds.dueAt, Rounds.given}
+use Rattle.desk.specs.{Rounds.roundsQueue, inner.Rounds.slotGiven, inner.Rounds.behindLast, inner.Rounds.roundsAtOnce, inner.Places.NEXT, inner.Layout.slotPlace, inner.Layout.jobAt}
+use Rattle.desk.specs.{inner.Layout.slotOf, inner.Layout.queueOf, inner.Layout.withRun, inner.Layout.roundBytes, inner.Layout.roundsBytes, inner.Layout.roundsOn}
+use Rattle.desk.specs.{inner.Layout.roundsAfter, Queue.refusal, Queue.size, Rounds.roundsReply, Claims.QueueBytes, RoundsClaims.Rounds-call, RoundsClaims.Rounds-other-size}
 use Rattle.desk.proofs.{Rounds.Once, Rounds.pos-e, Rounds.pos-once, Rounds.round-is, Rounds.round-all, Rounds.at-once, Bytes.small-set, Slots.row-length, Slots.slot-in, Slots.free-at}
 use Rattle.desk.proofs.{Slots.taken-at, Refines.queue-is, Turning.Fits, Turning.at-fits, Turning.turned-fits, Turned.run-whole, Turned.run-slot, Turned.run-others}
 use Rattle.desk.proofs.{Turned.run-next, Turned.run-bytes, Calls.next-slot, Calls.next-read}
@@ -89,9 +89,9 @@ behind-small turns (k ∷ ks) best next h = go (both (ltb 0 (turns k)) (leb best
     go true x y = x
     go false x y = y
 
-pub rounds-call : Rounds-call
+pub rounds-bytes : (b : List ℕ) (r : ℕ) → QueueBytes b → (queueOf (roundsBytes b r) ≡ roundsQueue (queueOf b) r) × QueueBytes (roundsBytes b r)
 unfolding roundsBytes below
-rounds-call b r d = (
+rounds-bytes b r d = (
   queue-is (ext-getD free (queueOf c .slots) (map (slotGiven r) (queueOf b .slots)) lengths each ∙ ap (λ (q : Queue). q .slots) same) (next-read run v run-queue),
   (length-set run NEXT v ∙ run-queue .0, small-set run NEXT v v-small (run-queue .1)),
 )
@@ -134,3 +134,18 @@ rounds-call b r d = (
         let l : j < 8 = omega arith in
         slot-in c j l ∙ next-slot run v run-queue j l ∙ all-slots .given-to j (subst (List·Memᴰ j) (sym (round-is (at b NEXT))) (round-all (at b NEXT) j l))
         ∙ ap (slotGiven r) (sym (slot-in b j l)) ∙ sym (List·getD-map (slotGiven r) (queueOf b .slots) j free)
+
+-- ---- the claims
+pub rounds-call : Rounds-call
+unfolding roundsOn roundsAfter
+rounds-call b r d =
+    let w = eq-eqb (length b) size (d .0) in
+    let e : roundsAfter b r ≡ roundsBytes b r = ap (λ (t : Bool). choose t (roundsBytes b r) b) w in
+    let s = rounds-bytes b r d in
+    (ap (λ (t : Bool). choose t (roundsReply (queueOf b) r) (refusal 255 0)) w, ap queueOf e ∙ s .0, subst QueueBytes (sym e) (s .1))
+
+pub rounds-other-size : Rounds-other-size
+unfolding roundsOn roundsAfter
+rounds-other-size b r n =
+    let w = ne-eqb (length b) size n in
+    (ap (λ (t : Bool). choose t (roundsReply (queueOf b) r) (refusal 255 0)) w, ap (λ (t : Bool). choose t (roundsBytes b r) b) w)

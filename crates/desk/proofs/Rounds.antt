@@ -1,4 +1,4 @@
--- Rounds (specs/Queue): each slot whose run hasn't ended gets up to r turns, and the queue is that of the same turns one by one. The turns go round
+-- Rounds (specs/Rounds): each slot whose run hasn't ended gets up to r turns, and the queue is that of the same turns one by one. The turns go round
 -- and round: a round goes by the eight slots, and gives a turn to each that waits. Assumes nothing.
 use Rattle.model.specs.Kit.{_≡_, refl, sym, ap, ap₂, _∙_, subst, Bool, true, false, _⊎_, inl, inr, List, [], _∷_, _++_, map, List·Memᴰ, List·Memᴰ·head, List·Memᴰ·tail}
 use Rattle.model.specs.Kit.{List·Memᴰ·not-nil, ℕ, zero, suc, _+_, _-_, _%_, _≤_, _<_, arith, T, leb, ltb, eqb, lt→ltb, leb→le, length, replicate, length-set, length-map, ltb-true}
@@ -8,9 +8,9 @@ use lib.ListN.{List·getD-map, replicate-append-replicate}
 use lib.Seq.{getD-set-same, getD-set-other, ext-getD}
 use Rattle.model.specs.Lists.{both, choose, below, upFrom, total}
 use Rattle.model.proofs.Lists.{T-of, of-T, not-of, of-not, both-r, map-ext}
-use Rattle.desk.specs.Queue.{goesOn, Job, jobTurned, turned, Slot, free, taken, waits, slotTurned, Queue, emptyQueue, slotAt, Found, slot, roundFrom, toServe, QueueCall}
-use Rattle.desk.specs.Queue.{turn, queueAfter, turnQueue, queueEnd, due, dueAt, roundsQueue, turnsGiven}
-use Rattle.desk.specs.inner.Rounds.{slotGiven, behindLast, At-once}
+use Rattle.desk.specs.Queue.{goesOn, Job, jobTurned, Slot, free, taken, waits, slotTurned, Queue, emptyQueue, slotAt, Found, slot, roundFrom, toServe, QueueCall, turn, queueAfter, turnQueue}
+use Rattle.desk.specs.Queue.{queueEnd}
+use Rattle.desk.specs.{Rounds.turned, Rounds.due, Rounds.dueAt, Rounds.roundsQueue, Rounds.turnsGiven, inner.Rounds.slotGiven, inner.Rounds.behindLast, inner.Rounds.At-once}
 use Rattle.desk.specs.inner.Claims.{Had-or-ended, Step, call, rounds, stepsEnd, oneByOne, One-by-one}
 use Rattle.desk.proofs.Queue.{first-in, first-round, held-lt, job-of, round-to, QueueHolds, queue-holds, empty-holds}
 

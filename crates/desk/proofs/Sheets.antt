@@ -3,7 +3,7 @@ use Rattle.model.specs.Kit.{_≡_, subst, List, ℕ, zero, suc, _+_, _*_, _≤_
 use Rattle.model.specs.{Lists.both, Verdict.Verdict, Verdict.accepted, Verdict.isAccepted, Sheet.Header, Sheet.«word», Sheet.headerOf, Sheet.afterAt, Sheet.constraintsVerdict}
 use Rattle.model.specs.Sheet.{verdictOf}
 use Rattle.model.proofs.{Lists.both-l, Lists.both-r, Accepted.asked, Accepted.constraint-asked, Accepted.passed}
-use Rattle.desk.specs.Places.{SHEET-BYTES}
+use Rattle.desk.specs.inner.Places.{SHEET-BYTES}
 
 -- a constraint has at most 1,546 bytes
 constraint-bytes : (b : List ℕ) (o : ℕ) → T (both (both (leb 1 («word» b o)) (leb («word» b o) 3)) (leb («word» b (o + 2)) 256)) → afterAt b o ≤ o + 1546

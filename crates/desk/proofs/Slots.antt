@@ -1,4 +1,4 @@
--- What the queue's bytes mean (specs/Layout), slot by slot, and what the answers come to. Assumes nothing.
+-- What the queue's bytes mean (specs/inner/Layout), slot by slot, and what the answers come to. Assumes nothing.
 use Rattle.model.specs.Kit.{_≡_, refl, sym, ap, ap₂, _∙_, subst, Bool, true, false, List, _++_, map, ℕ, zero, suc, _+_, _*_, _^_, _≤_, _<_, suc-mul, arith, eqb, length, take, drop}
 use Rattle.model.specs.Kit.{set, getD, length-drop, length-take-le, lt-ltb, le-ltb, le-leb, lt-leb, eq-eqb, ne-eqb, eqb-true, eqb-false}
 use native.Mathlib.Nat.{zero-add, zero-mul}
@@ -7,12 +7,12 @@ use lib.Seq.{take-add, take-take}
 use Rattle.model.specs.{Lists.at, Lists.choose, Lists.flat, Lists.below, Lists.upFrom, Verdict.Verdict, Verdict.accepted, Verdict.refused, Sheet.«word», Sheet.verdictOf}
 use Rattle.model.specs.{Written.placed, Run.listedPlans, Run.written}
 use Rattle.model.proofs.{Lists.below-e, Room.length-listed}
-use Rattle.desk.specs.Queue.{Job, Slot, free, taken, isFree, slotAt, Found, none-found, slot, firstOf, lowestFree, QueueCall, submit, release, QueueReply, refusal, answered, queued}
-use Rattle.desk.specs.Queue.{served, released, submitReply, fits, releaseFor, releaseReply, queueReply, statusFor, statusReply, noCounts, jobIn, statusCounts}
-use Rattle.desk.specs.{Places.LIST, Places.LIST-BYTES, Places.size, Layout.slotPlace, Layout.long, Layout.plansAt, Layout.widthAt, Layout.nodesAt, Layout.standingAt}
-use Rattle.desk.specs.Layout.{standingBy, rowsAt, jobAt, slotOf, queueOf, slotBytes, submitBytes, releaseBytes, callBytes, replyOn, statusOn, bytesAfter, countsAt, countsOn}
-use Rattle.desk.specs.Meaning.{roomAfter}
-use Rattle.desk.specs.inner.Finding.{found}
+use Rattle.desk.specs.Queue.{Job, Slot, free, taken, isFree, slotAt, Found, none-found, slot, firstOf, lowestFree, QueueCall, submit, release, QueueReply, refusal, answered, queued, served}
+use Rattle.desk.specs.Queue.{released, submitReply, fits, releaseFor, releaseReply, queueReply, jobIn, size, standingBy}
+use Rattle.desk.specs.inner.Layout.{slotPlace, long, plansAt, widthAt, nodesAt, standingAt, rowsAt, jobAt, slotOf, queueOf, slotBytes, submitBytes, releaseBytes, callBytes, replyOn, statusOn}
+use Rattle.desk.specs.inner.Layout.{bytesAfter, countsAt, countsOn}
+use Rattle.desk.specs.{Status.statusFor, Status.statusReply, Status.noCounts, Status.statusCounts, inner.Places.LIST, inner.Places.LIST-BYTES, Meaning.roomAfter, inner.Finding.found}
+use Rattle.desk.specs.StatusCalls.{Status-call, Status-other-size}
 use Rattle.desk.proofs.Queue.{none-first}
 
 -- a word of bytes
@@ -190,6 +190,12 @@ module _ (b : List ℕ) (k : ℕ) where
                 ∙ r .0,
             c ∙ r .1,
           )
+
+pub status-call : Status-call
+status-call b k e = let s = seen-by b k e (slotAt (queueOf b) k) refl in (sym (s .0), sym (s .1))
+
+pub status-other-size : Status-other-size
+status-other-size b k n = let s = status-255 b k n in (sym (s .0), sym (s .1))
 
 -- ---- releasing
 -- so many rows of n bytes, one behind the other

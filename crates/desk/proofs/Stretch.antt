@@ -4,10 +4,10 @@ use Rattle.model.specs.Kit.{_≡_, refl, sym, ap, ap₂, _∙_, subst, Bool, tr
 use Rattle.model.specs.Kit.{ltb-false}
 use Rattle.model.specs.{Lists.choose, Problem.Problem, Sheet.problemOf, Run.Ending, Run.finished, Run.spent, Run.full, Run.nodesIn, Run.Result}
 use Rattle.model.proofs.Runs.{Ended, Walk, walk}
-use Rattle.run_cut.specs.Parts.{nodesAfter, Progress, goOn, progressAfter, andNext}
+use Rattle.run_cut.specs.{Parts.nodesAfter, Parts.Progress, Parts.goOn, Parts.progressAfter, Between.andNext}
 use Rattle.run_cut.proofs.Anywhere.{after-from, from-anywhere, stands-anywhere}
 use Rattle.desk.proofs.Rounds.{due-over}
-use Rattle.desk.specs.Queue.{running, over, goesOn, Job, listRoom, standingAfter, jobAfter, jobTurned, turned, due, given}
+use Rattle.desk.specs.{Queue.running, Queue.over, Queue.goesOn, Queue.Job, Queue.listRoom, Queue.standingAfter, Queue.jobAfter, Queue.jobTurned, Rounds.turned, Rounds.due, Rounds.given}
 
 -- the walk of up to r turns
 abbrev pub stretchLimit : ℕ → Job → ℕ

@@ -1,14 +1,13 @@
--- A job's run put into its slot is read back (specs/Layout, `withRun`), and the other slots stay. Assumes nothing.
+-- A job's run put into its slot is read back (specs/inner/Layout, `withRun`), and the other slots stay. Assumes nothing.
 use Rattle.model.specs.Kit.{_≡_, refl, sym, ap, ap₂, _∙_, List, [], _∷_, _++_, List·Memᴰ·head, append-assoc, ℕ, _+_, _-_, _*_, _^_, _≤_, _<_, min, mul-le-mul, arith, length, take}
 use Rattle.model.specs.Kit.{drop, replicate, length-append, length-replicate, take-append-drop}
 use lib.Seq.{take-at, drop-at, take-take, take-length}
 use Rattle.model.specs.{Lists.at, Lists.flat, Bytes.twoBytes, Bytes.fourBytes, Written.placed, Run.finished, Run.spent, Run.full, Run.listedPlans}
 use Rattle.model.proofs.{Lists.at-append, Lists.at-skip, Room.Wide, Room.wide-tail, Room.length-flat, Written.length-placed, Written.placed-before, Written.placed-in}
 use Rattle.model.proofs.Written.{placed-after}
-use Rattle.desk.specs.{Queue.Standing, Queue.running, Queue.over, Queue.Job, Queue.taken, Places.LIMIT, Places.STANDING, Places.NODES, Places.PLANS, Places.DEPTH}
-use Rattle.desk.specs.{Places.LAST, Places.COUNTS, Places.SHEET, Places.LIST, Places.LIST-BYTES, Places.NEXT, Layout.slotPlace, Layout.long, Layout.standingBy}
-use Rattle.desk.specs.Layout.{nodesAt, plansAt, widthAt, rowsAt, lastAt, jobAt, slotOf, standingByte, figureBytes, runBytes, withRun, stateBytes, countBytes, countsAt}
-use Rattle.desk.specs.Claims.{QueueBytes}
+use Rattle.desk.specs.inner.Places.{LIMIT, STANDING, NODES, PLANS, DEPTH, LAST, COUNTS, SHEET, LIST, LIST-BYTES, NEXT}
+use Rattle.desk.specs.inner.Layout.{slotPlace, long, nodesAt, plansAt, widthAt, rowsAt, lastAt, jobAt, slotOf, standingByte, figureBytes, runBytes, withRun, stateBytes, countBytes, countsAt}
+use Rattle.desk.specs.{Queue.Standing, Queue.running, Queue.over, Queue.Job, Queue.taken, Queue.standingBy, Claims.QueueBytes}
 use Rattle.desk.proofs.Bytes.{Small, part-is, word-of, long-of, small-cons, small-nil, small-append, small-replicate, small-placed, small-four, small-two}
 use Rattle.desk.proofs.{Counts.counts-as, Counts.count-length, Counts.count-byte, Counts.count-small, Slots.taken-at, Slots.long-small, Meaning.job-is, Meaning.sheet-same}
 use Rattle.desk.proofs.{Meaning.width-same, Meaning.long-same, Meaning.slot-same, Meaning.others-placed, Turning.Fits}

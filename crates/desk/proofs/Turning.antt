@@ -1,4 +1,4 @@
--- A job that a slot's bytes can hold, and that a turn makes such a job of it (specs/Layout). Assumes nothing.
+-- A job that a slot's bytes can hold, and that a turn makes such a job of it (specs/inner/Layout). Assumes nothing.
 use Rattle.model.specs.Kit.{_≡_, refl, sym, ap, ap₂, _∙_, subst, Bool, true, false, _⊎_, inl, inr, ⊎-elim, List, [], _∷_, _++_, List·Memᴰ, List·Memᴰ·head, List·Memᴰ·tail}
 use Rattle.model.specs.Kit.{append-nil, ℕ, zero, suc, _+_, _-_, _*_, _≤_, _<_, min, mul-le-mul, arith, T, ltb, eqb, eqb→eq, length, take, drop, length-take}
 use Rattle.model.specs.Kit.{length-drop, getD-drop, length-take-le, ltb-true, ltb-false}
@@ -12,9 +12,9 @@ use Rattle.run_cut.specs.Parts.{after, nodesAfter, lastOf, goOn, madeIn}
 use Rattle.run_cut.proofs.{Resume.node-values, Resume.last-in, Resume.taken, Counts.length-added, Anywhere.no-fewer}
 use Rattle.sheet.specs.Meaning.{compilable}
 use Rattle.sheet.proofs.Compilable.{compilable-fits}
-use Rattle.desk.specs.{Queue.Standing, Queue.running, Queue.over, Queue.Job, Queue.listRoom, Queue.turnLimit, Queue.standingAfter, Queue.jobTurned, Places.LIMIT}
-use Rattle.desk.specs.{Places.DEPTH, Places.LAST, Places.SHEET, Places.LIST, Places.LIST-BYTES, Places.SLOT, Layout.long, Layout.standingBy, Layout.standingAt}
-use Rattle.desk.specs.Layout.{sheetLength, nodesAt, plansAt, widthAt, rowsAt, lastAt, sheetAt, jobAt, standingByte}
+use Rattle.desk.specs.Queue.{Standing, running, over, Job, listRoom, turnLimit, standingAfter, jobTurned, standingBy}
+use Rattle.desk.specs.inner.Layout.{long, standingAt, sheetLength, nodesAt, plansAt, widthAt, rowsAt, lastAt, sheetAt, jobAt, standingByte}
+use Rattle.desk.specs.inner.Places.{LIMIT, DEPTH, LAST, SHEET, LIST, LIST-BYTES, SLOT}
 use Rattle.desk.proofs.{Bytes.Small, Bytes.small-nil, Bytes.small-append, Bytes.small-take, Bytes.small-drop, Counts.added-most, Counts.counts-length, Counts.counts-most}
 use Rattle.desk.proofs.Slots.{flat-listed}
 

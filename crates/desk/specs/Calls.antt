@@ -1,16 +1,11 @@
--- What callers of `submit`, `status` and `release` hold: the contracts, one record a function.
+-- What callers of `submit` and `release` hold: the contracts, one record a function.
 use Rattle.model.specs.Kit.{_≡_, List, [], ℕ}
-use Rattle.desk.specs.{Queue.submit, Queue.release, Layout.replyOn, Layout.bytesAfter, Layout.statusOn, Layout.countsOn, Meaning.means, Meaning.roomAfter}
-use Rattle.desk.specs.{declared.Answer.Answer, declared.SlotStatus.SlotStatus}
+use Rattle.desk.specs.{Queue.submit, Queue.release, inner.Layout.replyOn, inner.Layout.bytesAfter, Meaning.means, Meaning.roomAfter, declared.Answer.Answer}
 
 -- b are the queue's bytes before and c after the call, r came back
 pub record SubmitDone (b sheet : List ℕ) (limit : ℕ) (c : List ℕ) (r : Answer) : Type 0 where
   pub answers : means r [] ≡ replyOn b (submit sheet limit)
   pub leaves : c ≡ bytesAfter b (submit sheet limit)
-
-pub record StatusDone (b : List ℕ) (slot : ℕ) (r : SlotStatus) : Type 0 where
-  pub answers : means (r .answer) [] ≡ statusOn b slot
-  pub counts : r .counts ≡ countsOn b slot
 
 -- the room is `room` before and `after` after the call
 pub record ReleaseDone (b : List ℕ) (slot : ℕ) (room c after : List ℕ) (r : Answer) : Type 0 where

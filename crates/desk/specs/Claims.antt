@@ -6,7 +6,7 @@ use Rattle.model.specs.Run.{Result, resultOf, ended, answerOf, listOf, Tally, t
 use Rattle.run_cut.specs.Parts.{progressAt}
 use Rattle.desk.specs.Queue.{running, over, Job, listRoom, jobTurned, taken, waits, Queue, emptyQueue, slotAt, QueueCall}
 use Rattle.desk.specs.Queue.{submit, turn, release, QueueReply, refusal, answered, queued, idle, served, released, queueReply, queueAfter, queueEnd, queueReplies}
-use Rattle.desk.specs.{Queue.roundsQueue, Queue.statusCounts, Places.size, Layout.queueOf, Layout.roundsBytes, Layout.replyOn, Layout.bytesAfter}
+use Rattle.desk.specs.{Queue.size, inner.Layout.queueOf, inner.Layout.replyOn, inner.Layout.bytesAfter}
 
 -- ---- words
 -- the run alone: the job's sheet, a limit, and room for 4,096 plans
@@ -59,9 +59,9 @@ Same-as-run =
     slotAt (queueEnd emptyQueue xs) k ≡ taken h → h .standing ≡ over e → length out ≡ listRoom (problemOf (h .sheet)) →
     (answerOf (h .sheet) (h .limit) out ≡ ended e)
     × (queueReply (queueEnd emptyQueue xs) (release k out) ≡ answered (released (plansIn e * problemOf (h .sheet) .variables) (listOf (h .sheet) (h .limit) out)))
-    × (tallyOf (h .sheet) (h .limit) out tally ≡ record { nodes = h .progress .made; counts = statusCounts (queueEnd emptyQueue xs) k })
+    × (tallyOf (h .sheet) (h .limit) out tally ≡ record { nodes = h .progress .made; counts = h .progress .counts })
 
--- ---- its bytes (specs/Layout)
+-- ---- its bytes: `queueOf` says what they mean, and no more of it is needed than these laws
 -- bytes of the queue's size, and calls whose sheet is bytes and whose limit has 32 bits
 abbrev pub QueueBytes : List ℕ → Type 0
 QueueBytes b = (length b ≡ size) × ((i : ℕ) → at b i < 256)
@@ -81,6 +81,6 @@ Each-call =
     (b : List ℕ) (x : QueueCall) → QueueBytes b → ByteCall x →
     (replyOn b x ≡ queueReply (queueOf b) x) × (queueOf (bytesAfter b x) ≡ queueAfter (queueOf b) x) × QueueBytes (bytesAfter b x)
 
--- and rounds on bytes are rounds on the queue that they mean
-abbrev pub Rounds-call : Type 0
-Rounds-call = (b : List ℕ) (r : ℕ) → QueueBytes b → (queueOf (roundsBytes b r) ≡ roundsQueue (queueOf b) r) × QueueBytes (roundsBytes b r)
+-- bytes of another length get 255, and stay as they came
+abbrev pub Other-size : Type 0
+Other-size = (b : List ℕ) (x : QueueCall) → (length b ≡ size → ⊥) → (replyOn b x ≡ refusal 255 0) × (bytesAfter b x ≡ b)

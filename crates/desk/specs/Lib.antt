@@ -1,8 +1,10 @@
--- The queue, its bytes, what the answers mean, and the claims.
-pub mod Places
+-- The queue, what the answers mean, and the claims; the status of a slot, and rounds.
 pub mod Queue
-pub mod Layout
 pub mod Meaning
-pub mod Calls
 pub mod Claims
+pub mod Calls
+pub mod Status
+pub mod StatusCalls
+pub mod Rounds
+pub mod RoundsClaims
 pub mod inner

@@ -1,16 +1,35 @@
 -- A queue of jobs in eight slots (paper 02, #113: a desk, its halls and seats): a sheet, a limit (the allowance) and the run so far each; a turn makes 64 nodes (trials)
 -- of one of the runs.
-use Rattle.model.specs.Kit.{Bool, true, false, not, List, [], _∷_, map, ℕ, zero, suc, _+_, _*_, _%_, min, length, set, getD, replicate, leb, ltb}
-use Rattle.model.specs.{Lists.both, Lists.choose, Lists.flat, Lists.below, Lists.total, ValueSets.maskOf, Problem.Problem, Verdict.Verdict, Verdict.accepted, Verdict.refused}
-use Rattle.model.specs.{Sheet.verdictOf, Sheet.problemOf, Run.Ending, Run.finished, Run.spent, Run.full, Run.Result, Run.written}
+use Rattle.model.specs.Kit.{Bool, true, false, List, [], _∷_, map, ℕ, zero, suc, _+_, _*_, _%_, min, length, set, getD, replicate, leb, ltb}
+use Rattle.model.specs.{Lists.flat, Lists.below, Problem.Problem, Verdict.Verdict, Verdict.accepted, Verdict.refused, Sheet.verdictOf, Sheet.problemOf, Run.Ending, Run.finished}
+use Rattle.model.specs.Run.{spent, full, Result, written}
 pub use Rattle.model.specs.Verdict.{Reply, refusal, answered}
 use Rattle.run_cut.specs.Parts.{Progress, start, goOn, progressAfter}
-use Rattle.desk.specs.Places.{LIST-PLANS, QUANTUM}
+
+-- ---- its numbers
+-- the plans that a list has room for
+abbrev pub LIST-PLANS : ℕ
+LIST-PLANS = 4096
+
+-- the nodes of a turn, unless the run ends in it
+abbrev pub QUANTUM : ℕ
+QUANTUM = 64
+
+-- the bytes that a queue is lent in
+abbrev pub size : ℕ
+size = 839065
 
 -- ---- a job at its slot
 pub data Standing : Type 0 where
   running : Standing
   over : Ending → Standing
+
+-- how a run stands, by its number and its figures
+abbrev pub standingBy : ℕ → ℕ → ℕ → Standing
+standingBy zero plans made = running
+standingBy (suc zero) plans made = over (finished plans made)
+standingBy (suc (suc zero)) plans made = over (spent plans made)
+standingBy (suc (suc (suc k))) plans made = over (full plans made)
 
 abbrev pub goesOn : Standing → Bool
 goesOn running = true
@@ -50,11 +69,6 @@ jobAfter h r = record {
 
 unfoldable pub jobTurned : Job → Job
 jobTurned h = jobAfter h (goOn (problemOf (h .sheet)) (turnLimit h) (listRoom (problemOf (h .sheet))) (h .progress))
-
--- after m turns
-abbrev pub turned : ℕ → Job → Job
-turned zero h = h
-turned (suc m) h = turned m (jobTurned h)
 
 -- ---- the queue
 pub data Slot : Type 0 where
@@ -186,52 +200,3 @@ queueEnd d (x ∷ xs) = queueEnd (queueAfter d x) xs
 unfoldable pub queueReplies : Queue → List QueueCall → List QueueReply
 queueReplies d [] = []
 queueReplies d (x ∷ xs) = queueReply d x ∷ queueReplies (queueAfter d x) xs
-
--- ---- the status of a slot: how it stands; 38 where it is free
-abbrev pub statusFor : ℕ → Slot → QueueReply
-statusFor k free = refusal 38 0
-statusFor k (taken h) = servedAs k (taken h)
-
-abbrev pub statusReply : Queue → ℕ → QueueReply
-statusReply d k = statusFor k (slotAt d k)
-
--- and its nodes by variable, twelve counts; zeros where it is free
-abbrev pub noCounts : List ℕ
-noCounts = replicate 12 0
-
-abbrev pub statusCounts : Queue → ℕ → List ℕ
-statusCounts d k = jobIn (slotAt d k) .progress .counts
-
--- ---- rounds: each slot whose run hasn't ended gets up to r turns
--- how many of r turns a job takes until its run ends
-unfoldable pub due : ℕ → Job → ℕ
-due zero h = 0
-due (suc r) h = choose (goesOn (h .standing)) (suc (due r (jobTurned h))) 0
-
-abbrev pub dueAt : ℕ → Slot → ℕ
-dueAt r free = 0
-dueAt r (taken h) = due r h
-
-abbrev pub given : ℕ → Job → Job
-given r h = turned (due r h) h
-
--- how many turns that are, and the queue after them, one by one
-abbrev pub turnsGiven : Queue → ℕ → ℕ
-turnsGiven d r = total (map (λ k. dueAt r (slotAt d k)) (roundFrom (d .next)))
-
-abbrev pub roundsQueue : Queue → ℕ → Queue
-roundsQueue d r = queueEnd d (replicate (turnsGiven d r) turn)
-
--- what rounds answer: the slots whose run ended in them, and those whose run goes on, as sets of slots
-abbrev pub endedIn : Queue → ℕ → ℕ
-endedIn d r = maskOf (λ k. both (waits (slotAt d k)) (not (waits (slotAt (roundsQueue d r) k))))
-
-abbrev pub goingOn : Queue → ℕ → ℕ
-goingOn d r = maskOf (λ k. waits (slotAt (roundsQueue d r) k))
-
--- a refusal, or these two sets
-abbrev pub RoundsReply : Type 0
-RoundsReply = Reply (ℕ × ℕ)
-
-abbrev pub roundsReply : Queue → ℕ → RoundsReply
-roundsReply d r = answered (endedIn d r, goingOn d r)

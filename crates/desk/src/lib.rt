@@ -1,12 +1,12 @@
 // A queue of jobs in eight slots (paper 02, #113: a desk, its halls and seats) in lent bytes.
-// specs/Layout.antt says what any bytes mean; zeros are the empty queue.
+// specs/inner/Layout.antt says what any bytes mean; zeros are the empty queue.
 ghost use mathlib.Core.Path.{_≡_};
 ghost use Prim.Native.Nat.{_+_, _≤_, _<_, min};
 ghost use lib.ListN.{length};
 ghost use Rattle.model.specs.Lists.{at};
 ghost use Rattle.model.specs.Sheet.{«word»};
-ghost use Rattle.desk.specs.Places.{COUNTS, SHEET};
-ghost use Rattle.desk.specs.Layout.{long, nodesAt, countsAt};
+ghost use Rattle.desk.specs.inner.Places.{COUNTS, SHEET};
+ghost use Rattle.desk.specs.inner.Layout.{long, nodesAt, countsAt};
 
 // The queue's size in bytes.
 pub const QUEUE_BYTES: usize = 839065;

@@ -17,11 +17,13 @@ ghost use mathlib.Core.Path.{_≡_};
 ghost use mathlib.Core.List.{[]};
 ghost use Prim.Native.Nat.{_+_, _*_, _≤_, _<_};
 ghost use lib.ListN.{length};
-ghost use Rattle.desk.specs.Places.{LIST, LIST-BYTES};
-ghost use Rattle.desk.specs.Queue.{refusal, noCounts};
-ghost use Rattle.desk.specs.Layout.{plansAt, widthAt};
+ghost use Rattle.desk.specs.inner.Places.{LIST, LIST-BYTES};
+ghost use Rattle.desk.specs.Queue.{refusal};
+ghost use Rattle.desk.specs.Status.{noCounts};
+ghost use Rattle.desk.specs.inner.Layout.{plansAt, widthAt};
 ghost use Rattle.desk.specs.Meaning.{means};
-ghost use Rattle.desk.specs.Calls.{StatusDone, ReleaseDone};
+ghost use Rattle.desk.specs.StatusCalls.{StatusDone};
+ghost use Rattle.desk.specs.Calls.{ReleaseDone};
 
 // The bytes of the plans that the slot at p has listed.
 fn list_length(queue: &[u8], p: usize) -> usize

@@ -11,9 +11,9 @@ ghost use mathlib.Core.Path.{_≡_};
 ghost use Prim.Native.Nat.{_+_, _≤_};
 ghost use lib.ListN.{length};
 ghost use Rattle.model.specs.Written.{placed};
-ghost use Rattle.desk.specs.Places.{SHEET, SHEET-BYTES, size};
-ghost use Rattle.desk.specs.Queue.{lowestFree};
-ghost use Rattle.desk.specs.Layout.{slotBytes, queueOf};
+ghost use Rattle.desk.specs.inner.Places.{SHEET, SHEET-BYTES};
+ghost use Rattle.desk.specs.Queue.{size, lowestFree};
+ghost use Rattle.desk.specs.inner.Layout.{slotBytes, queueOf};
 ghost use Rattle.desk.specs.inner.Finding.{found};
 ghost use Rattle.desk.specs.Calls.{SubmitDone};
 

@@ -3,7 +3,7 @@ use Rattle.model.specs.Kit.{_≡_, sym, ap, ap₂, _∙_, List, [], _∷_, _++_
 use lib.Seq.{take-suc}
 use Rattle.model.specs.{Lists.at, Lists.flat, Bytes.fourBytes, Written.placed}
 use Rattle.model.proofs.{Lists.flat-append, Lists.map-append, Written.placed-then, Written.placed-none}
-use Rattle.desk.specs.Layout.{countBytes}
+use Rattle.desk.specs.inner.Layout.{countBytes}
 use Rattle.desk.proofs.Counts.{count-length}
 
 -- one count more

@@ -7,8 +7,8 @@ use Rattle.model.specs.{Lists.at, Lists.flat, Lists.choose, Problem.Problem, Sh
 use Rattle.model.proofs.{Lists.of-T, Room.length-listed}
 use Rattle.run_cut.specs.Parts.{Progress}
 use Rattle.sheet.specs.Meaning.{compilable}
-use Rattle.desk.specs.{Queue.listRoom, Places.DEPTH, Places.LAST, Places.SHEET, Places.LIST, Places.LIST-BYTES, Places.SLOT, Layout.sheetLength, Layout.plansAt, Layout.widthAt}
-use Rattle.desk.specs.Layout.{rowsAt, lastAt, sheetAt, jobAt}
+use Rattle.desk.specs.{Queue.listRoom, inner.Places.DEPTH, inner.Places.LAST, inner.Places.SHEET, inner.Places.LIST, inner.Places.LIST-BYTES, inner.Places.SLOT, inner.Layout.sheetLength}
+use Rattle.desk.specs.inner.Layout.{plansAt, widthAt, rowsAt, lastAt, sheetAt, jobAt}
 use Rattle.desk.proofs.{Bytes.Small, Slots.flat-listed, Turning.Fits, Turning.at-fits, Turning.rawAt, Turning.raw-known}
 use Rattle.run_resume.specs.inner.Resume.{Put, Stands, PreparedAgain, GoesOn, GoneOn}
 use Rattle.run_resume.proofs.Going.{goes-on}

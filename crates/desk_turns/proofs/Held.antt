@@ -1,7 +1,7 @@
--- The contracts of `turn` and `rounds` (specs/Calls) from what is shown of the replies and the bytes. Assumes nothing.
+-- The contracts of `turn` and `rounds` (specs/Calls, specs/RoundsCalls) from what is shown of the replies and the bytes. Assumes nothing.
 use Rattle.model.specs.Kit.{List, [], ℕ}
 use Rattle.desk.specs.{Meaning.means, declared.Answer.Answer}
-use Rattle.desk_turns.specs.{Meaning.meansRounds, Calls.Turned, Calls.Rounded, declared.Reply.Reply}
+use Rattle.desk_turns.specs.{Meaning.meansRounds, Calls.Turned, RoundsCalls.Rounded, declared.Reply.Reply}
 use Rattle.desk_turns.proofs.Serving as serving
 use Rattle.desk_turns.proofs.Rounding as rounding
 

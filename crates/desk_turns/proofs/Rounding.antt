@@ -4,11 +4,10 @@ use Rattle.model.specs.Kit.{eqb, ltb, leb, length, set, eq-eqb, ne-eqb, lt-ltb,
 use lib.Bits.{and-lt}
 use Rattle.model.specs.{Lists.at, Lists.both, Lists.choose, Lists.below, Lists.upFrom, ValueSets.has, ValueSets.maskOf}
 use Rattle.model.proofs.{Lists.both-false, Masks.is-mask, Masks.has-and, Masks.has-not, Sets.has-mask, Sets.mask-lt}
-use Rattle.desk.specs.Queue.{Slot, free, taken, waits, Queue, slotAt, roundFrom, due, dueAt, given, roundsQueue, RoundsReply, refusal, answered, roundsReply}
-use Rattle.desk.specs.inner.Rounds.{behindLast}
-use Rattle.desk.specs.{Places.NEXT, Places.size, Layout.slotPlace, Layout.jobAt, Layout.slotOf, Layout.queueOf, Layout.withRun, Layout.roundBytes, Layout.roundsBytes}
-use Rattle.desk.specs.{Layout.roundsOn, Layout.roundsAfter, Claims.QueueBytes}
-use Rattle.desk.proofs.{Slots.slot-in, Slots.row-length, Rounds.due-over, Rounds.due-none, Rounds.at-once, RoundCalls.Served, RoundCalls.serve, RoundCalls.rounds-call}
+use Rattle.desk.specs.inner.Layout.{slotPlace, jobAt, slotOf, queueOf, withRun, roundBytes, roundsBytes, roundsOn, roundsAfter}
+use Rattle.desk.specs.{Queue.Slot, Queue.free, Queue.taken, Queue.waits, Queue.Queue, Queue.slotAt, Queue.roundFrom, Queue.refusal, Queue.answered, Queue.size, Rounds.due, Rounds.dueAt, Rounds.given}
+use Rattle.desk.specs.{Rounds.roundsQueue, Rounds.RoundsReply, Rounds.roundsReply, inner.Rounds.behindLast, inner.Places.NEXT, Claims.QueueBytes}
+use Rattle.desk.proofs.{Slots.slot-in, Slots.row-length, Rounds.due-over, Rounds.due-none, Rounds.at-once, RoundCalls.Served, RoundCalls.serve, RoundCalls.rounds-bytes}
 use Rattle.desk_turns.specs.{inner.Served.ServedAt, inner.Served.GivenAt, declared.serve.Served.Served as Result}
 use Rattle.desk_waits.proofs.Finding.{place}
 use Rattle.desk_turns.proofs.Serving.{slot-is, walk}
@@ -154,7 +153,7 @@ module _ (b : List ℕ) (r : ℕ) where
       whole-bytes = es ∙ ap₂ (λ (x : List ℕ) (y : ℕ). set x NEXT y) ec en
 
       queue-is : queueOf c′ ≡ roundsQueue (queueOf b) r
-      queue-is = ap queueOf whole-bytes ∙ rounds-call b r d .0
+      queue-is = ap queueOf whole-bytes ∙ rounds-bytes b r d .0
 
       was : ℕ → Bool
       was k = waits (slotAt (queueOf b) k)

@@ -6,11 +6,10 @@ use Rattle.model.specs.Run.{countsBy}
 use Rattle.model.proofs.{Lists.T-of, Lists.of-T, Written.length-placed, Written.placed-then, Tally.length-counts, Tally.count-most}
 use Rattle.run_state.specs.{inner.Pair.prefixOf, inner.Walk.stopIn}
 use Rattle.run_cut.specs.Parts.{nodesAfter, goOn, madeIn, added}
-use Rattle.desk.specs.Queue.{Standing, running, over, goesOn, Job, listRoom, standingAfter, jobAfter, jobTurned, turned, Slot, taken, waits, slotTurned, slotAt, Found, none-found}
-use Rattle.desk.specs.Queue.{slot, roundFrom, toServe, turn, QueueReply, idle, served, servedAs, turnReply, refusal, answered, due, given}
-use Rattle.desk.specs.{Places.LIMIT, Places.STANDING, Places.COUNTS, Places.LIST, Places.NEXT, Places.size, Layout.slotPlace, Layout.long, Layout.standingBy, Layout.nodesAt}
-use Rattle.desk.specs.Layout.{countsAt, jobAt, slotOf, queueOf, standingByte, stateBytes, countBytes, runBytes, withRun, turnBytes, replyOn, bytesAfter}
-use Rattle.desk.specs.{Claims.QueueBytes}
+use Rattle.desk.specs.Queue.{Standing, running, over, goesOn, Job, listRoom, standingAfter, jobAfter, jobTurned, Slot, taken, waits, slotTurned, slotAt, Found, none-found, slot, roundFrom, toServe}
+use Rattle.desk.specs.Queue.{turn, QueueReply, idle, served, servedAs, turnReply, refusal, answered, size, standingBy}
+use Rattle.desk.specs.inner.Layout.{slotPlace, long, nodesAt, countsAt, jobAt, slotOf, queueOf, standingByte, stateBytes, countBytes, runBytes, withRun, turnBytes, replyOn, bytesAfter}
+use Rattle.desk.specs.{Rounds.turned, Rounds.due, Rounds.given, inner.Places.LIMIT, inner.Places.STANDING, inner.Places.COUNTS, inner.Places.LIST, inner.Places.NEXT, Claims.QueueBytes}
 use Rattle.desk.specs.inner.Finding.{found}
 use Rattle.desk.proofs.{Queue.first-in, Bytes.placed-apart, Slots.long-small, Slots.slot-in, Slots.free-at, Slots.taken-at, Slots.reply-whole, Slots.reply-wrong, Slots.bytes-whole}
 use Rattle.desk.proofs.{Slots.bytes-wrong, Turning.Fits, Turning.at-fits, Turned.state-length, Turned.run-length, Turned.text-length, Counts.counts-most, RoundCalls.turns-fit}

@@ -5,9 +5,9 @@ use Rattle.model.specs.{Lists.at, Bytes.fourBytes, Written.placed, inner.Fillin
 use Rattle.model.proofs.Lists.{at-ext, at-append, at-skip, at-replicate}
 use Rattle.arrays.specs.inner.Places.{PLANS, LAST}
 use Rattle.run_state.proofs.Prefix.{length-prefix, prefix-at}
-use Rattle.desk.specs.{Queue.Job, Places.STANDING, Places.NODES, Places.DEPTH, Layout.standingByte, Layout.figureBytes, Layout.stateBytes}
+use Rattle.desk.specs.{Queue.Job, inner.Places.STANDING, inner.Places.NODES, inner.Places.DEPTH, inner.Layout.standingByte, inner.Layout.figureBytes, inner.Layout.stateBytes}
 use Rattle.desk_turns.specs.inner.Served.{Shows}
-use Rattle.desk.specs.Places as places
+use Rattle.desk.specs.inner.Places as places
 
 -- the figures, and twelve zeros
 abbrev pub begun : ℕ → ℕ → ℕ → ℕ → List ℕ

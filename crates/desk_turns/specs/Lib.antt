@@ -1,4 +1,5 @@
 -- What the functions that give turns say.
-pub mod Meaning
 pub mod Calls
+pub mod Meaning
+pub mod RoundsCalls
 pub mod inner

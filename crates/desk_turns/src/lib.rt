@@ -9,7 +9,8 @@ use desk_waits::to_serve;
 use desk_waits::waiting;
 use round::go_round;
 use serve::serve;
-ghost use Rattle.desk_turns.specs.Calls.{Turned, Rounded};
+ghost use Rattle.desk_turns.specs.Calls.{Turned};
+ghost use Rattle.desk_turns.specs.RoundsCalls.{Rounded};
 
 // What rounds answer: the slots whose run ended in them and those whose run goes on, bit k for slot k.
 pub enum Reply {

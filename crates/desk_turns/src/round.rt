@@ -6,9 +6,10 @@ ghost use mathlib.Core.Path.{_≡_};
 ghost use Prim.Native.Nat.{_<_};
 ghost use lib.ListN.{length};
 ghost use Rattle.model.specs.Lists.{at};
-ghost use Rattle.desk.specs.Queue.{roundFrom, roundsQueue};
-ghost use Rattle.desk.specs.Places.{NEXT, size};
-ghost use Rattle.desk.specs.Layout.{queueOf, roundBytes};
+ghost use Rattle.desk.specs.Queue.{roundFrom, size};
+ghost use Rattle.desk.specs.Rounds.{roundsQueue};
+ghost use Rattle.desk.specs.inner.Places.{NEXT};
+ghost use Rattle.desk.specs.inner.Layout.{queueOf, roundBytes};
 ghost use Rattle.desk_turns.specs.inner.Served.{GivenAt};
 
 // Gives slot k up to so many turns, where its run hasn't ended; answers how many it took.

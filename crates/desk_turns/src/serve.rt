@@ -40,9 +40,9 @@ ghost use Rattle.arrays.specs.inner.Places.{WORK};
 ghost use Rattle.run_cut.specs.Parts.{added};
 ghost use Rattle.run_state.specs.Meaning.{tallyIn};
 ghost use Rattle.run_state.specs.inner.Walk.{stopIn};
-ghost use Rattle.desk.specs.Queue.{Job, waits, standingAfter};
-ghost use Rattle.desk.specs.Places.{COUNTS, SHEET, SLOT, size, QUANTUM};
-ghost use Rattle.desk.specs.Layout.{slotOf, standingByte, stateBytes, countBytes};
+ghost use Rattle.desk.specs.Queue.{Job, waits, standingAfter, size, QUANTUM};
+ghost use Rattle.desk.specs.inner.Places.{COUNTS, SHEET, SLOT};
+ghost use Rattle.desk.specs.inner.Layout.{slotOf, standingByte, stateBytes, countBytes};
 ghost use Rattle.desk_turns.specs.inner.Served.{PartDone, Shows, ServedAt};
 
 // The nodes of a turn.

@@ -3,9 +3,8 @@ use Rattle.model.specs.Kit.{_≡_, refl, sym, ap, _∙_, subst, Bool, true, fal
 use Rattle.model.specs.Kit.{eqb-true, eqb-false, lt-ltb, le-ltb, ltb-true, ltb-false, eq-eqb, ne-eqb}
 use Rattle.model.specs.{Lists.at, Lists.both, Lists.choose, Lists.below, ValueSets.has, ValueSets.maskOf, ValueSets.oneIf, inner.Filling.Gathered}
 use Rattle.model.proofs.{Lists.below-e, Filling.gathered-is, Masks.is-mask}
-use Rattle.desk.specs.{Queue.goesOn, Queue.waits, Queue.slotAt, Queue.none-found, Queue.slot, Queue.toServe, Places.STANDING, Places.NEXT, Layout.slotPlace, Layout.standingBy}
-use Rattle.desk.specs.{Layout.plansAt, Layout.nodesAt, Layout.jobAt, Layout.slotOf, Layout.queueOf}
-use Rattle.desk.specs.inner.Finding.{found}
+use Rattle.desk.specs.{Queue.goesOn, Queue.waits, Queue.slotAt, Queue.none-found, Queue.slot, Queue.toServe, Queue.standingBy, inner.Places.STANDING, inner.Places.NEXT, inner.Layout.slotPlace}
+use Rattle.desk.specs.{inner.Layout.plansAt, inner.Layout.nodesAt, inner.Layout.jobAt, inner.Layout.slotOf, inner.Layout.queueOf, inner.Finding.found}
 use Rattle.desk.proofs.{Queue.none-first, Slots.first-at, Slots.slot-in, Slots.slot-out, Slots.free-at, Slots.taken-at}
 
 -- ---- one slot

@@ -6,9 +6,8 @@ ghost use mathlib.Core.Path.{_≡_};
 ghost use Prim.Native.Nat.{_<_};
 ghost use lib.ListN.{length};
 ghost use Rattle.model.specs.ValueSets.{maskOf, oneIf};
-ghost use Rattle.desk.specs.Queue.{waits, slotAt, toServe};
-ghost use Rattle.desk.specs.Places.{size};
-ghost use Rattle.desk.specs.Layout.{slotOf, queueOf};
+ghost use Rattle.desk.specs.Queue.{waits, slotAt, toServe, size};
+ghost use Rattle.desk.specs.inner.Layout.{slotOf, queueOf};
 ghost use Rattle.desk.specs.inner.Finding.{found};
 
 // Whether slot k has a job whose run hasn't ended.

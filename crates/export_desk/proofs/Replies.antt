@@ -5,17 +5,17 @@ use Rattle.model.specs.{Lists.at, Lists.choose, Lists.below, Verdict.Verdict, V
 use Rattle.model.proofs.{Lists.below-e, Lists.at-replicate, Room.length-flat, Written.written-then, Lists.never}
 use Rattle.wire.specs.Wire.{wrongLength, threeNumbers}
 use Rattle.wire.proofs.{Codes.Small, Codes.verdict-small, Numbers.whole}
-use Rattle.desk.specs.Queue.{Job, jobTurned, Slot, free, taken, isFree, waits, slotTurned, slotAt, Found, none-found, slot, lowestFree, roundFrom, toServe, QueueCall, submit, turn}
-use Rattle.desk.specs.Queue.{release, QueueReply, refusal, servedAs, submitReply, turnReply, fits, releaseFor, releaseReply, statusFor, noCounts, jobIn, RoundsReply}
-use Rattle.desk.specs.{Queue.roundsReply, Places.LIMIT, Places.size, Layout.slotPlace, Layout.standingBy, Layout.widthAt, Layout.jobAt, Layout.queueOf, Layout.replyOn}
-use Rattle.desk.specs.{Layout.statusOn, Layout.countsOn, Layout.bytesAfter, Layout.roundsOn, Layout.roundsAfter, Meaning.means, Meaning.roomAfter, declared.Answer.Answer}
+use Rattle.desk.specs.Queue.{Job, jobTurned, Slot, free, taken, isFree, waits, slotTurned, slotAt, Found, none-found, slot, lowestFree, roundFrom, toServe, QueueCall, submit, turn, release}
+use Rattle.desk.specs.Queue.{QueueReply, refusal, servedAs, submitReply, turnReply, fits, releaseFor, releaseReply, jobIn, size, standingBy}
+use Rattle.desk.specs.inner.Layout.{slotPlace, widthAt, jobAt, queueOf, replyOn, statusOn, countsOn, bytesAfter, roundsOn, roundsAfter}
+use Rattle.desk.specs.{Status.statusFor, Status.noCounts, Rounds.RoundsReply, Rounds.roundsReply, inner.Places.LIMIT, Meaning.means, Meaning.roomAfter, declared.Answer.Answer}
 use Rattle.desk.specs.declared.Answer.the-variants.{Queued, Idle, Stands, Released, Refused}
 use Rattle.desk.proofs.{Queue.first-in, Slots.long-small, Slots.slot-in, Slots.slot-out, Slots.free-at, Slots.taken-at, Turning.Fits, Turning.at-fits, Turning.turned-fits}
 use Rattle.export_counts.specs.{Tallied.numbersOf, inner.Inner.Twelve}
 use Rattle.export_counts.proofs.Tallied.{length-numbers}
-use Rattle.export_desk.specs.Told.{fourNumbers, kindOf, replyCode, replyAnswer, answerLength, queueCode, queueBytes, queueAnswer, releaseRoom, statusBytes, statusCode}
-use Rattle.export_desk.specs.Told.{statusAnswer, roundsReplyAnswer, roundsCode, roundsQueue, roundsAnswer, CallQueue, CallRelease, CallStatus, CallRounds}
-use Rattle.export_desk.specs.Told.{Holds, Sees}
+use Rattle.export_desk.specs.Told.{fourNumbers, kindOf, replyCode, replyAnswer, answerLength, queueCode, queueBytes, queueAnswer, releaseRoom, statusBytes, statusCode, statusAnswer}
+use Rattle.export_desk.specs.Told.{roundsReplyAnswer, roundsCode, roundsQueue, roundsAnswer, CallQueue, CallRelease, CallStatus, CallRounds}
+use Rattle.export_desk.specs.inner.Fits.{Holds, Sees}
 
 -- ---- four numbers
 pub put-four : {d e : List ℕ} {r : ℕ} {f : List ℕ} {s : ℕ} {g : List ℕ} {t : ℕ} {h : List ℕ} {u : ℕ} (kind a b c : ℕ) → 16 ≤ length d → Written d 0 (fourBytes kind) e r → Written e r

@@ -1,10 +1,11 @@
 -- planner_desk_sit, planner_desk_turn, planner_desk_rounds, planner_desk_look and planner_desk_leave (paper 02, #113): what a call on the bytes b
 -- returns, and the bytes of every lent buffer afterwards. Where the answer has another length than is asked nothing is changed.
-use Rattle.model.specs.Kit.{_≡_, List, _++_, ℕ, _+_, _*_, _^_, _<_, eqb, length}
+use Rattle.model.specs.Kit.{_≡_, List, _++_, ℕ, _+_, _*_, eqb, length}
 use Rattle.model.specs.{Lists.choose, Bytes.fourBytes, Run.finished, Run.spent, Run.full}
 use Rattle.wire.specs.Wire.{wrongLength, threeNumbers}
-use Rattle.desk.specs.Queue.{Standing, running, over, QueueCall, submit, turn, release, QueueReply, Reply, refusal, answered, queued, idle, served, released, RoundsReply}
-use Rattle.desk.specs.{Layout.replyOn, Layout.statusOn, Layout.countsOn, Layout.bytesAfter, Layout.roundsOn, Layout.roundsAfter, Meaning.roomAfter}
+use Rattle.desk.specs.Queue.{Standing, running, over, QueueCall, submit, turn, release, QueueReply, Reply, refusal, answered, queued, idle, served, released}
+use Rattle.desk.specs.{Rounds.RoundsReply, inner.Layout.replyOn, inner.Layout.statusOn, inner.Layout.countsOn, inner.Layout.bytesAfter, inner.Layout.roundsOn, inner.Layout.roundsAfter}
+use Rattle.desk.specs.Meaning.{roomAfter}
 use Rattle.export_counts.specs.Tallied.{numbersOf}
 
 -- four numbers of four bytes
@@ -100,19 +101,3 @@ pub record CallRounds (b : List ℕ) (r : ℕ) (answer : List ℕ) (n : ℕ) (c 
   pub code : n ≡ roundsCode b r answer
   pub bytes : c ≡ roundsQueue b r answer
   pub told : d ≡ roundsAnswer b r answer
-
--- between the functions of the crate: a reply that the code and an answer of n bytes hold
-abbrev pub Holds : QueueReply → ℕ → Type 0
-Holds (refusal number item) n = item < 256
-Holds (answered (queued k)) n = (n ≡ 12) × (k < 2 ^ 32)
-Holds (answered idle) n = n ≡ 16
-Holds (answered (served k s plans made)) n = (n ≡ 16) × (k < 2 ^ 32) × (plans < 2 ^ 32) × (made < 2 ^ 32)
-Holds (answered (released count room)) n = (n ≡ 12) × (count < 2 ^ 32)
-
--- the same of what the status replies, for an answer with the counts behind it
-abbrev pub Sees : QueueReply → ℕ → Type 0
-Sees (refusal number item) n = item < 256
-Sees (answered (queued k)) n = Unit {0}
-Sees (answered idle) n = Unit {0}
-Sees (answered (served k s plans made)) n = (n ≡ 64) × (k < 2 ^ 32) × (plans < 2 ^ 32) × (made < 2 ^ 32)
-Sees (answered (released count room)) n = Unit {0}

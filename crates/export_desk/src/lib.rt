@@ -12,11 +12,11 @@ ghost use mathlib.Core.List.{[]};
 ghost use Prim.Native.Nat.{ℕ, _^_, _≤_, _<_};
 ghost use lib.ListN.{length};
 ghost use Rattle.model.specs.Written.{Written};
-ghost use Rattle.desk.specs.Queue.{submit};
-ghost use Rattle.desk.specs.Layout.{standingBy};
+ghost use Rattle.desk.specs.Queue.{submit, standingBy};
 ghost use Rattle.desk.specs.Meaning.{means};
 ghost use Rattle.export_counts.specs.inner.Inner.{Twelve};
-ghost use Rattle.export_desk.specs.Told.{fourNumbers, kindOf, replyCode, replyAnswer, statusBytes, CallQueue, CallRelease, CallStatus, Holds, Sees};
+ghost use Rattle.export_desk.specs.Told.{fourNumbers, kindOf, replyCode, replyAnswer, statusBytes, CallQueue, CallRelease, CallStatus};
+ghost use Rattle.export_desk.specs.inner.Fits.{Holds, Sees};
 
 // Puts four numbers at the front; answers the place after them.
 fn numbers(answer: &mut [u8], kind: usize, a: usize, b: usize, c: usize) -> usize

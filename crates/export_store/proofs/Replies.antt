@@ -1,11 +1,11 @@
 -- The store's exported calls: an outcome's numbers fit the code and the answer; answers of 12 bytes and of another length. Assumes nothing.
 use Rattle.model.specs.Kit.{_≡_, sym, ap, _∙_, Bool, true, false, List, ℕ, _+_, _≤_, min, arith, leb, ltb, eqb, length, drop, length-take, eq-eqb, ne-eqb}
 use Rattle.model.specs.{Lists.both, Lists.either, Lists.choose, Verdict.Verdict, Verdict.accepted, Verdict.refused, Verdict.ask, Sheet.«word», Room.Outcome, Room.outcomeOf}
-use Rattle.store.specs.Store.{none, table, isTable, tableIn, Entries, keysOf, Action, put, fetch, remove, StoreCall, call, actionVerdict, callVerdict, copiedOut}
-use Rattle.store.specs.Layout.{size, slotAt, slotWith, tableAt, storeOf, verdictOn, replyOn, bytesAfter}
+use Rattle.store.specs.Store.{none, table, isTable, tableIn, Entries, keysOf, Action, put, fetch, remove, StoreCall, call, actionVerdict, callVerdict, copiedOut, size}
+use Rattle.store.specs.inner.Layout.{slotAt, slotWith, tableAt, storeOf, verdictOn, replyOn, bytesAfter}
 use Rattle.wire.specs.{Wire.wrongLength, Outcomes.outcomeCode, Outcomes.outcomeAnswer}
 use Rattle.wire.proofs.Codes.{Small, ask-small}
-use Rattle.export_store.specs.Stored.{storedCode, storedAnswer, storedBytes, storedRoom, Holds}
+use Rattle.export_store.specs.{Stored.storedCode, Stored.storedAnswer, Stored.storedBytes, Stored.storedRoom, inner.Fits.Holds}
 
 -- ---- an outcome fits
 -- every refusal has item 0

@@ -1,8 +1,8 @@
 -- planner_store_put, planner_store_fetch and planner_store_drop (paper 02, #110): what a call on the bytes b returns, and the bytes of every lent
 -- buffer afterwards. Where the answer has not 12 bytes nothing is changed.
-use Rattle.model.specs.Kit.{List, ℕ, _^_, _<_, eqb, length}
-use Rattle.model.specs.{Lists.choose, Room.Outcome, Room.answered, Room.refusal}
-use Rattle.store.specs.{Store.StoreCall, Store.call, Store.fetch, Layout.replyOn, Layout.bytesAfter}
+use Rattle.model.specs.Kit.{List, ℕ, eqb, length}
+use Rattle.model.specs.Lists.{choose}
+use Rattle.store.specs.{Store.StoreCall, Store.call, Store.fetch, inner.Layout.replyOn, inner.Layout.bytesAfter}
 use Rattle.wire.specs.{Wire.wrongLength, Outcomes.outcomeCode, Outcomes.outcomeAnswer}
 
 unfoldable pub storedCode : List ℕ → StoreCall → List ℕ → ℕ
@@ -16,8 +16,3 @@ storedBytes b x answer = choose (eqb (length answer) 12) (bytesAfter b x) b
 
 unfoldable pub storedRoom : List ℕ → ℕ → ℕ → List ℕ → List ℕ → List ℕ
 storedRoom b owner key room answer = choose (eqb (length answer) 12) (replyOn b (call owner key (fetch room)) .room) room
-
--- between the functions of the crate: an outcome that the code and the answer hold
-abbrev pub Holds : Outcome → Type 0
-Holds (answered k) = k < 2 ^ 32
-Holds (refusal number item) = item < 256

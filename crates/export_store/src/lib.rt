@@ -9,7 +9,7 @@ ghost use mathlib.Core.Path.{_≡_};
 ghost use lib.ListN.{length};
 ghost use Rattle.store.specs.Meaning.{means};
 ghost use Rattle.wire.specs.Outcomes.{outcomeCode, outcomeAnswer};
-ghost use Rattle.export_store.specs.Stored.{Holds};
+ghost use Rattle.export_store.specs.inner.Fits.{Holds};
 ghost use Rattle.export_store.specs.Calls.{CallPutBytes, CallFetchBytes, CallDropBytes};
 
 // An outcome as the returned number and the answer.

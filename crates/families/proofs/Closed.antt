@@ -2,7 +2,7 @@
 use Rattle.model.specs.Kit.{_≡_, refl, sym, ap, _∙_, subst, _⊎_, inl, inr, ⊎-elim, List, map, List·Memᴰ, Memᴰ·cast, Memᴰ·map, Memᴰ·of-map, ℕ, _*_, _<_, T, eqb, eqb→eq, length}
 use Rattle.model.specs.Kit.{eq-eqb}
 use Rattle.model.specs.{Lists.both, Lists.below, Lists.at, Lists.earlier, Problem.Problem, Problem.pair, Problem.pairsOf, Problem.within, Problem.takes, Problem.isSolution}
-use Rattle.model.specs.{Problem.assignments, Claims.Leader, Claims.isLeader, Claims.leaders, WellFormed.WellFormed, WellFormed.Respected}
+use Rattle.model.specs.{Problem.assignments, Claims.Leader, Claims.isLeader, Claims.leaders, inner.WellFormed.WellFormed, inner.WellFormed.Respected}
 use Rattle.families.specs.Families.{Joined, alone, further, solutionsOf, isEarliest, earliestOf, familiesOf, Makes, MovesNothing, Closed, makes, movesNothing}
 use Rattle.families.specs.inner.FamilyClaims.{One-leader-each, OneLeaderEach}
 use Rattle.model.proofs.Lists.{earlier-asym, T-of, T-ext, both-i, both-l, both-r, all-i, all-e, keep-ext, below-i, below-e, at-ext}

@@ -3,7 +3,7 @@
 use Rattle.model.specs.Kit.{_≡_, refl, sym, ap, ap₂, _∙_, subst, Bool, true, false, _⊎_, inl, inr, ⊎-elim, List, [], _∷_, List·Memᴰ, List·Memᴰ·head, List·Memᴰ·tail}
 use Rattle.model.specs.Kit.{List·Memᴰ·not-nil, List·Memᴰ·cases-cons, ℕ, zero, suc, _≤_, _<_, ℕ-discrete, decLt, arith, T, T-not, not-T, length}
 use Rattle.model.specs.{Lists.both, Lists.either, Lists.any, Lists.keep, Lists.same, Lists.earlier, Problem.Problem, Problem.isSolution, Problem.assignments, Problem.takes}
-use Rattle.model.specs.WellFormed.{WellFormed, Respected}
+use Rattle.model.specs.inner.WellFormed.{WellFormed, Respected}
 use Rattle.families.specs.Families.{Joined, alone, further, solutionsOf, widened, reachedIn, familyOf, isEarliest, earliestOf, familiesOf, Apart, OneOfEach, FamilyCount}
 use Rattle.families.specs.inner.FamilyClaims.{Families-counted}
 use Rattle.model.proofs.Lists.{earlier-asym, T-of, of-not, either-l, either-r, either-e, any-i, any-e, keep-yes, keep-no, keep-i, keep-e, same-eq, same-refl, earlier-lt}

@@ -3,7 +3,7 @@
 use Rattle.model.specs.Kit.{_≡_, refl, sym, ap, _∙_, subst, not, List, [], List·Memᴰ, List·Memᴰ·not-nil, ℕ, _≤_, arith, T, length}
 use Rattle.model.specs.{Lists.both, Lists.any, Lists.keep, Lists.earlier, Problem.Problem, Problem.pair, Problem.pairsOf, Problem.takes, Problem.isSolution}
 use Rattle.model.specs.{Problem.assignments, Problem.withSymmetries, Verdict.isAccepted, Verdict.accepted, Verdict.Verdict, Sheet.problemOf, Sheet.verdictOf}
-use Rattle.model.specs.{Claims.isLeader, Claims.leaders, Claims.OneMore, WellFormed.WellFormed, WellFormed.Respected}
+use Rattle.model.specs.{Claims.isLeader, Claims.leaders, Claims.OneMore, inner.WellFormed.WellFormed, inner.WellFormed.Respected}
 use Rattle.families.specs.Families.{Joined, alone, further, solutionsOf, isEarliest, earliestOf, familiesOf}
 use Rattle.model.proofs.{Lists.earlier-asym, Lists.keep-all, Lists.keep-ext, Lists.both-true, Asked.well-formed-with, OneMore.one-more, Demands.of-accepted}
 use Rattle.families.proofs.{Joined.joined-to, Joined.joined-trans, Joined.joined-one, FamilyCount.in-solution, FamilyCount.earliest-i, FamilyCount.earliest-e}

@@ -1,8 +1,8 @@
 -- Families in an order: what is joined in a problem is joined in the reordered problem; closed symmetries leave one leader of each family in
 -- any order. Assumes nothing.
 use Rattle.model.specs.Kit.{_≡_, refl, sym, _∙_, subst, subst₂, ⊎-elim, List, [], _∷_, map, List·Memᴰ, List·Memᴰ·head, List·Memᴰ·tail, Memᴰ·map, Memᴰ·of-map, ℕ, T, length-map}
-use Rattle.model.specs.{Lists.earlier, Problem.Problem, Problem.isSolution, Problem.assignments, Problem.takes, Claims.Leader, Claims.isLeader, WellFormed.WellFormed}
-use Rattle.model.specs.WellFormed.{Respected}
+use Rattle.model.specs.{Lists.earlier, Problem.Problem, Problem.isSolution, Problem.assignments, Problem.takes, Claims.Leader, Claims.isLeader, inner.WellFormed.WellFormed}
+use Rattle.model.specs.inner.WellFormed.{Respected}
 use Rattle.order.specs.{Order.Ordering, Reordered.read, Reordered.write, Reordered.earlierBy, Reordered.symmetryIn, Reordered.reordered, RunBy.leadersBy}
 use Rattle.families.specs.Families.{Joined, alone, further, OneOfEach, Apart, familiesOf, earliestOf, Closed}
 use Rattle.model.proofs.{Lists.earlier-asym, Lists.Sorted, Lists.sorted-keep, Assignments.assignments-sorted, Assignments.assign-e, Tree.solution-e}

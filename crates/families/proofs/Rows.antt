@@ -1,7 +1,7 @@
 -- The rows' keys, and the key of an image made pair by pair. Assumes nothing.
 use Rattle.model.specs.Kit.{_≡_, refl, sym, ap, ap₂, _∙_, subst, List, _++_, ℕ, suc, _+_, _-_, _*_, _/_, _%_, _^_, _≤_, _<_, mul-le-mul-right, ℕ-discrete, arith, length, set}
 use Rattle.model.specs.Kit.{length-set, length-append, replicate, length-replicate}
-use Rattle.model.specs.{Lists.at, Lists.flat, Problem.Problem, Problem.pair, Problem.symmetryAt, WellFormed.WellFormed, WellFormed.Respected}
+use Rattle.model.specs.{Lists.at, Lists.flat, Problem.Problem, Problem.pair, Problem.symmetryAt, inner.WellFormed.WellFormed, inner.WellFormed.Respected}
 use Rattle.model.proofs.{Lists.at-set, Lists.at-set-other, Lists.at-replicate, Lists.set-each, Tree.solution-e}
 use Rattle.families.specs.{Families.solutionsOf, inner.Walk.solutionAt, inner.Walk.imageAt, inner.Numbered.keyOf, inner.Numbered.Listed, inner.Numbered.Imaging}
 use Rattle.families.specs.inner.Numbered.{Finding, Numbering}

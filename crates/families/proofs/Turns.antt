@@ -1,6 +1,6 @@
 -- One turn of each loop that counts families, by the steps of the walk. Assumes nothing.
 use Rattle.model.specs.Kit.{_≡_, refl, sym, ap, _∙_, subst, subst₂, List, ℕ, _+_, _≤_, _<_, arith, length, set, replicate, length-replicate}
-use Rattle.model.specs.{Lists.at, Problem.Problem, WellFormed.WellFormed, WellFormed.Respected}
+use Rattle.model.specs.{Lists.at, Problem.Problem, inner.WellFormed.WellFormed, inner.WellFormed.Respected}
 use Rattle.families.specs.{Families.solutionsOf, Families.familiesOf, inner.Walk.imageAt, inner.Walk.Walk, inner.Numbered.Imaged, inner.Numbered.Chained}
 use Rattle.families.specs.inner.Numbered.{Weighed, Finder, Counted, Numbering, Spreading, Flooding}
 use Rattle.model.proofs.Lists.{at-set-other, at-replicate}

@@ -3,8 +3,8 @@
 use Rattle.model.specs.Kit.{_≡_, refl, sym, ap, _∙_, subst, _⊎_, inl, inr, ⊎-elim, List, [], _∷_, map, List·Memᴰ, List·Memᴰ·cases-cons, Memᴰ·map, Memᴰ·of-map, ℕ, suc, _+_, _≤_}
 use Rattle.model.specs.Kit.{_<_, ℕ-discrete, arith, T, length, take, set, length-set, length-append, length-take-le}
 use lib.Seq.{take-suc, take-length}
-use Rattle.model.specs.{Lists.keep, Lists.below, Lists.at, Lists.earlier, Problem.Problem, Problem.takes, Problem.symmetryAt, Sheet.distinct, WellFormed.WellFormed}
-use Rattle.model.specs.WellFormed.{Respected}
+use Rattle.model.specs.{Lists.keep, Lists.below, Lists.at, Lists.earlier, Problem.Problem, Problem.takes, Problem.symmetryAt, Sheet.distinct, inner.WellFormed.WellFormed}
+use Rattle.model.specs.inner.WellFormed.{Respected}
 use Rattle.families.specs.Families.{Joined, alone, further, solutionsOf, isEarliest, earliestOf, familiesOf}
 use Rattle.families.specs.inner.Walk.{solutionAt, imageAt, Walk}
 use Rattle.model.proofs.Lists.{of-T, not-of, keep-yes, keep-no, keep-append, place-of, below-i, below-e, length-below, at-set, at-set-other}

@@ -3,7 +3,7 @@ use Rattle.model.specs.Kit.{_≡_, refl, sym, ap, _∙_, subst, inl, ⊎-elim, 
 use Rattle.model.specs.Kit.{length-replicate}
 use types.Run.{OneOf}
 use denote.Enum.Declared.{tagOf}
-use Rattle.model.specs.{Lists.at, Problem.Problem, WellFormed.WellFormed, Verdict.Verdict, Verdict.accepted, Verdict.refused, Verdict.isAccepted, Verdict.reply, Sheet.problemOf}
+use Rattle.model.specs.{Lists.at, Problem.Problem, inner.WellFormed.WellFormed, Verdict.Verdict, Verdict.accepted, Verdict.refused, Verdict.isAccepted, Verdict.reply, Sheet.problemOf}
 use Rattle.model.specs.{Sheet.verdictOf, Run.Ending, Run.finished, Run.spent, Run.full, Run.plansIn, Run.nodesIn, Run.resultOf, Run.Tally}
 use Rattle.model.proofs.{Accepted.passed, Accepted.symmetries-are, Accepted.is-accepted, Asked.well-formed-with, Lists.at-set, Lists.never}
 use Rattle.order.specs.{RunBy.Input, RunBy.resultBy}

@@ -1,7 +1,7 @@
 -- How the figure is got: a bare run in the settling order, and the count over its rows. Assumes nothing.
 use Rattle.model.specs.Kit.{_≡_, refl, sym, ap, _∙_, subst, inr, List, [], _++_, map, List·Memᴰ·not-nil, ℕ, _*_, _≤_, arith, T, length, drop}
 use native.Mathlib.Nat.{le-of-mul-le-mul-right}
-use Rattle.model.specs.{Lists.flat, Problem.Problem, Problem.withSymmetries, Verdict.accepted, Verdict.isAccepted, Sheet.problemOf, WellFormed.WellFormed, WellFormed.Respected}
+use Rattle.model.specs.{Lists.flat, Problem.Problem, Problem.withSymmetries, Verdict.accepted, Verdict.isAccepted, Sheet.problemOf, inner.WellFormed.WellFormed, inner.WellFormed.Respected}
 use Rattle.model.specs.Run.{Ending, finished, spent, full, resultOf, written}
 use Rattle.model.proofs.{Tree.plans-of-tree, Runs.finished-rows, Runs.finished-fits, Demands.same-test, Accepted.is-accepted, Asked.well-formed-with, Lists.never}
 use Rattle.arrays.specs.inner.Layout.{Images}

@@ -1,7 +1,7 @@
 -- The figure of a run that is lent a sheet, pairs and a block, and one of each family (specs/inner/FigureClaims). Assumes nothing.
 use Rattle.model.specs.Kit.{_≡_, refl, sym, ap, ap₂, _∙_, subst, _↔_, _⊎_, inl, ⊎-elim, List, [], _∷_, _++_, map, append-nil, List·Memᴰ, List·Memᴰ·not-nil, ℕ, T, length}
 use Rattle.model.specs.{Problem.Problem, Problem.isSolution, Problem.withSymmetries, Verdict.Verdict, Verdict.accepted, Verdict.isAccepted, Verdict.reply, Verdict.kept}
-use Rattle.model.specs.{Claims.Leader, Lists.upFrom, Lists.below, Sheet.headerOf, Sheet.problemOf, Sheet.tableAt, WellFormed.WellFormed, WellFormed.Respected, Run.Ending}
+use Rattle.model.specs.{Claims.Leader, Lists.upFrom, Lists.below, Sheet.headerOf, Sheet.problemOf, Sheet.tableAt, inner.WellFormed.WellFormed, inner.WellFormed.Respected, Run.Ending}
 use Rattle.model.specs.Run.{finished, spent, full, plansIn, written}
 use Rattle.order.specs.{Order.Ordering, Order.settlingOrder, Order.orderVerdict, Reordered.earlierBy, RunBy.Input, RunBy.resultBy, RunBy.leadersBy, RunBy.answerBy, RunBy.listBy}
 use Rattle.order.proofs.{Order.no-circle-passes, Demanded.ran-by, RunBy.leadersBy-hold, RunBy.finished-lists, RunBy.rows-counted-by, RunBy.fewer-by}

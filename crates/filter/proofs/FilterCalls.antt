@@ -6,7 +6,7 @@ use Rattle.model.specs.{Lists.at, Lists.both, ValueSets.has, Verdict.Verdict, V
 use Rattle.model.specs.Nogood.{disequality, is, obeysFrom, obeys, filtered, FilterEnding, failed, entailed, consistent, filterEnding, mark, Kind, isEquality, isDisequality}
 use Rattle.model.specs.{Nogood.bothAbsent, Nogood.bothPresent, Nogood.kindBy, Nogood.kindOf, NogoodClaims.CaseOf, Nogood.valueOk, Nogood.entryIn, Nogood.entryOf, Nogood.entryOk, Nogood.entries}
 use Rattle.model.specs.Nogood.{firstWrong, filterVerdict, setsAfter, refusal}
-use Rattle.model.specs.{Nogood.answered, Nogood.filterAnswer, NogoodClaims.Fails, NogoodClaims.Entails, Claims.Drawn}
+use Rattle.model.specs.{Nogood.answered, Nogood.filterAnswer, inner.Endings.Fails, NogoodClaims.Entails, Claims.Drawn}
 use Rattle.model.proofs.{Lists.both-i, Lists.both-l, Lists.both-r, Lists.not-of, Lists.getD-at, Assignments.drawn-i, Assignments.drawn-e, Filter.length-filtered, Lists.never}
 use Rattle.model.proofs.{Filter.filtered-sets, EntryKinds.kind-holds, Endings.failed-exactly, Endings.entailed-exactly, Endings.consistent-exactly, Demands.filter-keeps}
 use Rattle.model.proofs.Demands.{filter-empties}

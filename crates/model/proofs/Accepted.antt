@@ -1,11 +1,11 @@
 -- What the questions show: the problem that an accepted sheet states is well formed. Assumes nothing.
-use Rattle.model.specs.Kit.{_≡_, refl, sym, ap, _∙_, subst, Bool, true, false, not, List, [], _∷_, List·Memᴰ, List·Memᴰ·not-nil, List·Memᴰ·cases-cons, Memᴰ·of-map, ⊎-elim, ℕ}
-use Rattle.model.specs.Kit.{zero, suc, _+_, _*_, _^_, _≤_, _<_, arith, T, T-not, leb, ltb, eqb, leb→le, ltb→lt, eqb→eq, length, eq-eqb}
-use Rattle.model.specs.{Lists.all, Lists.both, Lists.below, Lists.at, Lists.ascending, Lists.rowsAscend, Problem.Problem, Problem.Constraint, Problem.respects}
-use Rattle.model.specs.{Verdict.Verdict, Verdict.accepted, Verdict.refused, Verdict.ask, Verdict.isAccepted, Sheet.Header, Sheet.word, Sheet.words, Sheet.headerOf}
-use Rattle.model.specs.Sheet.{headerVerdict, offsetsFit, setsVerdict, scopeAt, rowsAt, afterAt, constraintVerdict, constraintsVerdict, constraintsFrom, tableAt, problemOf}
-use Rattle.model.specs.{Sheet.permutesPairs, Sheet.tablesFit, Sheet.formVerdict, Sheet.symmetriesVerdict, Sheet.verdictOf, Search.nodes, Search.nodesBelow}
-use Rattle.model.specs.WellFormed.{WellFormed, Stated, GoodConstraint, Respected}
+use Rattle.model.specs.Kit.{_≡_, refl, sym, ap, _∙_, subst, Bool, true, false, not, List, [], _∷_, List·Memᴰ, List·Memᴰ·not-nil, List·Memᴰ·cases-cons, Memᴰ·of-map, ⊎-elim, ℕ, zero, suc, _+_}
+use Rattle.model.specs.Kit.{_*_, _^_, _≤_, _<_, arith, T, T-not, leb, ltb, eqb, leb→le, ltb→lt, eqb→eq, length, eq-eqb}
+use Rattle.model.specs.Sheet.{Header, word, words, headerOf, headerVerdict, offsetsFit, setsVerdict, scopeAt, rowsAt, afterAt, constraintVerdict, constraintsVerdict, constraintsFrom, tableAt}
+use Rattle.model.specs.Sheet.{problemOf, permutesPairs, tablesFit, formVerdict, symmetriesVerdict, verdictOf}
+use Rattle.model.specs.{Lists.all, Lists.both, Lists.below, Lists.at, Lists.ascending, Lists.rowsAscend, Problem.Problem, Problem.Constraint, Problem.respects, Verdict.Verdict, Verdict.accepted}
+use Rattle.model.specs.{Verdict.refused, Verdict.ask, Verdict.isAccepted, Search.nodes, Search.nodesBelow, inner.WellFormed.WellFormed, inner.WellFormed.Stated, inner.WellFormed.GoodConstraint}
+use Rattle.model.specs.inner.WellFormed.{Respected}
 use Rattle.model.proofs.Lists.{both-l, both-r, T-of, all-e, below-i, length-below, at-below}
 
 -- a question that was passed

@@ -1,11 +1,10 @@
 -- The questions to a sheet that has the header and the constraints of an accepted one, and tables of its own. Assumes nothing.
-use Rattle.model.specs.Kit.{_≡_, refl, sym, ap, ap₂, _∙_, subst, Bool, true, not, List, [], _∷_, _++_, map, List·Memᴰ, List·Memᴰ·head, List·Memᴰ·tail, ℕ, zero, suc, _+_, _*_}
-use Rattle.model.specs.Kit.{_^_, _≤_, _<_, arith, T, leb, ltb, eqb, leb→le, not-T, eqb→eq, length, eq-eqb, le-leb, lt-ltb}
-use Rattle.model.specs.{Lists.all, Lists.any, Lists.both, Lists.at, Lists.keep, Lists.flat, Lists.below, Lists.same, Lists.ascending, Lists.rowsAscend, Problem.Problem}
-use Rattle.model.specs.Problem.{Constraint, pair, isPair, pairsAt, within, assignments, doubled, excluded, forbidden, respects, withSymmetries}
-use Rattle.model.specs.{Verdict.Verdict, Verdict.accepted, Verdict.ask, Verdict.isAccepted, Sheet.Header, Sheet.word, Sheet.headerVerdict, Sheet.scopeAt, Sheet.rowsAt}
-use Rattle.model.specs.Sheet.{afterAt, setsVerdict, constraintVerdict, constraintsVerdict, permutesPairs, symmetriesVerdict}
-use Rattle.model.specs.WellFormed.{WellFormed, GoodSymmetry, Respected}
+use Rattle.model.specs.Kit.{_≡_, refl, sym, ap, ap₂, _∙_, subst, Bool, true, not, List, [], _∷_, _++_, map, List·Memᴰ, List·Memᴰ·head, List·Memᴰ·tail, ℕ, zero, suc, _+_, _*_, _^_, _≤_, _<_}
+use Rattle.model.specs.Kit.{arith, T, leb, ltb, eqb, leb→le, not-T, eqb→eq, length, eq-eqb, le-leb, lt-ltb}
+use Rattle.model.specs.Problem.{Problem, Constraint, pair, isPair, pairsAt, within, assignments, doubled, excluded, forbidden, respects, withSymmetries}
+use Rattle.model.specs.Sheet.{Header, word, headerVerdict, scopeAt, rowsAt, afterAt, setsVerdict, constraintVerdict, constraintsVerdict, permutesPairs, symmetriesVerdict}
+use Rattle.model.specs.{Lists.all, Lists.any, Lists.both, Lists.at, Lists.keep, Lists.flat, Lists.below, Lists.same, Lists.ascending, Lists.rowsAscend, Verdict.Verdict, Verdict.accepted}
+use Rattle.model.specs.{Verdict.ask, Verdict.isAccepted, inner.WellFormed.WellFormed, inner.WellFormed.GoodSymmetry, inner.WellFormed.Respected}
 use Rattle.model.proofs.{Lists.of-T, Lists.map-ext, Accepted.HeaderPassed, Accepted.asked, OneMore.after-low, OneMore.arity, OneMore.count, OneMore.after-agree}
 use Rattle.model.proofs.OneMore.{scope-agree, rows-agree, Agree}
 

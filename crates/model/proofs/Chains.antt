@@ -4,8 +4,8 @@ use Rattle.model.specs.Kit.{mul-le-mul-right, arith, T, not-T, length}
 use mathlib.Core.Logic.{∥∥₁-elim}
 use native.Mathlib.Nat.{pow-suc}
 use lib.Dec.{T-prop}
-use Rattle.model.specs.{Lists.both, Lists.any, Lists.at, Lists.earlier, Problem.Problem, Problem.isSolution, Problem.assignments, Problem.takes, WellFormed.WellFormed}
-use Rattle.model.specs.Claims.{isLeader, leaders, Chain, here, step}
+use Rattle.model.specs.{Lists.both, Lists.any, Lists.at, Lists.earlier, Problem.Problem, Problem.isSolution, Problem.assignments, Problem.takes, inner.WellFormed.WellFormed, Claims.isLeader}
+use Rattle.model.specs.Claims.{leaders, Chain, here, step}
 use Rattle.model.proofs.{Lists.both-i, Lists.both-l, Lists.both-r, Lists.T-dec, Lists.stable, Lists.any-e, Lists.keep-i, Lists.keep-e, Lists.earlier-e, Tree.solution-e}
 use Rattle.model.proofs.Leaders.{sol-small, sol-drawn}
 

@@ -4,10 +4,10 @@ use Rattle.model.specs.Kit.{take, drop, replicate, length-replicate}
 use mathlib.Core.Logic.{∥∥₁-elim}
 use lib.Dec.{T-prop}
 use lib.Seq.{take-at, drop-at}
-use Rattle.model.specs.{Lists.keep, Lists.flat, Lists.at, Lists.earlier, ValueSets.has, Problem.Problem, Problem.assignments, Verdict.Verdict, Verdict.accepted}
-use Rattle.model.specs.{Verdict.refused, Verdict.isAccepted, Verdict.refusal, Verdict.answered, Verdict.reply, Sheet.verdictOf, Sheet.problemOf, Nogood.filtered, Run.written}
-use Rattle.model.specs.{Run.listedPlans, Search.setsAt, Search.isLive, Nogood.Entry, Nogood.obeys, Claims.Drawn, Claims.Symmetries-respect, Claims.Largest, Claims.isLeader, Claims.leaders}
-use Rattle.model.specs.WellFormed.{WellFormed, Respected}
+use Rattle.model.specs.{Lists.keep, Lists.flat, Lists.at, Lists.earlier, ValueSets.has, Problem.Problem, Problem.assignments, Verdict.Verdict, Verdict.accepted, Verdict.refused}
+use Rattle.model.specs.{Verdict.isAccepted, Verdict.refusal, Verdict.answered, Verdict.reply, Sheet.verdictOf, Sheet.problemOf, Nogood.filtered, Nogood.Entry, Nogood.obeys, Run.written}
+use Rattle.model.specs.{Run.listedPlans, Search.setsAt, Search.isLive, Claims.Drawn, Claims.Symmetries-respect, Claims.Largest, Claims.isLeader, Claims.leaders, inner.WellFormed.WellFormed}
+use Rattle.model.specs.inner.WellFormed.{Respected}
 use Rattle.model.proofs.{Lists.not-of, Lists.keep-ext, Lists.at-ext, Lists.at-replicate, Sets.has-none, Sets.mask-ext, Assignments.drawn-i, Assignments.drawn-e, Lists.never}
 use Rattle.model.proofs.{Filter.length-filtered, Filter.filtered-i, Filter.filtered-e, Filter.filtered-sets, Prune.Sized, Consistent.live-consistent}
 use Rattle.model.proofs.{Consistent.consistent-inside, Consistent.dead-none, Consistent.dead-empty, Tree.planTest, Tree.well-sized, Accepted.Passed, Accepted.passed}

@@ -1,9 +1,8 @@
 -- How the filter ends, in words; and lists that every assignment obeys. Assumes nothing.
 use Rattle.model.specs.Kit.{_≡_, refl, sym, ap, ap₂, _∙_, subst, Bool, true, false, _↔_, List, List·Memᴰ, ℕ, _^_, _<_, T, length}
-use Rattle.model.specs.{Lists.at, ValueSets.has, ValueSets.anyEmpty, ValueSets.Inside, Problem.assignments, Nogood.Entry, Nogood.obeysFrom, Nogood.obeys, Nogood.obeying}
-use Rattle.model.specs.Nogood.{used, filtered, failed, entailed, consistent, endingBy, someObeys, everyObeys, filterEnding}
-use Rattle.model.specs.NogoodClaims.{Entails, Fails, Failed-exactly, Entailed-exactly}
-use Rattle.model.specs.NogoodClaims.{Consistent-exactly}
+use Rattle.model.specs.Nogood.{Entry, obeysFrom, obeys, obeying, used, filtered, failed, entailed, consistent, endingBy, someObeys, everyObeys, filterEnding}
+use Rattle.model.specs.{Lists.at, ValueSets.has, ValueSets.anyEmpty, ValueSets.Inside, Problem.assignments, NogoodClaims.Entails, inner.Endings.Fails, inner.Endings.Failed-exactly}
+use Rattle.model.specs.inner.Endings.{Entailed-exactly, Consistent-exactly}
 use Rattle.model.proofs.Lists.{T-of, of-T, not-of, of-not, T-ext, all-i, all-e, any-i, any-e, keep-ext, never}
 use Rattle.model.proofs.{Sets.inside-antisym, Sets.has-at-lt, Assignments.assign-mono, Filter.length-filtered, Filter.filtered-sets, Filter.filtered-i, Filter.filtered-e}
 use Rattle.model.proofs.Filter.{filtered-inside, filtered-none}

@@ -4,9 +4,8 @@ use Rattle.model.specs.Kit.{Memᴰ·of-map, _⊎_, inl, inr, ⊎-elim, �
 use Rattle.model.specs.Kit.{eqb-refl, ltb→lt, lt→ltb}
 use mathlib.Core.List.{List·Memᴰ·append-cases, Memᴰ·append-right}
 use native.Mathlib.Nat.{mul-add-div-right, mul-add-mod-self-right, div-eq-of-lt, div-add-mod', div-lt-iff-lt-mul, mod-lt, add-zero}
-use Rattle.model.specs.{Lists.any, Lists.keep, Lists.flat, Lists.below, Lists.at, Lists.same, ValueSets.has, ValueSets.members, Problem.pairsAt, Problem.Problem}
-use Rattle.model.specs.Problem.{Constraint, pair, isPair, pairsOf, within, assignments, excluded, doubled, forbidden, valuesAt, satisfies, isSolution}
-use Rattle.model.specs.{WellFormed.WellFormed, Claims.Drawn}
+use Rattle.model.specs.Problem.{pairsAt, Problem, Constraint, pair, isPair, pairsOf, within, assignments, excluded, doubled, forbidden, valuesAt, satisfies, isSolution}
+use Rattle.model.specs.{Lists.any, Lists.keep, Lists.flat, Lists.below, Lists.at, Lists.same, ValueSets.has, ValueSets.members, inner.WellFormed.WellFormed, Claims.Drawn}
 use Rattle.model.proofs.Lists.{both-i, both-l, both-r, all-e, all-i, any-e, any-i, keep-e, keep-i, flat-i, flat-e, below-i, below-e}
 use Rattle.model.proofs.{Sets.has-lt, Sets.members-i, Sets.members-e, Assignments.drawn-e, Tree.solution-e}
 

@@ -4,9 +4,9 @@ use Rattle.model.specs.Kit.{List·Memᴰ·cases-cons, Memᴰ·cast, Mem�
 use Rattle.model.specs.Kit.{eqb, eqb→eq, length, length-map}
 use mathlib.Core.List.{List·Memᴰ·eq-of-singleton}
 use native.Mathlib.Nat.{div-add-mod'}
-use Rattle.model.specs.{Lists.all, Lists.any, Lists.below, Lists.at, Lists.same, ValueSets.has, ValueSets.members, Problem.pairsAt, Problem.assignments, Problem.Problem}
-use Rattle.model.specs.Problem.{Constraint, pair, isPair, pairsOf, within, takes, forbidden, respects, valuesAt, satisfies, isSolution}
-use Rattle.model.specs.{Sheet.permutesPairs, Sheet.distinct, WellFormed.WellFormed, WellFormed.GoodSymmetry, WellFormed.Respected}
+use Rattle.model.specs.Problem.{pairsAt, assignments, Problem, Constraint, pair, isPair, pairsOf, within, takes, forbidden, respects, valuesAt, satisfies, isSolution}
+use Rattle.model.specs.{Lists.all, Lists.any, Lists.below, Lists.at, Lists.same, ValueSets.has, ValueSets.members, Sheet.permutesPairs, Sheet.distinct, inner.WellFormed.WellFormed}
+use Rattle.model.specs.inner.WellFormed.{GoodSymmetry, Respected}
 use Rattle.model.proofs.Lists.{both-i, both-l, both-r, stable, T-dec, all-e, any-e, below-i, below-e, length-below, at-below, at-map, mem-at}
 use Rattle.model.proofs.{Counting.idx, Counting.idx-spec, Counting.distinct-at, Counting.distinct-below, Counting.onto, Sets.members-i, Assignments.assign-i}
 use Rattle.model.proofs.Tree.{solution-i}

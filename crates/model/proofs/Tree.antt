@@ -6,11 +6,10 @@ use mathlib.Core.List.{List·Memᴰ·eq-of-singleton, map-map, map-id}
 use lib.ListN.{drop-of-length-le}
 use lib.Pow.{pow-mono}
 use lib.Seq.{append-snoc}
-use Rattle.model.specs.{Lists.both, Lists.all, Lists.any, Lists.keep, Lists.flat, Lists.below, Lists.upFrom, Lists.at, Lists.same, ValueSets.has, ValueSets.members}
-use Rattle.model.specs.{ValueSets.anyEmpty, ValueSets.Inside, Problem.Problem, Problem.Constraint, Problem.assignments, Problem.valuesAt, Problem.satisfies}
-use Rattle.model.specs.{Problem.isSolution, Nogood.Entry, Nogood.obeys, Search.entriesAt, Search.nogoodsOf, Search.rowWith, Search.supported, Search.pruned, Search.narrowed}
-use Rattle.model.specs.{Search.roundsEnough, Search.setsAt, Search.isLive, Search.nodesBelow, Search.nodes, Search.isPlan, WellFormed.WellFormed, WellFormed.GoodConstraint}
-use Rattle.model.specs.{inner.Pruning.Sets, inner.Pruning.closed, Claims.Drawn}
+use Rattle.model.specs.Search.{entriesAt, nogoodsOf, rowWith, supported, pruned, narrowed, roundsEnough, setsAt, isLive, nodesBelow, nodes, isPlan}
+use Rattle.model.specs.{Lists.both, Lists.all, Lists.any, Lists.keep, Lists.flat, Lists.below, Lists.upFrom, Lists.at, Lists.same, ValueSets.has, ValueSets.members, ValueSets.anyEmpty}
+use Rattle.model.specs.{ValueSets.Inside, Problem.Problem, Problem.Constraint, Problem.assignments, Problem.valuesAt, Problem.satisfies, Problem.isSolution, Nogood.Entry, Nogood.obeys}
+use Rattle.model.specs.{inner.WellFormed.WellFormed, inner.WellFormed.GoodConstraint, inner.Pruning.Sets, inner.Pruning.closed, Claims.Drawn}
 use Rattle.model.proofs.Lists.{map-flat-map, drop-at, not-of, of-not, T-ext, both-i, both-l, both-r, all-i, all-e, any-i, any-e, keep-no, keep-none, keep-ext, keep-flat-map}
 use Rattle.model.proofs.Lists.{flat-pick, below-i, below-e, upFrom-add, flat-append, map-append, map-ext, at-ext, at-out, at-append, at-seam, same-eq, same-refl}
 use Rattle.model.proofs.{Sets.has-lt, Sets.has-none, Sets.has-at-lt, Sets.member, Sets.empty-i, Sets.empty-e, Assignments.drawn-i, Assignments.drawn-e, Filter.filtered-i}

@@ -7,7 +7,6 @@ pub mod ValueSets
 pub mod Problem
 pub mod Verdict
 pub mod Sheet
-pub mod WellFormed
 pub mod Nogood
 pub mod NogoodClaims
 pub mod Search

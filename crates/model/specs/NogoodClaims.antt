@@ -1,30 +1,8 @@
--- How the filter ends and what an entry is, in words (paper 02, #102 and #105). The proofs are in proofs/Endings.antt and proofs/EntryKinds.antt.
-use Rattle.model.specs.Kit.{_≡_, _⊎_, _↔_, List, List·Memᴰ, ℕ, _<_, T, eqb, ltb}
-use Rattle.model.specs.{Lists.both, Lists.either, Problem.assignments, Nogood.Entry, Nogood.equality, Nogood.disequality, Nogood.obeys, Nogood.filtered, Nogood.failed}
-use Rattle.model.specs.Nogood.{entailed, consistent, filterEnding, mark, Kind, isEquality, isDisequality, bothAbsent, bothPresent, kindOf, entryOf, entryOk}
+-- What an entry is, in words (paper 02, #105), and when a list says nothing more (#102). The proofs are in proofs/EntryKinds.antt.
+use Rattle.model.specs.Kit.{_≡_, _⊎_, List, List·Memᴰ, ℕ, _<_, T, eqb, ltb}
+use Rattle.model.specs.{Lists.both, Lists.either, Problem.assignments, Nogood.Entry, Nogood.equality, Nogood.disequality, Nogood.obeys, Nogood.mark, Nogood.Kind, Nogood.isEquality}
+use Rattle.model.specs.Nogood.{isDisequality, bothAbsent, bothPresent, kindOf, entryOf, entryOk}
 
--- ---- claims about the endings, for any sets and any list
--- no assignment from the sets obeys the nogoods
-abbrev pub Fails : List ℕ → List Entry → Type 0
-Fails ds es = (a : List ℕ) → List·Memᴰ a (assignments ds) → T (obeys a es) → ⊥
-
--- every one does
-abbrev pub Entails : List ℕ → List Entry → Type 0
-Entails ds es = (a : List ℕ) → List·Memᴰ a (assignments ds) → T (obeys a es)
-
--- failed exactly if no assignment from the lent sets obeys the nogoods
-abbrev pub Failed-exactly : Type 0
-Failed-exactly = (ds : List ℕ) (es : List Entry) → (filterEnding ds es ≡ failed) ↔ Fails ds es
-
--- entailed exactly if it is not failed and every assignment from the sets left obeys them all
-abbrev pub Entailed-exactly : Type 0
-Entailed-exactly = (ds : List ℕ) (es : List Entry) → (filterEnding ds es ≡ entailed) ↔ ((Fails ds es → ⊥) × Entails (filtered ds es) es)
-
--- else consistent
-abbrev pub Consistent-exactly : Type 0
-Consistent-exactly = (ds : List ℕ) (es : List Entry) → (filterEnding ds es ≡ consistent) ↔ ((Fails ds es → ⊥) × (Entails (filtered ds es) es → ⊥))
-
--- ---- claims about the kinds
 -- each case as a condition on the two numbers
 abbrev pub CaseOf : Kind → ℕ → ℕ → Type 0
 CaseOf isEquality equal unequal = (equal ≡ mark → ⊥) × (unequal ≡ mark)
@@ -50,3 +28,7 @@ abbrev pub Right-kinds : Type 0
 Right-kinds =
     (n x equal unequal : ℕ) → T (entryOk n x equal unequal) →
     (x < n) × (((entryOf x equal unequal ≡ equality x equal) × (equal < 16)) ⊎ ((entryOf x equal unequal ≡ disequality x unequal) × (unequal < 16)))
+
+-- ---- every assignment from the sets obeys the nogoods
+abbrev pub Entails : List ℕ → List Entry → Type 0
+Entails ds es = (a : List ℕ) → List·Memᴰ a (assignments ds) → T (obeys a es)

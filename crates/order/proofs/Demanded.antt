@@ -2,10 +2,9 @@
 use Rattle.model.specs.Kit.{_≡_, refl, sym, ap, ap₂, _∙_, subst, subst₂, _↔_, List, [], _∷_, map, List·Memᴰ, ℕ, _*_, _≤_, arith, T, length, take, drop, length-take-le}
 use mathlib.Core.List.{Sublistᴰ}
 use lib.Seq.{drop-append-seam}
-use Rattle.model.specs.{Lists.flat, Lists.below, Lists.earlier, Problem.Problem, Problem.isSolution, Problem.withSymmetries, Verdict.Verdict, Verdict.accepted, Verdict.refused}
-use Rattle.model.specs.{Verdict.isAccepted, Verdict.reply, Verdict.kept, Sheet.verdictOf, Sheet.problemOf, Search.nodes, WellFormed.WellFormed, WellFormed.Respected, Run.Ending}
-use Rattle.model.specs.Run.{finished, plansIn, nodesIn, resultOf, Answer, refusal, ended, answered, answerOf, written, listOf, listedPlans, Tally, tallyAt, tallyFor, tallyOf}
-use Rattle.model.specs.Claims.{Chain}
+use Rattle.model.specs.Run.{Ending, finished, plansIn, nodesIn, resultOf, Answer, refusal, ended, answered, answerOf, written, listOf, listedPlans, Tally, tallyAt, tallyFor, tallyOf}
+use Rattle.model.specs.{Lists.flat, Lists.below, Lists.earlier, Problem.Problem, Problem.isSolution, Problem.withSymmetries, Verdict.Verdict, Verdict.accepted, Verdict.refused, Verdict.isAccepted}
+use Rattle.model.specs.{Verdict.reply, Verdict.kept, Sheet.verdictOf, Sheet.problemOf, Search.nodes, inner.WellFormed.WellFormed, inner.WellFormed.Respected, Claims.Chain}
 use Rattle.model.proofs.{Demands.read-back, Demands.reply-so, Demands.of-accepted, More.FewerIn, OneMore.one-more, Room.length-flat, Tally.made-inside}
 use Rattle.order.specs.{Order.Ordering, Reordered.write, Reordered.earlierBy, Reordered.reordered, RunBy.Input, RunBy.sheetInput, RunBy.resultBy, RunBy.placeTally}
 use Rattle.order.specs.{RunBy.leadersBy, RunBy.answerBy, RunBy.listBy, RunBy.plansBy, RunBy.talliedBy, inner.Demanded.Tallied, inner.Demanded.Demanded, inner.Demanded.Fewer}

@@ -3,8 +3,8 @@
 use Rattle.model.specs.Kit.{_≡_, refl, sym, ap, ap₂, _∙_, subst, subst₂, List, [], _∷_, map, List·Memᴰ, List·Memᴰ·head, List·Memᴰ·tail, Memᴰ·cast, Memᴰ·map, Memᴰ·of-map, _↔_, ℕ}
 use Rattle.model.specs.Kit.{_*_, _/_, _%_, _<_, arith, T, length}
 use native.Mathlib.Nat.{div-lt-iff-lt-mul}
-use Rattle.model.specs.{Lists.below, Lists.at, Lists.earlier, Problem.Problem, Problem.Constraint, Problem.pair, Problem.takes, Problem.isSolution, Claims.Leader, Claims.Chain}
-use Rattle.model.specs.{Claims.here, Claims.step, WellFormed.WellFormed, WellFormed.GoodConstraint}
+use Rattle.model.specs.{Lists.below, Lists.at, Lists.earlier, Problem.Problem, Problem.Constraint, Problem.pair, Problem.takes, Problem.isSolution, Claims.Leader, Claims.Chain, Claims.here}
+use Rattle.model.specs.{Claims.step, inner.WellFormed.WellFormed, inner.WellFormed.GoodConstraint}
 use Rattle.order.specs.{Order.Ordering, Reordered.position, Reordered.read, Reordered.write, Reordered.valueOf, Reordered.scopeIn, Reordered.rowIn, Reordered.constraintIn}
 use Rattle.order.specs.Reordered.{renamed, symmetryIn, reordered, earlierBy}
 use Rattle.model.proofs.Lists.{map-ext, below-i, below-e, length-below, at-below, at-ext, Sorted, sorted-ext, ascending-sorted}

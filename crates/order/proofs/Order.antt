@@ -9,7 +9,7 @@ use lib.Seq.{take-suc, take-append-le}
 use Rattle.model.specs.{Lists.all, Lists.any, Lists.keep, Lists.below, Lists.upFrom, Lists.at, Lists.both, ValueSets.least, Problem.within, Sheet.distinct, Verdict.Verdict}
 use Rattle.model.specs.{Verdict.refused, Verdict.ask, Examples.Each}
 use Rattle.order.specs.Order.{pairsIn, Before, Path, one, more, Circle, forerunners, canFollow, settledFirst, settlingOrder, settlesAll, orderVerdict, Settling}
-use Rattle.order.specs.Claims.{Order-passed, Question-30, Settling-unique, Same-pairs, testsOrder}
+use Rattle.order.specs.{Claims.Order-passed, Claims.Question-30, Claims.Settling-unique, Claims.Same-pairs, Examples.testsOrder}
 use Rattle.model.proofs.Lists.{both-i, both-l, both-r, T-dec, T-of, of-T, not-of, of-not, stable, T-ext, all-cons, all-i, all-e, keep-i, keep-e, among-i, among-e, below-i, below-e}
 use Rattle.model.proofs.{Lists.length-below, Lists.at-below, Lists.upFrom-add, Lists.at-seam, Lists.at-ext, Lists.mem-at, Lists.at-mem, Lists.at-take, Masks.least-at}
 use Rattle.model.proofs.{Masks.least-below, Masks.least-is, Counting.distinct-below, Counting.no-more, Counting.onto, Counting.twice, Accepted.asked, Pairs.within-i}

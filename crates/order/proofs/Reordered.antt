@@ -4,9 +4,9 @@ use Rattle.model.specs.Kit.{Memᴰ·map, Memᴰ·of-map, _↔_, _⊎_, inl, inr
 use Rattle.model.specs.Kit.{ℕ-discrete, decLt, arith, T, eqb, ltb, eqb→eq, length, length-map, eq-eqb, ne-eqb, lt-ltb}
 use mathlib.Core.List.{List·Memᴰ·eq-of-singleton}
 use native.Mathlib.Nat.{div-lt-iff-lt-mul}
-use Rattle.model.specs.{Lists.both, Lists.all, Lists.any, Lists.below, Lists.at, Lists.same, Lists.ascending, ValueSets.has, ValueSets.least, ValueSets.members, Problem.Problem}
-use Rattle.model.specs.Problem.{Constraint, pair, isPair, pairsOf, pairsAt, within, takes, forbidden, doubled, excluded, respects, assignments, valuesAt, satisfies, isSolution}
-use Rattle.model.specs.{Sheet.permutesPairs, Sheet.distinct, WellFormed.WellFormed, WellFormed.GoodConstraint, WellFormed.GoodSymmetry, WellFormed.Respected}
+use Rattle.model.specs.Problem.{Problem, Constraint, pair, isPair, pairsOf, pairsAt, within, takes, forbidden, doubled, excluded, respects, assignments, valuesAt, satisfies, isSolution}
+use Rattle.model.specs.{Lists.both, Lists.all, Lists.any, Lists.below, Lists.at, Lists.same, Lists.ascending, ValueSets.has, ValueSets.least, ValueSets.members, Sheet.permutesPairs, Sheet.distinct}
+use Rattle.model.specs.inner.WellFormed.{WellFormed, GoodConstraint, GoodSymmetry, Respected}
 use Rattle.order.specs.{Order.Ordering, Reordered.position, Reordered.read, Reordered.write, Reordered.valueOf, Reordered.scopeIn, Reordered.rowIn, Reordered.constraintIn}
 use Rattle.order.specs.Reordered.{renamed, symmetryIn, reordered}
 use Rattle.model.proofs.Lists.{both-i, T-dec, T-of, of-not, T-ext, all-i, all-e, any-i, any-e, keep-i, keep-e, among-i, among-e, map-ext, below-i, below-e, length-below, at-below}

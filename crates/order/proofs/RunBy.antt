@@ -4,9 +4,9 @@ use Rattle.model.specs.Kit.{Memᴰ·cast, Memᴰ·map, Memᴰ·of-map, ℕ, zer
 use mathlib.Core.Logic.{∥∥₁-elim, ∥∥₁-map}
 use mathlib.Core.List.{Sublistᴰ, Sublistᴰ·slnil, Sublistᴰ·cons, Sublistᴰ·cons-cons}
 use lib.Dec.{T-prop}
-use Rattle.model.specs.{Lists.keep, Lists.below, Lists.at, Lists.earlier, Lists.rowsAscend, Lists.total, Problem.Problem, Problem.pair, Problem.isSolution, Problem.assignments}
-use Rattle.model.specs.{Problem.withSymmetries, Search.nodes, Run.Ending, Run.finished, Run.plansIn, Run.nodesIn, Run.resultOf, Run.settledBy, Run.countsBy, Claims.Leader}
-use Rattle.model.specs.{Claims.isLeader, Claims.leaders, Claims.Chain, Claims.CountsAt, WellFormed.WellFormed, WellFormed.Respected}
+use Rattle.model.specs.{Lists.keep, Lists.below, Lists.at, Lists.earlier, Lists.rowsAscend, Lists.total, Problem.Problem, Problem.pair, Problem.isSolution, Problem.assignments, Problem.withSymmetries}
+use Rattle.model.specs.{Search.nodes, Run.Ending, Run.finished, Run.plansIn, Run.nodesIn, Run.resultOf, Run.settledBy, Run.countsBy, Claims.Leader, Claims.isLeader, Claims.leaders, Claims.Chain}
+use Rattle.model.specs.{Claims.CountsAt, inner.WellFormed.WellFormed, inner.WellFormed.Respected}
 use Rattle.order.specs.{Order.Ordering, Reordered.read, Reordered.write, Reordered.earlierBy, Reordered.renamed, Reordered.symmetryIn, Reordered.reordered, RunBy.resultBy}
 use Rattle.order.specs.RunBy.{leadersBy, placeCounts}
 use Rattle.model.proofs.{Lists.both-l, Lists.T-ext, Lists.keep-i, Lists.keep-e, Lists.sorted-keep, Lists.rowsAscend-of, Lists.mem-at, Assignments.assignments-sorted}

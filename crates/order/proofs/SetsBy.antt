@@ -3,10 +3,10 @@ use Rattle.model.specs.Kit.{_≡_, refl, sym, ap, ap₂, _∙_, subst, subst₂
 use Rattle.model.specs.Kit.{List·Memᴰ·not-nil, List·Memᴰ·cases-cons, Memᴰ·map, Memᴰ·of-map, ℕ, _/_, _%_, _^_, _≤_, _<_, arith, T, T-not, ltb, eqb, eqb→eq, length, replicate}
 use Rattle.model.specs.Kit.{length-replicate, ltb-true, ltb-false, eq-eqb}
 use mathlib.Core.List.{List·Memᴰ·append-cases, List·Memᴰ·eq-of-singleton}
-use Rattle.model.specs.{Lists.both, Lists.any, Lists.keep, Lists.flat, Lists.below, Lists.at, ValueSets.has, ValueSets.members, ValueSets.anyEmpty, Problem.Problem}
-use Rattle.model.specs.{Problem.Constraint, Problem.pair, Problem.assignments, Nogood.Entry, Nogood.equality, Nogood.disequality, Nogood.is, Nogood.obeysFrom, Nogood.obeys}
-use Rattle.model.specs.{Nogood.filtered, Search.entriesOf, Search.rowWith, Search.setsAt, Search.isLive, Claims.nogoodsIn, Claims.Consistent, Claims.Largest, WellFormed.WellFormed}
-use Rattle.model.specs.{WellFormed.GoodConstraint, WellFormed.GoodSymmetry, inner.Pruning.Sets}
+use Rattle.model.specs.{Lists.both, Lists.any, Lists.keep, Lists.flat, Lists.below, Lists.at, ValueSets.has, ValueSets.members, ValueSets.anyEmpty, Problem.Problem, Problem.Constraint, Problem.pair}
+use Rattle.model.specs.{Problem.assignments, Nogood.Entry, Nogood.equality, Nogood.disequality, Nogood.is, Nogood.obeysFrom, Nogood.obeys, Nogood.filtered, Search.entriesOf, Search.rowWith}
+use Rattle.model.specs.{Search.setsAt, Search.isLive, Claims.nogoodsIn, Claims.Consistent, Claims.Largest, inner.WellFormed.WellFormed, inner.WellFormed.GoodConstraint, inner.WellFormed.GoodSymmetry}
+use Rattle.model.specs.inner.Pruning.{Sets}
 use Rattle.order.specs.{Order.Ordering, Reordered.position, Reordered.read, Reordered.write, Reordered.valueOf, Reordered.scopeIn, Reordered.rowIn, Reordered.constraintIn}
 use Rattle.order.specs.{Reordered.renamed, Reordered.symmetryIn, Reordered.reordered, RunBy.setsBy, RunBy.isLiveBy}
 use Rattle.model.proofs.Lists.{both-i, both-l, both-r, T-of, stable, not-of, of-not, any-i, any-e, keep-e, flat-e, map-append, map-ext, map-flat-map, below-e, at-ext, at-out}

@@ -1,6 +1,6 @@
 -- What paper 02, #108, asks of the pairs' questions and of the settling order. The proofs are in proofs/Order.antt.
-use Rattle.model.specs.Kit.{_≡_, _↔_, List, [], _∷_, List·Memᴰ, ℕ, _%_, _≤_, _<_, length, T}
-use Rattle.model.specs.Verdict.{Verdict, accepted, refused, isAccepted}
+use Rattle.model.specs.Kit.{_≡_, _↔_, List, List·Memᴰ, ℕ, _%_, _≤_, _<_, length, T}
+use Rattle.model.specs.Verdict.{Verdict, refused, isAccepted}
 use Rattle.order.specs.Order.{Before, Circle, settlingOrder, orderVerdict, Settling}
 
 -- pairs that pass 28 to 30: at most 64 and no half one, of places below n, in no circle; the order is the paper's
@@ -27,17 +27,3 @@ Settling-unique = (n : ℕ) (pairs a b : List ℕ) → Settling n pairs a → Se
 -- only which pairs there are counts: repeats are harmless, and so is the order in which the pairs are lent
 abbrev pub Same-pairs : Type 0
 Same-pairs = (n : ℕ) (pairs others : List ℕ) → ((x y : ℕ) → Before pairs x y ↔ Before others x y) → settlingOrder n pairs ≡ settlingOrder n others
-
-abbrev pub testsOrder : List (Type 0)
-testsOrder =
-    -- 2 before 0 and 3 before 1, of four places
-    (settlingOrder 4 (2 ∷ 0 ∷ 3 ∷ 1 ∷ []) ≡ 2 ∷ 0 ∷ 3 ∷ 1 ∷ [])
-    -- a pair twice
-    ∷ (settlingOrder 3 (1 ∷ 0 ∷ 1 ∷ 0 ∷ []) ≡ 1 ∷ 0 ∷ 2 ∷ [])
-    -- 28 for half a pair, 29 for a place not below n, 30 for a circle and for a place before itself
-    ∷ (orderVerdict 3 (0 ∷ []) accepted ≡ refused 28 0)
-    ∷ (orderVerdict 3 (0 ∷ 3 ∷ []) accepted ≡ refused 29 0)
-    ∷ (orderVerdict 3 (0 ∷ 1 ∷ 1 ∷ 2 ∷ 2 ∷ 0 ∷ []) accepted ≡ refused 30 0)
-    ∷ (orderVerdict 3 (1 ∷ 1 ∷ []) accepted ≡ refused 30 0)
-    ∷ (orderVerdict 3 (0 ∷ 1 ∷ 1 ∷ 2 ∷ 0 ∷ 2 ∷ []) accepted ≡ accepted)
-    ∷ []

@@ -3,4 +3,5 @@ pub mod Order
 pub mod Claims
 pub mod Reordered
 pub mod RunBy
+pub mod Examples
 pub mod inner

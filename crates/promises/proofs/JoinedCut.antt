@@ -3,7 +3,7 @@ use Rattle.model.specs.Kit.{_≡_, refl, sym, ap, _∙_, subst, Bool, true, fal
 use Rattle.model.specs.Kit.{Memᴰ·map, ℕ, zero, suc, _≤_, _<_, arith, T, length, take}
 use Rattle.model.specs.{Lists.choose, Verdict.Verdict, Verdict.accepted, Run.finished, Run.spent, Run.full, Run.Answer, Run.refusal, Run.answered, Run.ended}
 use Rattle.model.proofs.Lists.{place-of, mem-getD}
-use Rattle.run_cut.specs.Parts.{after, Cuts, lastOf}
+use Rattle.run_cut.specs.{Parts.after, Parts.lastOf, Between.Cuts}
 use Rattle.run_cut.proofs.Parts.{after-e, after-i, after-total}
 use Rattle.run_ranges.specs.Claims.{Part, Done}
 use Rattle.run_join.specs.{Join.fromAt, Join.reachAt, Join.headsIn, Join.joinVerdict, Join.standPath, Join.beginOr, Join.stands, Join.joined, Join.nearest, Calls.answerFor}

@@ -6,7 +6,7 @@ use Rattle.order.specs.{Order.pairsIn, Order.forerunners, Order.canFollow, Orde
 use Rattle.order.specs.Reordered.{read, write, valueOf, scopeIn, rowIn, renamed, symmetryIn}
 use Rattle.block.specs.Block.{tablesLent, blockLent}
 use Rattle.run_input.specs.Lent.{verdictLent}
-use Rattle.run_cut.specs.Parts.{after, nodesBetween, lastOf}
+use Rattle.run_cut.specs.{Parts.after, Parts.lastOf, Between.nodesBetween}
 use Rattle.run_ranges.specs.{Ranges.resultPart, Ranges.answerPart, Ranges.listPart, Ranges.tallyPart, Ranges.lastPart, Claims.Part, Claims.CallRange, Claims.Done}
 use Rattle.wire.specs.Wire.{threeNumbers}
 use Rattle.export_counts.specs.Tallied.{numbersOf}

@@ -4,7 +4,7 @@ use Rattle.model.specs.Kit.{take-all, ltb-true, ltb-false}
 use Rattle.model.specs.{Lists.at, Lists.flat, Lists.keep, Lists.total, Problem.Problem, Search.isPlan, Sheet.problemOf, Run.Ending, Run.finished, Run.full, Run.plansIn, Run.search}
 use Rattle.model.specs.Run.{Answer, ended, listedPlans}
 use Rattle.model.proofs.Runs.{Ended, Walk, walk}
-use Rattle.run_cut.specs.Parts.{nodesBetween, lastOf}
+use Rattle.run_cut.specs.{Between.nodesBetween, Parts.lastOf}
 use Rattle.run_input.specs.Lent.{problemLent}
 use Rattle.run_ranges.specs.{Ranges.plansSaid, Ranges.nodesSaid, Claims.Goes, Claims.reachedFor, Claims.plansHeld}
 use Rattle.run_ranges.proofs.{Between.before-of, Between.stop, Joined.joined, Joined.finishes}

@@ -4,7 +4,7 @@ use Rattle.model.specs.Kit.{zero, suc, _≤_, _<_, arith, T, leb, length, take,
 use Rattle.model.specs.{Lists.all, Lists.below, Lists.both, Lists.choose, Lists.same, Problem.Problem, Verdict.Verdict, Verdict.accepted, Verdict.ask, Search.nodes, Run.Ending}
 use Rattle.model.specs.Run.{finished, spent, full, Answer, ended}
 use Rattle.model.proofs.Lists.{T-of, keep-e, same-eq, both-second, never}
-use Rattle.run_cut.specs.Parts.{after, nodesBetween, lastOf}
+use Rattle.run_cut.specs.{Parts.after, Parts.lastOf, Between.nodesBetween}
 use Rattle.run_cut.proofs.{Parts.after-trans, Parts.after-asym, Parts.after-not, Resume.node-values, Resume.last-in, Resume.taken}
 use Rattle.run_input.specs.Lent.{verdictLent, problemLent}
 use Rattle.run_ranges.specs.{Ranges.nodesSaid, Ranges.madeBy, Ranges.lastPart, Claims.Part, Claims.CallRange, Claims.Goes, Claims.reachedFor, Claims.reachedBy, Claims.Chain}

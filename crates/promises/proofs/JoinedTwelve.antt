@@ -4,7 +4,7 @@ use Rattle.model.specs.{Lists.both, Lists.at, Problem.Problem, Search.nodes, Ve
 use Rattle.model.specs.Run.{Tally, settledBy, countsBy}
 use Rattle.model.proofs.{Lists.keep-ext, Accepted.is-accepted}
 use Rattle.order.specs.Reordered.{write}
-use Rattle.run_cut.specs.Parts.{nodesBetween, lastOf}
+use Rattle.run_cut.specs.{Between.nodesBetween, Parts.lastOf}
 use Rattle.run_input.specs.Lent.{verdictLent, orderLent, problemLent}
 use Rattle.run_input.proofs.Lent.{well-lent}
 use Rattle.run_ranges.specs.{Ranges.partNodes, Ranges.resultPart, Ranges.answerPart, Ranges.listPart, Ranges.nodesSaid, Ranges.tallyPart, Ranges.lastPart, Claims.Part, Claims.CallRange}

@@ -6,7 +6,7 @@ use Rattle.model.specs.Claims.{Leader}
 use Rattle.order.specs.Reordered.{read, earlierBy}
 use Rattle.run_input.specs.Lent.{verdictLent, problemWith, orderLent, problemLent, answerLent, listLent, tallyLent}
 use Rattle.run_ranges.specs.{Ranges.nodesSaid, Claims.Part, Claims.CallRange, Claims.plansHeld, Claims.Goes, Claims.Done, Claims.Chain, Claims.allPlans}
-use Rattle.run_cut.specs.Parts.{after, nodesBetween, Cuts, lastOf}
+use Rattle.run_cut.specs.{Parts.after, Parts.lastOf, Between.nodesBetween, Between.Cuts}
 use Rattle.run_join.specs.{Join.fromAt, Join.reachAt, Join.headsIn, Join.joinVerdict, Join.standPath, Join.beginOr, Calls.CallJoin, declared.Answer.the-variants.Joined}
 use Rattle.run_join.specs.{declared.Answer.the-variants.Missing, declared.Joining.Joining}
 use Rattle.promises.specs.JoinedHeads.{HeadOf, cutTwelve, HeldHeads, takenParts, headBytes, HeldBytes, partAt}

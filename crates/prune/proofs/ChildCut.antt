@@ -6,7 +6,7 @@ use Rattle.model.proofs.{Masks.has-and, Masks.has-or, Firsts.take-at, Firsts.ta
 use Rattle.arrays.specs.{inner.Places.BLOCK, inner.Places.LINKED, inner.Places.MARKS, inner.Places.DEAD, inner.Pruning.Given, inner.Pruning.setsOf}
 use Rattle.prune_constraints.specs.inner.Steps.{Touched}
 use Rattle.prune_symmetries.proofs.Marks.{mark-mono}
-use Rattle.block.specs.{BlockClaims.Ascends, inner.BlockSets.cutAfter}
+use Rattle.block.specs.{inner.Claims.Ascends, inner.BlockSets.cutAfter}
 use Rattle.block.proofs.BlockSets.{cut-sets, cut-e, cut-i}
 use Rattle.prune.specs.{inner.Node.blockOf, inner.Steps.ArraysHold, inner.Steps.Blocked, inner.Steps.LiveSets, inner.Steps.Startable, inner.Steps.BeforeFixpoint}
 use Rattle.prune.specs.inner.Steps.{LastSettled, AfterFixpoint, CutOr}

@@ -2,7 +2,7 @@
 use Rattle.model.specs.Kit.{_≡_, refl, sym, subst, Bool, true, List, [], ℕ, _+_, _%_, arith, take, set}
 use Rattle.model.specs.{Lists.at, ValueSets.onlyMask, Problem.Problem, Problem.withSymmetries, inner.Pruning.Sets, inner.Pruning.Way}
 use Rattle.arrays.specs.{inner.Places.BLOCK, inner.Places.DEAD, inner.Pruning.setsOf}
-use Rattle.block.specs.{BlockClaims.Ascends, inner.BlockSets.cutAfter}
+use Rattle.block.specs.{inner.Claims.Ascends, inner.BlockSets.cutAfter}
 use Rattle.prune.specs.{inner.Node.AtNode, inner.Node.Reached, inner.Node.longer, inner.Node.blockOf, inner.Steps.LiveSets, inner.Steps.Unpruned, inner.Steps.CutOr}
 use Rattle.prune.specs.inner.Steps.{Loaded}
 use Rattle.prune.proofs.Starts.{arrays-hold, blocked, ready-few, reached-dead, longer-is, in-initial, start-live, start-initial, start-way}

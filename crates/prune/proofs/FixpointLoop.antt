@@ -16,7 +16,7 @@ use Rattle.prune_pairs.proofs.Settled.{settled-stays}
 use Rattle.prune_constraints.specs.{inner.Steps.Touched, inner.LookUps.Alone, inner.LookUps.LookUp, inner.LookUps.LookUpsPending, inner.LookUps.LookedUp}
 use Rattle.prune_constraints.proofs.Touching.{touchedOf, touched-of, touched-parts}
 use Rattle.prune_symmetries.proofs.Marks.{mark-mono}
-use Rattle.block.specs.BlockClaims.{Ascends}
+use Rattle.block.specs.inner.Claims.{Ascends}
 use Rattle.block.proofs.BlockSets.{ascends-less, way-prunes-own, fixed-whole}
 use Rattle.prune.specs.{inner.Node.MarksRight, inner.Node.blockOf, inner.Steps.ArraysHold, inner.Steps.Blocked, inner.Steps.Pending, inner.Steps.PrunedSoFar}
 use Rattle.prune.specs.inner.Steps.{AllConstrained, LiveSets, AllFiltered, EndedAt, OnlyMarks, Startable, BeforeFixpoint, LastSettled, AfterFixpoint, Differ}

@@ -17,7 +17,7 @@ use Rattle.prune_pairs.proofs.Partners.{goes-kept}
 use Rattle.prune_constraints.proofs.Rows.{fixed-kept}
 use Rattle.prune_symmetries.specs.inner.Levels.{Mark}
 use Rattle.prune_symmetries.proofs.Marks.{mark-start, mark-mono, mark-longer}
-use Rattle.block.specs.{BlockClaims.Ascends, inner.BlockSets.cutAfter}
+use Rattle.block.specs.{inner.Claims.Ascends, inner.BlockSets.cutAfter}
 use Rattle.block.proofs.BlockSets.{root-ascends, child-way, child-ascends}
 use Rattle.prune.specs.{inner.Node.Ready, inner.Node.MarksRight, inner.Node.AtNode, inner.Node.Reached, inner.Node.longer, inner.Node.blockOf, inner.Steps.ArraysHold}
 use Rattle.prune.specs.inner.Steps.{Blocked, LiveSets, Startable, BeforeFixpoint, Unpruned, AfterFixpoint, Loaded, Stored, MarksCopied}

@@ -4,7 +4,7 @@ use Rattle.model.specs.Kit.{ℕ-discrete, T, eqb, ltb, eqb-refl, length, bitAnd
 use lib.Bits.{or-zero-r, or-disjoint}
 use lib.Pow.{pow-mono}
 use Rattle.model.specs.{Lists.both, Lists.any, Lists.at, ValueSets.has, ValueSets.Inside, Problem.Problem, Problem.Constraint, Problem.constraintAt, inner.Pruning.Sets}
-use Rattle.model.specs.{inner.Pruning.Prunes, WellFormed.GoodConstraint}
+use Rattle.model.specs.{inner.Pruning.Prunes, inner.WellFormed.GoodConstraint}
 use Rattle.model.proofs.Lists.{T-of, of-T, T-ext, not-of, of-not, both-i, both-r, among-i, among-e, ascending-sorted}
 use Rattle.model.proofs.{Sets.has-none, Sets.has-lt, Sets.mask-ext, Sets.inside-antisym, Sets.size, Sets.size-inside, Sets.size-strict, Masks.has-one, Members.low-has}
 use Rattle.model.proofs.{Members.rest-e, Members.rest-i, Members.rest-less, Members.has-0, Members.or-i, Members.or-e, Members.and-e, Firsts.take-i, Firsts.take-full}

@@ -1,6 +1,6 @@
 -- One constraint over the first n of sixteen sets, and one constraint's pruning as a removal at any prefix. Assumes nothing.
 use Rattle.model.specs.Kit.{sym, List, List·Memᴰ, ℕ, _≤_, _<_, arith, take}
-use Rattle.model.specs.{Lists.at, Problem.Problem, Problem.Constraint, inner.Pruning.Sets, inner.Pruning.Prunes, WellFormed.WellFormed}
+use Rattle.model.specs.{Lists.at, Problem.Problem, Problem.Constraint, inner.Pruning.Sets, inner.Pruning.Prunes, inner.WellFormed.WellFormed}
 use Rattle.model.proofs.{Sets.has-lt, Firsts.take-at, Firsts.take-sets, Firsts.take-e, Firsts.take-i, Firsts.take-inside, Prune.supported-mono, Prunes.removal-prunes}
 use Rattle.arrays.specs.inner.Pruning.{Fixed}
 use Rattle.prune_constraints.specs.inner.Revised.{revised}

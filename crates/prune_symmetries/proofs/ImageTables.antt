@@ -3,7 +3,7 @@ use Rattle.model.specs.Kit.{_≡_, refl, sym, ap, ap₂, _∙_, subst, Bool, tr
 use Rattle.model.specs.Kit.{_+_, _-_, _*_, _/_, _%_, _^_, _≤_, _<_, lt-of-lt-of-le, lt-of-le-of-lt, decLt, arith, and-le-l, T, eqb, ltb, eqb→eq, length, take, getD, length-take-le}
 use Rattle.model.specs.Kit.{eq-eqb}
 use Rattle.model.specs.{Lists.at, Lists.any, Lists.both, ValueSets.has, ValueSets.members, ValueSets.Inside, Problem.Problem, Problem.pair, Problem.symmetryAt, Nogood.Entry}
-use Rattle.model.specs.{Nogood.is, Nogood.obeysFrom, Nogood.obeys, WellFormed.GoodSymmetry}
+use Rattle.model.specs.{Nogood.is, Nogood.obeysFrom, Nogood.obeys, inner.WellFormed.GoodSymmetry}
 use Rattle.model.proofs.Lists.{T-of, not-of, of-not, of-T, T-ext, both-i, both-l, both-r, any-i, any-e, keep-e, getD-at, at-out, at-take, mem-getD, both-less}
 use Rattle.model.proofs.{Sets.has-none, Sets.has-lt, Sets.has-at-lt, Sets.mask-i, Sets.mask-e, Sets.mask-lt, Sets.mask-ext, Sets.members-e, Masks.has-and, Masks.has-not}
 use Rattle.arrays.specs.inner.Tables.{imageOf, smaller}

@@ -3,7 +3,7 @@ use Rattle.model.specs.Kit.{_≡_, sym, ap, ap₂, _∙_, List, [], _∷_, _++_
 use Rattle.model.specs.Kit.{take, length-take-le, getD-take}
 use native.Mathlib.Nat.{mod-lt}
 use Rattle.model.specs.{Lists.at, Lists.flat, Lists.below, Lists.upFrom, Problem.Problem, Problem.pair, Problem.symmetryAt, Nogood.Entry, Nogood.equality, Nogood.disequality}
-use Rattle.model.specs.{Search.entriesAt, Search.nogoodsOf, WellFormed.WellFormed}
+use Rattle.model.specs.{Search.entriesAt, Search.nogoodsOf, inner.WellFormed.WellFormed}
 use Rattle.model.proofs.Lists.{map-ext, map-append, flat-append, below-e, upFrom-add}
 use Rattle.arrays.specs.inner.Tables.{imageOf}
 use Rattle.prune_symmetries.specs.inner.Levels.{cutOf, keepOf, lower, cuts, levelOf, levels, ownAt}

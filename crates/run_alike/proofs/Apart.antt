@@ -6,8 +6,8 @@ use Rattle.model.specs.Kit.{eqb-true, eqb-false}
 use mathlib.Core.List.{List·Memᴰ·append-cases, List·Memᴰ·eq-of-singleton, Memᴰ·append-right}
 use Rattle.model.specs.{Lists.both, Lists.any, Lists.keep, Lists.below, Lists.at, Lists.same, ValueSets.has, ValueSets.members, Problem.Problem, Problem.Constraint, Problem.pair}
 use Rattle.model.specs.{Problem.pairsAt, Problem.doubled, Problem.excluded, Problem.forbidden, Nogood.Entry, Nogood.equality, Nogood.disequality, Search.entriesAt}
-use Rattle.model.specs.{Search.nogoodsOf, Search.rowWith, Search.setsAt, Search.isLive, Claims.Drawn, Claims.Consistent, WellFormed.WellFormed, WellFormed.GoodSymmetry}
-use Rattle.model.specs.WellFormed.{Respected}
+use Rattle.model.specs.{Search.nogoodsOf, Search.rowWith, Search.setsAt, Search.isLive, Claims.Drawn, Claims.Consistent, inner.WellFormed.WellFormed, inner.WellFormed.GoodSymmetry}
+use Rattle.model.specs.inner.WellFormed.{Respected}
 use Rattle.model.proofs.Lists.{both-l, both-r, any-i, any-e, flat-i, flat-e, below-i, below-e, at-mem, mem-at, at-map, same-refl, length-below, never}
 use Rattle.model.proofs.{Counting.onto, Counting.distinct-below, Assignments.drawn-e, Prune.Sized, Consistent.live-consistent, Tree.well-sized}
 use Rattle.run_alike.specs.inner.Alike.{Residue, residue}

@@ -3,7 +3,7 @@ use Rattle.model.specs.Kit.{_≡_, refl, sym, ap, ap₂, _∙_, subst, Bool, tr
 use Rattle.model.specs.Kit.{_-_, ℕ-discrete, arith, eqb, length, drop, length-append, length-map, ne-eqb}
 use lib.Seq.{drop-at}
 use Rattle.model.specs.{Lists.both, Lists.keep, Lists.flat, Lists.at, ValueSets.members, Problem.Problem, Search.setsAt, Search.isLive, Search.nodesBelow}
-use Rattle.model.specs.{Search.isPlan, Run.settledBy, Run.countsBy, WellFormed.WellFormed}
+use Rattle.model.specs.{Search.isPlan, Run.settledBy, Run.countsBy, inner.WellFormed.WellFormed}
 use Rattle.model.proofs.{Lists.map-ext, Lists.map-flat-map, Lists.keep-ext, Tally.tabulate-ext}
 use Rattle.run_alike.specs.{inner.Alike.moved, inner.Claims.SameBelow}
 use Rattle.run_alike.proofs.Sets.{Agree, live-alike, sets-alike}

@@ -4,7 +4,7 @@ use Rattle.model.specs.Kit.{List·Memᴰ·not-nil, List·Memᴰ·cases-cons, Me
 use Rattle.model.specs.Kit.{getD, take, drop, take-append-drop, length-drop, pow-lt, length-take-le, eq-eqb, ne-eqb}
 use lib.Seq.{take-take}
 use Rattle.model.specs.{Lists.both, Lists.flat, Lists.upFrom, Lists.at, ValueSets.has, Problem.Problem, Problem.pair, Nogood.Entry, Nogood.equality, Nogood.disequality, Nogood.is}
-use Rattle.model.specs.{Nogood.obeysFrom, Search.entriesAt, Search.nogoodsOf, Search.setsAt, Search.isLive, WellFormed.WellFormed, WellFormed.Respected}
+use Rattle.model.specs.{Nogood.obeysFrom, Search.entriesAt, Search.nogoodsOf, Search.setsAt, Search.isLive, inner.WellFormed.WellFormed, inner.WellFormed.Respected}
 use Rattle.model.proofs.{Lists.of-T, Lists.T-ext, Lists.not-of, Lists.of-not, Lists.at-take, Sets.has-lt, Sets.has-none, Sets.member, Sets.mask-ext, Assignments.Filled, Obey.obeys-unheld}
 use Rattle.model.proofs.{Assignments.drawn-through, Assignments.drawn-i, Assignments.drawn-e, Prune.Sized, Prune.setsAt-sets, Tree.well-sized, Tree.nogoods-append}
 use Rattle.run_alike.specs.{inner.Alike.Residue, inner.Alike.front, inner.Alike.residue, inner.Alike.Vacuous, inner.Claims.Kept-left}

@@ -5,8 +5,8 @@ use mathlib.Core.List.{List·Memᴰ·append-cases, List·Memᴰ·eq-of-singleton
 use lib.ListN.{List·getD-append}
 use lib.Seq.{getD-append-add}
 use Rattle.model.specs.{Lists.keep, Lists.flat, Lists.upFrom, Lists.below, Lists.at, ValueSets.has, ValueSets.members, Problem.Problem, Problem.pair, Nogood.Entry, Nogood.equality}
-use Rattle.model.specs.{Nogood.disequality, Nogood.is, Nogood.obeys, Search.entriesAt, Search.nogoodsOf, Search.setsAt, Search.isLive, Claims.Drawn, WellFormed.WellFormed}
-use Rattle.model.specs.WellFormed.{Respected}
+use Rattle.model.specs.{Nogood.disequality, Nogood.is, Nogood.obeys, Search.entriesAt, Search.nogoodsOf, Search.setsAt, Search.isLive, Claims.Drawn, inner.WellFormed.WellFormed}
+use Rattle.model.specs.inner.WellFormed.{Respected}
 use Rattle.model.proofs.Lists.{T-of, of-T, keep-e, flat-e, map-ext, below-e, upFrom-e, at-append, at-skip, getD-at}
 use Rattle.model.proofs.{Sets.members-e, Sets.has-at-lt, Assignments.drawn-i, Prune.Sized, Prune.setsAt-sets, Consistent.live-consistent, Tree.well-sized, Tree.nogoods-append}
 use Rattle.model.proofs.Child.{child-sets}

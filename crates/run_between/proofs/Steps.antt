@@ -7,7 +7,7 @@ use Rattle.model.specs.{Search.setsAt, Search.isLive, Run.Tally}
 use Rattle.model.proofs.Lists.{T-of, not-of, of-not, both-l, among-i, among-e, keep-ext, below-e, at-set, at-set-other}
 use Rattle.model.proofs.{Tree.well-sized, Prune.setsAt-sets, Sets.has-none, Sets.has-lt, Sets.has-mask, Sets.mask-lt, Sets.mask-ext, Sets.mask-i, Sets.mask-e, Sets.members-i}
 use Rattle.model.proofs.{Sets.members-e, Masks.common-op, Lowest.lowest-in}
-use Rattle.run_cut.specs.Parts.{nodesOf, candidatesAt}
+use Rattle.run_cut.specs.inner.Paths.{nodesOf, candidatesAt}
 use Rattle.arrays.specs.inner.Places.{LIMIT, ROOM, PLANS, LAST, ALL, SPENT, DIAGONAL}
 use Rattle.prune.specs.inner.Node.{AtNode, Reached, longer}
 use Rattle.prune.proofs.BlockCut.{not-below}

@@ -7,7 +7,7 @@ use Rattle.model.specs.Sheet.{word, words, headerOf, scopeAt, rowsAt, afterAt, 
 use Rattle.model.specs.{Sheet.permutesPairs, Sheet.symmetriesVerdict, Sheet.headerVerdict, Sheet.formVerdict, Sheet.verdictOf, Nogood.obeysFrom, Nogood.obeying, Nogood.used}
 use Rattle.model.specs.{Nogood.filtered, Search.entriesAt, Search.nogoodsOf, Search.rowWith, Search.supported, Search.pruned, Search.narrowed, Search.rounds, Search.setsAt}
 use Rattle.model.specs.{Search.isLive, Search.nodesBelow, Search.nodes, Search.isPlan, Run.search, Run.resultOf, Run.written, Run.countsBy, Examples.sheetA}
-use Rattle.run_cut.specs.Parts.{after, nodesAfter, nodesBetween, nodesOf, lastOf, progressAt, goOn, added, progressAfter}
+use Rattle.run_cut.specs.{Parts.after, Parts.nodesAfter, Parts.lastOf, Parts.progressAt, Parts.goOn, Parts.added, Parts.progressAfter, Between.nodesBetween, inner.Paths.nodesOf}
 
 -- every definition that computes
 opened : ℕ

@@ -2,7 +2,7 @@
 use Rattle.model.specs.Kit.{_≡_, List, [], _∷_, map, ℕ, _≤_, length}
 use Rattle.model.specs.{Lists.keep, Lists.flat, Lists.total, Problem.Problem, Search.nodes, Search.isPlan, Run.spent, Run.finished, Run.nodesIn, Run.Result, Run.search}
 use Rattle.model.specs.Run.{resultOf, tallyAt}
-use Rattle.run_cut.specs.Parts.{ranges, Cuts, Progress, start, progressAt, goOn, countsAfter, progressAfter, andNext, resumed}
+use Rattle.run_cut.specs.{Between.ranges, Between.Cuts, Between.andNext, Between.resumed, Parts.Progress, Parts.start, Parts.progressAt, Parts.goOn, Parts.countsAfter, Parts.progressAfter}
 
 -- a run cut after k nodes goes on from the last of them to what it is in one piece
 abbrev pub From-cut : Type 0

@@ -1,3 +1,5 @@
 -- A run in parts, and the claims.
 pub mod Parts
+pub mod Between
 pub mod Claims
+pub mod inner

@@ -2,7 +2,7 @@
 use Rattle.model.specs.Kit.{_≡_, refl, ap, ap₂, _∙_, ⊎-elim, List, [], _++_, append-nil, List·Memᴰ, Memᴰ·append-left, ℕ, T}
 use mathlib.Core.List.{List·Memᴰ·append-cases, Memᴰ·append-right}
 use Rattle.model.specs.{Problem.Problem, Problem.respects, Problem.withSymmetries, Verdict.Verdict, Verdict.accepted, Verdict.refused, Verdict.isAccepted, Sheet.verdictOf}
-use Rattle.model.specs.{Sheet.problemOf, WellFormed.WellFormed, WellFormed.GoodSymmetry, WellFormed.Respected, Run.Ending, Run.ended, Claims.OneMore}
+use Rattle.model.specs.{Sheet.problemOf, inner.WellFormed.WellFormed, inner.WellFormed.GoodSymmetry, inner.WellFormed.Respected, Run.Ending, Run.ended, Claims.OneMore}
 use Rattle.model.proofs.{Accepted.Passed, Accepted.passed, Accepted.is-accepted, Asked.well-formed-with, Asked.respected-with, OneMore.one-more}
 use Rattle.order.specs.{Order.Ordering, Order.settlingOrder, Order.orderVerdict, Reordered.reordered, RunBy.Input, RunBy.sheetInput, RunBy.answerBy, RunBy.listBy, RunBy.talliedBy}
 use Rattle.order.specs.{Claims.OrderPassed, inner.Demanded.Demanded, inner.Demanded.Fewer}

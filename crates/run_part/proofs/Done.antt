@@ -6,12 +6,13 @@ use Rattle.model.specs.{Lists.at, Lists.choose, Lists.keep, Lists.flat, Problem
 use Rattle.model.specs.Run.{Ending, finished, spent, full, plansIn, nodesIn, Result, search, Answer, refusal, ended, written, Tally, settledBy, countsBy}
 use Rattle.model.proofs.{Lists.keep-e, Lists.length-none, Accepted.is-accepted}
 use Rattle.order.specs.Reordered.{write}
-use Rattle.run_cut.specs.Parts.{nodesBetween, lastOf}
+use Rattle.run_cut.specs.{Between.nodesBetween, Parts.lastOf}
 use Rattle.run_cut.proofs.{Resume.dead-below, Resume.last-in, Resume.taken, Resume.node-values, Counts.counts-none}
 use Rattle.run_input.specs.Lent.{verdictLent, orderLent, problemLent}
 use Rattle.run_input.proofs.Lent.{well-sheet, ordering-lent}
 use Rattle.arrays.specs.inner.Places.{ROOM, PLANS, NUMBER, ITEM, LAST, ALL, SPENT, DEEPER, REFUSED, WANTED}
-use Rattle.run_state.specs.{inner.Walk.noNodes, inner.Walk.State, inner.Walk.walk, inner.Walk.kept, inner.Walk.stopIn, inner.Walk.tallyBy, inner.Pair.prefixOf, inner.Pair.orderIn, inner.Pair.stateOf}
+use Rattle.run_state.specs.inner.Walk.{noNodes, State, walk, kept, stopIn, tallyBy}
+use Rattle.run_state.specs.inner.Pair.{prefixOf, orderIn, stateOf}
 use Rattle.run_state.proofs.{Prefix.prefix-zero, Prefix.prefix-at, Prefix.length-prefix, Outcome.outcome-on, Outcome.kept-none, Outcome.kept-over, Outcome.nothing-kept}
 use Rattle.run_task.specs.inner.Task.{roomFor}
 use Rattle.run_search.specs.inner.Prepared.{Prepared}

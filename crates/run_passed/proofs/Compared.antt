@@ -1,6 +1,6 @@
 -- The law of specs/Compared. Assumes nothing.
 use Rattle.model.specs.Kit.{_≡_, sym, subst, Bool, ⊎-elim, List, [], ℕ, _%_, _≤_, _<_, arith, T, length, take, drop, eq-eqb, ne-eqb}
-use Rattle.model.specs.{Problem.Problem, Problem.withSymmetries, Problem.symmetryAt, Search.nogoodsOf, Search.setsAt, Search.isLive, WellFormed.WellFormed, WellFormed.Respected}
+use Rattle.model.specs.{Problem.Problem, Problem.withSymmetries, Problem.symmetryAt, Search.nogoodsOf, Search.setsAt, Search.isLive, inner.WellFormed.WellFormed, inner.WellFormed.Respected}
 use Rattle.model.proofs.{Lists.mem-getD, Lists.place-of, Tree.well-sized}
 use Rattle.arrays.specs.inner.Places.{ENTAILED, OBEYED}
 use Rattle.filter.specs.Marks.{Skippable}

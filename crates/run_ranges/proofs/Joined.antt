@@ -7,7 +7,7 @@ use Rattle.model.specs.{Sheet.problemOf, Run.Ending, Run.finished, Run.spent, R
 use Rattle.model.specs.Run.{answered, ended, written, Tally, tallyFor, settledBy, countsBy, listedPlans}
 use Rattle.model.proofs.{Lists.keep-append, Lists.map-append, Runs.Ended, Runs.Walk, Runs.walk, Demands.read-back, Accepted.is-accepted}
 use Rattle.order.specs.{Order.Ordering, Reordered.write, RunBy.resultBy, RunBy.placeCounts, RunBy.placeTally, RunBy.answerBy, RunBy.listBy, RunBy.talliedBy}
-use Rattle.run_cut.specs.Parts.{after, Cuts, nodesBetween, lastOf}
+use Rattle.run_cut.specs.{Parts.after, Parts.lastOf, Between.Cuts, Between.nodesBetween}
 use Rattle.run_cut.proofs.Counts.{counts-append, counts-none}
 use Rattle.run_input.specs.Lent.{verdictLent, problemWith, orderLent, problemLent, answerLent, listLent, tallyLent}
 use Rattle.run_input.proofs.Lent.{well-lent, ordering-lent}

@@ -6,7 +6,7 @@ use Rattle.model.specs.{Lists.both, Lists.either, Lists.any, Lists.keep, Lists.
 use Rattle.model.specs.Search.{isLive, nodesBelow, nodes}
 use Rattle.model.proofs.Lists.{T-of, of-T, not-of, of-not, both-l, both-r, any-cons, among-i, among-e, keep-yes, keep-no, keep-ext, keep-all, keep-none, keep-e, keep-i}
 use Rattle.model.proofs.Lists.{keep-flat-map, map-ext, below-e, Sorted, sorted-keep}
-use Rattle.run_cut.specs.Parts.{after, nodesBetween, nodesOf, candidatesAt, reached}
+use Rattle.run_cut.specs.{Parts.after, Between.nodesBetween, inner.Paths.nodesOf, inner.Paths.candidatesAt, inner.Paths.reached}
 use Rattle.run_cut.proofs.Parts.{after-eq, after-ne, after-front, after-nil, nil-after, branch, branch-form, below-longer, sorted-candidates}
 use Rattle.run_cut.proofs.Resume.{dead-below, node-reached}
 use Rattle.run_ranges.specs.inner.Within.{within, given, leaves, intoNodes, ontoNodes, inRange, midNodes, upToNodes}

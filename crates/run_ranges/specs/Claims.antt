@@ -2,7 +2,7 @@
 use Rattle.model.specs.Kit.{_≡_, _⊎_, List, [], _∷_, map, ℕ, _*_, _≤_, T, length, replicate}
 use Rattle.model.specs.{Lists.flat, Lists.at, Lists.total, Verdict.accepted, Verdict.refused, Sheet.problemOf, Run.finished, Run.spent, Run.full, Run.Answer, Run.refusal}
 use Rattle.model.specs.Run.{answered, ended, written, Tally, listedPlans}
-use Rattle.run_cut.specs.Parts.{after, Cuts, lastOf}
+use Rattle.run_cut.specs.{Parts.after, Parts.lastOf, Between.Cuts}
 use Rattle.run_input.specs.Lent.{verdictLent, answerLent, listLent, tallyLent}
 use Rattle.run_ranges.specs.Ranges.{answerPart, listPart, plansSaid, nodesSaid, tallyPart, lastPart}
 
@@ -116,7 +116,7 @@ One-piece =
     (c : Part) → CallRange b pairs block c → c .from ≡ from → c .upto ≡ upto → c .limit ≡ sumNodes cs → sumPlans cs * problemOf b .variables ≤ length (c .out) →
     SoFar (problemOf b .variables) cs (c .out) (c .answer) (c .list) (c .tally)
 
--- ---- cuts in order (parts' `Cuts`), the last of them the path 255, and a finished call of each range between two of them
+-- ---- cuts in order (run_cut's `Cuts`), the last of them the path 255, and a finished call of each range between two of them
 abbrev pub Done : Answer → Type 0
 Done (answered (finished plans made)) = Unit {0}
 Done (answered (spent plans made)) = ⊥

@@ -5,7 +5,7 @@ use Rattle.model.specs.Kit.{List, [], map, ℕ, length, take}
 use Rattle.model.specs.{Lists.at, Verdict.reply, Verdict.kept, Run.plansIn, Run.nodesIn, Run.Result, Run.search, Run.Answer, Run.refusal, Run.answered, Run.written, Run.Tally}
 use Rattle.model.specs.Run.{settledBy, countsBy}
 use Rattle.order.specs.Reordered.{write}
-use Rattle.run_cut.specs.Parts.{nodesBetween, lastOf}
+use Rattle.run_cut.specs.{Between.nodesBetween, Parts.lastOf}
 use Rattle.run_input.specs.Lent.{verdictLent, orderLent, problemLent}
 
 -- the nodes of the part, in the order of the search

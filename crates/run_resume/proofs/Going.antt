@@ -15,8 +15,8 @@ use Rattle.run_cut.specs.Parts.{after, nodesAfter, lastOf, Progress, goOn, made
 use Rattle.run_cut.proofs.{Resume.node-values, Resume.last-in, Resume.taken, Counts.counts-none, Anywhere.no-fewer}
 use Rattle.arrays.specs.inner.Places.{LIMIT, ROOM, PLANS, LAST, ALL, DEEPER, WORK}
 use Rattle.sheet.specs.Meaning.{compilable}
-use Rattle.run_state.specs.{inner.Walk.State, inner.Walk.noNodes, inner.Walk.kept, inner.Walk.walk, inner.Walk.stopIn, inner.Walk.tallyBy, inner.Pair.prefixOf, inner.Pair.orderIn, inner.Pair.ownIn}
-use Rattle.run_state.specs.inner.Pair.{stateOf, AtPrefix, Walked}
+use Rattle.run_state.specs.inner.Walk.{State, noNodes, kept, walk, stopIn, tallyBy}
+use Rattle.run_state.specs.inner.Pair.{prefixOf, orderIn, ownIn, stateOf, AtPrefix, Walked}
 use Rattle.run_state.proofs.{Outcome.kept-none, Outcome.kept-over, Outcome.outcome-on, Prefix.length-prefix, Prefix.prefix-at, Prefix.prefix-ext, Prefix.prefix-zero}
 use Rattle.run_state.proofs.Prefix.{prefix-is}
 use Rattle.run_search.proofs.Prepared.{room-fits, room-most}

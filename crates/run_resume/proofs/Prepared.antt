@@ -2,7 +2,7 @@
 -- Assumes nothing.
 use Rattle.model.specs.Kit.{_≡_, refl, sym, ap, _∙_, subst, Bool, true, false, List, [], ℕ, _*_, _/_, _^_, _≤_, _<_, arith, T, eqb, length, set, length-set, eqb-true, eqb-false}
 use native.Mathlib.Nat.{div-mul-le-self, div-le-self, le-div-iff-mul-le}
-use Rattle.model.specs.{Lists.at, Lists.below, Lists.choose, Problem.Problem, Search.nodes, Sheet.problemOf, WellFormed.WellFormed}
+use Rattle.model.specs.{Lists.at, Lists.below, Lists.choose, Problem.Problem, Search.nodes, Sheet.problemOf, inner.WellFormed.WellFormed}
 use Rattle.model.proofs.{Accepted.symmetries-are, Accepted.no-nodes, Lists.T-of, Lists.at-set, Lists.at-set-other}
 use Rattle.run_input.specs.inner.Compile.{WithinLimits}
 use Rattle.arrays.specs.inner.Places.{VARIABLES, LIMIT, ROOM, PLANS, ALL, DEEPER, NUMBERS}

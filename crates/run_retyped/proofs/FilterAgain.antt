@@ -6,10 +6,10 @@ use Rattle.model.proofs.Filter.{length-filtered}
 use Rattle.filter.specs.{Meaning.means, FilterCalls.CallFilter, FilterCalls.ListsRight, declared.Answer.Answer, declared.Answer.the-variants.Failed}
 use Rattle.filter.specs.declared.Answer.the-variants.{Entailed, Consistent, Refused}
 use Rattle.filter.proofs.FilterCalls.{right-accepted}
-use Rattle.run_retyped.specs.{Retyped.Within, Retyped.byTurns, Retyped.Applied, FilterAgain.Twice-calls, FilterAgain.Within-calls, FilterAgain.Turned, FilterAgain.none}
-use Rattle.run_retyped.specs.FilterAgain.{first, second, Still, TurnsHeld, Turns-calls}
+use Rattle.run_retyped.specs.FilterAgain.{Twice-calls, Within-calls, Turned, none, first, second, Still, TurnsHeld, Turns-calls}
+use Rattle.run_retyped.specs.{Retyped.Within, inner.Turns.byTurns, inner.Turns.Applied}
 use Rattle.run_retyped.proofs.Turns.{filter-twice, filter-within, turns-largest, turns-any, turns-applied}
-use Rattle.run_retyped.specs.Retyped as A
+use Rattle.run_retyped.specs.inner.Turns as A
 
 -- the questions look at the number of sets alone
 verdict-sized : (ds rs xs es us : List ℕ) → length rs ≡ length ds → filterVerdict rs xs es us ≡ filterVerdict ds xs es us

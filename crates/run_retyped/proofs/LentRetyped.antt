@@ -2,9 +2,9 @@
 use Rattle.model.specs.Kit.{_≡_, refl, sym, ap, ap₂, _∙_, subst, subst₂, Bool, true, false, _↔_, ⊎-elim, List, [], _∷_, _++_, map, List·Memᴰ, Memᴰ·append-left, Memᴰ·cast, Memᴰ·map}
 use Rattle.model.specs.Kit.{Memᴰ·of-map, ℕ, T, leb, length, take}
 use mathlib.Core.List.{List·Memᴰ·append-cases, Memᴰ·append-right}
-use Rattle.model.specs.{Lists.keep, Lists.at, ValueSets.least, Search.isPlan, Run.countsBy, Run.settledBy, Run.Answer, Run.refusal, Run.answered, Run.Result, Run.nodesIn}
-use Rattle.model.specs.{Run.written, Run.Tally, Run.tallyFor, Problem.Problem, Problem.pair, Problem.isPair, Problem.withSymmetries, Verdict.Verdict, Verdict.accepted}
-use Rattle.model.specs.{Verdict.isAccepted, Verdict.reply, Verdict.kept, Sheet.problemOf, Sheet.verdictOf, WellFormed.WellFormed, WellFormed.Respected}
+use Rattle.model.specs.{Lists.keep, Lists.at, ValueSets.least, Search.isPlan, Run.countsBy, Run.settledBy, Run.Answer, Run.refusal, Run.answered, Run.Result, Run.nodesIn, Run.written, Run.Tally}
+use Rattle.model.specs.{Run.tallyFor, Problem.Problem, Problem.pair, Problem.isPair, Problem.withSymmetries, Verdict.Verdict, Verdict.accepted, Verdict.isAccepted, Verdict.reply, Verdict.kept}
+use Rattle.model.specs.{Sheet.problemOf, Sheet.verdictOf, inner.WellFormed.WellFormed, inner.WellFormed.Respected}
 use Rattle.model.proofs.Accepted.{Passed, accepted-is, is-accepted}
 use Rattle.order.specs.{Order.settlingOrder, Order.orderVerdict, Reordered.write, Reordered.renamed, Reordered.symmetryIn, Reordered.reordered, RunBy.resultBy, RunBy.placeCounts}
 use Rattle.order.specs.RunBy.{placeTally, answerBy, listBy, talliedBy}
@@ -17,8 +17,8 @@ use Rattle.families.specs.Families.{Joined, familiesOf}
 use Rattle.families.proofs.{Joined.joined-one, FewerFamilies.joined-more, FewerFamilies.joined-fewer, FewerFamilies.families-same}
 use Rattle.families_figure.specs.Figure.{problemBare, figureFor, familiesLent}
 use Rattle.run_enough.specs.{AtLeast.Enough, AtLeast.enough, AtLeast.tooFew, AtLeast.unknown, AtLeast.nodesTo, AtLeast.enoughOf, Lent.enoughLent}
-use Rattle.run_retyped.specs.{Retyped.SameSearch, Retyped.SameButOrder, LentClaims.SameRunsLent, LentClaims.Retyped-lent}
-use Rattle.run_retyped.specs.LentClaims.{Retyped-accepted-lent, Retyped-exactly, Retyped-enough, Retyped-families}
+use Rattle.run_retyped.specs.{Retyped.SameSearch, Retyped.SameButOrder, LentClaims.SameRunsLent, LentClaims.Retyped-lent, LentClaims.Retyped-accepted-lent, LentClaims.Retyped-exactly}
+use Rattle.run_retyped.specs.inner.Figures.{Retyped-enough, Retyped-families}
 use Rattle.run_retyped.proofs.{SameSearch.SameSymmetries, SameSearch.same-search, Retyped.same-symmetries, Retyped.retyped-accepted}
 use Rattle.model.proofs.Asked as A
 use Rattle.block.proofs.Tables as B

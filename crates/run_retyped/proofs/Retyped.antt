@@ -2,10 +2,10 @@
 use Rattle.model.specs.Kit.{_≡_, refl, sym, ap, ap₂, _∙_, subst, not, List, [], _∷_, map, List·Memᴰ, List·Memᴰ·head, List·Memᴰ·tail, Memᴰ·map, Memᴰ·of-map, ℕ, zero, suc, _+_, _*_}
 use Rattle.model.specs.Kit.{_^_, _≤_, _<_, arith, T, leb, ltb, eqb, leb→le, length, take, drop, getD-drop}
 use mathlib.Core.List.{List·Permᴰ, List·Permᴰ·nil, List·Permᴰ·cons, List·Permᴰ·swap, List·Permᴰ·trans, Permᴰ·symm, map-map}
-use Rattle.model.specs.{Lists.all, Lists.both, Lists.at, Lists.below, Lists.ascending, Lists.rowsAscend, Problem.Problem, Problem.respects, Problem.withSymmetries, Verdict.Verdict}
-use Rattle.model.specs.{Verdict.accepted, Verdict.ask, Verdict.isAccepted, Sheet.Header, Sheet.word, Sheet.words, Sheet.headerOf, Sheet.scopeAt, Sheet.rowsAt, Sheet.afterAt}
-use Rattle.model.specs.Sheet.{constraintsFrom, tableAt, problemOf, setsVerdict, constraintVerdict, constraintsVerdict, headerVerdict, formVerdict, permutesPairs, symmetriesVerdict}
-use Rattle.model.specs.{Sheet.verdictOf, WellFormed.WellFormed, WellFormed.Respected}
+use Rattle.model.specs.Sheet.{Header, word, words, headerOf, scopeAt, rowsAt, afterAt, constraintsFrom, tableAt, problemOf, setsVerdict, constraintVerdict, constraintsVerdict, headerVerdict}
+use Rattle.model.specs.Sheet.{formVerdict, permutesPairs, symmetriesVerdict, verdictOf}
+use Rattle.model.specs.{Lists.all, Lists.both, Lists.at, Lists.below, Lists.ascending, Lists.rowsAscend, Problem.Problem, Problem.respects, Problem.withSymmetries, Verdict.Verdict, Verdict.accepted}
+use Rattle.model.specs.{Verdict.ask, Verdict.isAccepted, inner.WellFormed.WellFormed, inner.WellFormed.Respected}
 use Rattle.run_retyped.specs.Retyped.{blockSize, blocks, SameButOrder}
 use Rattle.run_retyped.proofs.SameSearch.{SameSymmetries}
 use Rattle.model.proofs.{Lists.at-take, Lists.below-e, Lists.map-ext, Accepted.Passed, Accepted.passed, Accepted.asked, OneMore.after-low, OneMore.arity, OneMore.count}

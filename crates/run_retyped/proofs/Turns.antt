@@ -1,7 +1,8 @@
 -- Paper 02, #109, the filter: twice is once, smaller sets leave smaller remainders, and two lists by turns leave the largest sets that both leave alone. Assumes nothing.
 use Rattle.model.specs.Kit.{_≡_, refl, sym, ap, _∙_, subst, Bool, true, false, List, ℕ, zero, suc, _*_, _^_, _≤_, _<_, arith, T, ltb, length, ltb-true, ltb-false}
 use Rattle.model.specs.{Lists.at, Lists.same, ValueSets.has, ValueSets.Inside, Nogood.Entry, Nogood.filtered, inner.Pruning.Sets}
-use Rattle.run_retyped.specs.Retyped.{Within, Filter-twice, Filter-within, turns, byTurns, Applied, none, first, second, LargestLeft, Turns-largest, Turns-either, Turns-any}
+use Rattle.run_retyped.specs.Retyped.{Within}
+use Rattle.run_retyped.specs.inner.Turns.{Filter-twice, Filter-within, turns, byTurns, Applied, none, first, second, LargestLeft, Turns-largest, Turns-either, Turns-any}
 use Rattle.model.proofs.{Lists.T-of, Lists.of-not, Lists.same-eq, Lists.same-refl, Sets.inside-refl, Sets.inside-trans, Sets.inside-antisym, Sets.size, Sets.size-le}
 use Rattle.model.proofs.{Sets.size-strict, Filter.length-filtered, Filter.filtered-sets, Filter.filtered-inside, Filter.filtered-mono, Filter.filtered-idem}
 

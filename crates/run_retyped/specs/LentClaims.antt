@@ -4,9 +4,6 @@ use Rattle.model.specs.Kit.{_≡_, _↔_, List, ℕ}
 use Rattle.model.specs.{Verdict.accepted, Run.Tally}
 use Rattle.order.specs.RunBy.{setsBy}
 use Rattle.run_input.specs.Lent.{verdictLent, problemWith, orderLent, problemLent, answerLent, listLent, tallyLent}
-use Rattle.families.specs.Families.{Joined, familiesOf}
-use Rattle.families_figure.specs.Figure.{familiesLent}
-use Rattle.run_enough.specs.Lent.{enoughLent}
 use Rattle.run_retyped.specs.Retyped.{SameSearch, SameButOrder}
 
 -- no run can tell them apart: the same sets, by place number, at every prefix, the same tree, and under one limit and room the same answer, list and tally
@@ -27,16 +24,3 @@ Retyped-accepted-lent = (b c pairs block : List ℕ) → verdictLent b pairs blo
 -- so of two that differ only so, seen from either, one is accepted exactly if the other is
 abbrev pub Retyped-exactly : Type 0
 Retyped-exactly = (b c pairs block : List ℕ) → SameButOrder b c → SameButOrder c b → (verdictLent b pairs block ≡ accepted) ↔ (verdictLent c pairs block ≡ accepted)
-
--- the same answer to "at least m plans?" (#101)
-abbrev pub Retyped-enough : Type 0
-Retyped-enough =
-    (b c pairs block : List ℕ) → verdictLent b pairs block ≡ accepted → SameButOrder b c → (limit m : ℕ) → enoughLent c pairs block limit m ≡ enoughLent b pairs block limit m
-
--- the same families, and the same figure (#104)
-abbrev pub Retyped-families : Type 0
-Retyped-families =
-    (b c pairs block : List ℕ) → verdictLent b pairs block ≡ accepted → SameButOrder b c →
-    (familiesOf (problemWith c block) ≡ familiesOf (problemWith b block))
-    × ((s t : List ℕ) → Joined (problemWith c block) s t ↔ Joined (problemWith b block) s t)
-    × ((limit room : ℕ) → familiesLent c pairs block limit room ≡ familiesLent b pairs block limit room)

@@ -3,7 +3,7 @@
 use Rattle.model.specs.Kit.{_≡_, refl, sym, ap, ap₂, _∙_, subst, Bool, true, false, List, [], _∷_, _++_, ℕ, suc, _+_, _-_, _*_, _^_, _≤_, _<_, add-one, arith, T, not-true}
 use Rattle.model.specs.Kit.{not-false, length, take, set, length-set}
 use Rattle.model.specs.{Lists.at, ValueSets.has, ValueSets.withoutMask, ValueSets.lowestOf, Problem.Problem, Search.setsAt, Search.isLive, Search.nodesBelow, Run.Tally}
-use Rattle.model.specs.{Run.settledBy, WellFormed.WellFormed}
+use Rattle.model.specs.{Run.settledBy, inner.WellFormed.WellFormed}
 use Rattle.model.proofs.{Lists.T-of, Lists.both-l, Lists.at-set, Lists.at-set-other, Sets.mask-e, Lowest.lowest-in, Lowest.without-less, Tree.well-sized}
 use Rattle.order.specs.{Order.Ordering, Reordered.write}
 use Rattle.arrays.specs.inner.Places.{VARIABLES, LIMIT, ROOM, PLANS, LAST, MARKS, ALL, SPENT, DEEPER, WORK, DIAGONAL}

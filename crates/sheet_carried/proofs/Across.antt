@@ -1,7 +1,7 @@
 -- Rows of a constraint on the images that come from rows: for the values of one variable at a time. Assumes nothing.
 use Rattle.model.specs.Kit.{_≡_, refl, sym, ap, ap₂, _∙_, subst, true, not, List, [], _∷_, _⊎_, inl, inr, ⊎-elim, ℕ, suc, _+_, _*_, _/_, _%_, _<_, arith, T, eqb, not-T, length}
 use Rattle.model.specs.Kit.{drop, bitAnd}
-use Rattle.model.specs.{Lists.any, Lists.at, Lists.both, ValueSets.has, ValueSets.maskOf, ValueSets.commonMask, Problem.Problem, Problem.constraintAt, WellFormed.Stated}
+use Rattle.model.specs.{Lists.any, Lists.at, Lists.both, ValueSets.has, ValueSets.maskOf, ValueSets.commonMask, Problem.Problem, Problem.constraintAt, inner.WellFormed.Stated}
 use Rattle.model.proofs.{Lists.T-dec, Lists.both-i, Lists.mem-at, Lists.among-e, Sets.mask-i}
 use Rattle.arrays.specs.inner.Places.{SUPPORTS}
 use Rattle.sheet_table.specs.{inner.Table.Ready, inner.Forbidden.blocked, inner.Forbidden.numberOf, inner.Forbidden.MaybePair, inner.Forbidden.On}

@@ -5,7 +5,7 @@ use Rattle.model.specs.Kit.{ltb-true, ltb-false}
 use mathlib.Core.List.{List·Memᴰ·eq-of-singleton}
 use Rattle.model.specs.{Lists.any, Lists.keep, Lists.at, Lists.same, ValueSets.has, ValueSets.members, Problem.Problem, Problem.Constraint, Problem.pair, Problem.pairsAt}
 use Rattle.model.specs.Problem.{within, assignments, excluded, forbidden, constraintAt}
-use Rattle.model.specs.WellFormed.{Stated}
+use Rattle.model.specs.inner.WellFormed.{Stated}
 use Rattle.model.proofs.Lists.{T-of, T-ext, of-not, both-i, both-l, both-r, any-e, any-i, keep-e, keep-i, flat-i, flat-e}
 use Rattle.model.proofs.{Sets.members-i, Sets.members-e, Pairs.within-i, Pairs.within-e, Pairs.doubled-e, Pairs.doubled-i, Pairs.forbidden-e, Pairs.forbidden-doubled, Pairs.init-lt}
 use Rattle.model.proofs.Pairs.{pair-lt}

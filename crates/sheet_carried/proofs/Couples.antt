@@ -2,7 +2,8 @@
 use Rattle.model.specs.Kit.{_≡_, sym, ap, _∙_, subst, true, false, List, [], _∷_, List·Memᴰ, List·Memᴰ·head, List·Memᴰ·tail, List·Memᴰ·not-nil, ℕ, zero, suc, _+_, _*_, _/_, _%_}
 use Rattle.model.specs.Kit.{_^_, _≤_, _<_, lt-of-le-of-lt, lt-of-lt-of-le, not-suc-le-zero, le-of-suc-le-suc, arith, T, eqb, ltb, ltb→lt, length, bitAnd, and-le-l, trailingZeros}
 use lib.Pow.{pow-mono}
-use Rattle.model.specs.{Lists.any, Lists.at, Lists.same, Lists.ascending, ValueSets.has, Problem.Problem, Problem.pairsAt, Problem.constraintAt, WellFormed.Stated, WellFormed.GoodConstraint}
+use Rattle.model.specs.{Lists.any, Lists.at, Lists.same, Lists.ascending, ValueSets.has, Problem.Problem, Problem.pairsAt, Problem.constraintAt, inner.WellFormed.Stated}
+use Rattle.model.specs.inner.WellFormed.{GoodConstraint}
 use Rattle.model.proofs.{Lists.of-not, Lists.both-l, Lists.both-r, Lists.among-e, Sets.has-lt, Masks.has-and, Members.low-has, Pairs.forbidden-excluded}
 use Rattle.arrays.specs.inner.Places.{SUPPORTS}
 use Rattle.arrays.proofs.Links.{is-one}

@@ -2,7 +2,7 @@
 use Rattle.model.specs.Kit.{_≡_, refl, sym, ap, ap₂, _∙_, subst, Bool, true, false, not, List, [], _∷_, _++_, map, List·Memᴰ, ℕ, zero, suc, _+_, _*_, _/_, _%_, _≤_, _<_}
 use Rattle.model.specs.Kit.{not-suc-le-zero, add-one, arith, T, eqb, ltb, ltb→lt, lt→ltb, length, take, length-map, length-take-le, getD-take}
 use lib.Seq.{take-suc, take-length}
-use Rattle.model.specs.{Lists.all, Lists.any, Lists.at, Lists.same, Lists.both, ValueSets.has, Problem.Problem, Problem.Constraint, Problem.constraintAt, WellFormed.GoodConstraint}
+use Rattle.model.specs.{Lists.all, Lists.any, Lists.at, Lists.same, Lists.both, ValueSets.has, Problem.Problem, Problem.Constraint, Problem.constraintAt, inner.WellFormed.GoodConstraint}
 use Rattle.model.proofs.Lists.{of-T, not-of, both-l, all-i, all-e, at-mem, mem-at, at-map, map-append}
 use Rattle.arrays.specs.inner.Places.{SUPPORTS}
 use Rattle.sheet_table.specs.{inner.Table.Ready, inner.Forbidden.packed, inner.Forbidden.valueIn, inner.Forbidden.refusedBy, inner.Forbidden.LookedUp}

@@ -6,7 +6,7 @@ use native.Mathlib.Nat.{mul-comm}
 use lib.Bits.{or-zero-r}
 use lib.Pow.{pow-mono}
 use Rattle.model.specs.{Lists.any, Lists.at, Lists.same, Lists.both, Lists.ascending, ValueSets.has, ValueSets.maskOf, ValueSets.fullMask, ValueSets.onlyMask, ValueSets.unionMask}
-use Rattle.model.specs.{Problem.Problem, Problem.pairsAt, Problem.constraintAt, WellFormed.Stated, WellFormed.GoodConstraint}
+use Rattle.model.specs.{Problem.Problem, Problem.pairsAt, Problem.constraintAt, inner.WellFormed.Stated, inner.WellFormed.GoodConstraint}
 use Rattle.model.proofs.{Lists.T-of, Lists.of-T, Lists.both-l, Lists.both-r, Lists.among-e, Sets.has-lt, Sets.has-none, Sets.mask-e, Masks.has-and, Masks.has-one, Members.low-has}
 use Rattle.model.proofs.{Lowest.with-one, Filling.gathered-begin, Filling.gathered-more, Pairs.forbidden-excluded}
 use Rattle.arrays.specs.inner.Places.{SUPPORTS}

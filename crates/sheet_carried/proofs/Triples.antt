@@ -1,7 +1,7 @@
 -- When three pairs hold a forbidden set: two of them clash, or a constraint refuses them. Assumes nothing.
 use Rattle.model.specs.Kit.{_≡_, refl, sym, ap, ap₂, _∙_, subst, Bool, true, false, not, List, [], _∷_, map, List·Memᴰ, List·Memᴰ·head, List·Memᴰ·tail, List·Memᴰ·not-nil}
 use Rattle.model.specs.Kit.{Memᴰ·cast, _⊎_, inl, inr, ⊎-elim, ℕ, _/_, _%_, _<_, arith, T, T-not, not-T, eqb, ltb, ltb→lt, lt→ltb, length, eqb-true, eqb-false}
-use Rattle.model.specs.{Lists.all, Lists.any, Lists.at, Lists.same, Lists.choose, ValueSets.has, Problem.Problem, Problem.Constraint, Problem.pair, Problem.pairsAt, WellFormed.Stated}
+use Rattle.model.specs.{Lists.all, Lists.any, Lists.at, Lists.same, Lists.choose, ValueSets.has, Problem.Problem, Problem.Constraint, Problem.pair, Problem.pairsAt, inner.WellFormed.Stated}
 use Rattle.model.specs.Problem.{constraintAt}
 use Rattle.model.proofs.{Lists.both-i, Lists.both-l, Lists.both-r, Lists.all-e, Lists.all-i, Pairs.doubled-e, Pairs.forbidden-e, Pairs.forbidden-excluded, Pairs.init-lt}
 use Rattle.arrays.proofs.Links.{is-one}

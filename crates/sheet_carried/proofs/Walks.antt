@@ -3,7 +3,7 @@ use Rattle.model.specs.Kit.{_≡_, refl, sym, ap, ap₂, _∙_, subst, Bool, tr
 use Rattle.model.specs.Kit.{_⊎_, inl, inr, ⊎-elim, ℕ, suc, _+_, _-_, _*_, _≤_, _<_, not-suc-le-zero, le-of-suc-le-suc, arith, T, not-T, T-not, length, drop}
 use lib.Seq.{drop-cons, drop-length}
 use Rattle.model.specs.{Lists.all, Lists.any, Lists.at, Lists.same, Lists.both, Lists.either, ValueSets.has, ValueSets.maskOf, ValueSets.commonMask, ValueSets.withoutMask}
-use Rattle.model.specs.{ValueSets.members, ValueSets.lowestOf, Problem.Problem, Problem.constraintAt, WellFormed.Stated, WellFormed.GoodConstraint}
+use Rattle.model.specs.{ValueSets.members, ValueSets.lowestOf, Problem.Problem, Problem.constraintAt, inner.WellFormed.Stated, inner.WellFormed.GoodConstraint}
 use Rattle.model.proofs.Lists.{T-ext, of-T, T-of, not-of, both-i, both-l, both-r, all-e, all-i, mem-at, either-l, T-dec, length-snoc}
 use Rattle.model.proofs.{Sets.has-mask, Sets.mask-lt, Sets.mask-e, Sets.members-i, Sets.members-e, Lowest.lowest-in, Lowest.without-e, Lowest.without-less}
 use Rattle.arrays.specs.inner.Places.{SUPPORTS}

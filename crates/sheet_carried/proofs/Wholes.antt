@@ -1,6 +1,6 @@
 -- Rows of a constraint on the images that come from rows: for the values of all three variables at once. Assumes nothing.
 use Rattle.model.specs.Kit.{_≡_, refl, sym, ap, ap₂, _∙_, subst, true, List, [], _∷_, _⊎_, inl, inr, ⊎-elim, ℕ, _+_, _*_, _/_, _%_, _<_, arith, bitAnd, T, eqb, length, drop}
-use Rattle.model.specs.{Lists.any, Lists.at, Lists.both, ValueSets.has, ValueSets.members, ValueSets.commonMask, Problem.Problem, Problem.constraintAt, WellFormed.Stated}
+use Rattle.model.specs.{Lists.any, Lists.at, Lists.both, ValueSets.has, ValueSets.members, ValueSets.commonMask, Problem.Problem, Problem.constraintAt, inner.WellFormed.Stated}
 use Rattle.model.proofs.{Lists.T-dec, Lists.T-of, Lists.of-T, Lists.all-i, Lists.both-i, Lists.mem-at, Lists.among-e, Sets.mask-i, Sets.members-e}
 use Rattle.sheet_table.specs.{inner.Table.Ready, inner.Forbidden.On, inner.Forbidden.Across, inner.Forbidden.Three, inner.Forbidden.Walking}
 use Rattle.sheet_table.specs.inner.Forbidden.{FromRow, FromRows, FirstsFrom, SecondsFrom, Whole, WholeFrom, keeps}

@@ -4,7 +4,7 @@ use Rattle.model.specs.Kit.{_<_, arith, T, leb, ltb, eqb, leb→le, eqb→eq, l
 use Rattle.model.specs.{Lists.all, Lists.keep, Lists.flat, Lists.upFrom, Lists.below, Lists.at, Lists.both, Lists.ascending, Lists.rowsAscend, Bytes.twoBytes, Problem.Problem}
 use Rattle.model.specs.{Problem.Constraint, Problem.assignments, Problem.isPair, ValueSets.has, ValueSets.members, Verdict.Verdict, Verdict.isAccepted, Sheet.word, Sheet.words}
 use Rattle.model.specs.Sheet.{Header, headerOf, scopeAt, rowsAt, afterAt, constraintsFrom, tableAt, problemOf, distinct, permutesPairs, constraintsVerdict, verdictOf}
-use Rattle.model.specs.{Sheet.constraintVerdict, WellFormed.GoodSymmetry}
+use Rattle.model.specs.{Sheet.constraintVerdict, inner.WellFormed.GoodSymmetry}
 use Rattle.model.proofs.{Lists.all-e, Lists.below-i, Lists.upFrom-i, Lists.length-below, Lists.flat-i, Lists.keep-i, Lists.both-l, Lists.both-r, Assignments.assign-i}
 use Rattle.model.proofs.Accepted.{Passed, asked, length-words, at-words, passed, is-accepted, length-constraints}
 use Rattle.sheet.proofs.Words.{map-all-e, words-all-e}

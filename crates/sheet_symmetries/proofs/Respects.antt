@@ -2,7 +2,7 @@
 use Rattle.model.specs.Kit.{_≡_, refl, sym, ap, ap₂, _∙_, Bool, true, not, List, [], _∷_, _++_, map, append-nil, List·Memᴰ, List·Memᴰ·head, List·Memᴰ·tail, ℕ, _+_, _*_, _<_, arith}
 use Rattle.model.specs.Kit.{T, ltb, lt-ltb, le-ltb}
 use lib.Seq.{append-snoc}
-use Rattle.model.specs.{Lists.all, Lists.any, Lists.keep, Lists.flat, Lists.below, Lists.at, Lists.same, Lists.both, Lists.either, ValueSets.members, Problem.Problem, WellFormed.Stated}
+use Rattle.model.specs.{Lists.all, Lists.any, Lists.keep, Lists.flat, Lists.below, Lists.at, Lists.same, Lists.both, Lists.either, ValueSets.members, Problem.Problem, inner.WellFormed.Stated}
 use Rattle.model.specs.Problem.{Constraint, pair, pairsAt, assignments, doubled, excluded, forbidden, respects}
 use Rattle.model.specs.Sheet.{permutesPairs}
 use Rattle.model.proofs.{Lists.all-cons, Lists.keep-yes, Lists.keep-no, Lists.keep-e, Lists.Sorted, Lists.below-e, Lists.both-true, Sets.members-e, Sets.members-sorted}

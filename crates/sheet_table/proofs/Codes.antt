@@ -4,7 +4,7 @@ use Rattle.model.specs.Kit.{mul-le-mul-right, lt-of-lt-of-le, arith, T, eqb, le
 use native.Mathlib.Nat.{div-add-mod', div-lt-iff-lt-mul, mod-lt}
 use lib.Pow.{pow-mono}
 use Rattle.model.specs.{Lists.at, Lists.all, Lists.below, ValueSets.has, Problem.Problem, Problem.pair, Problem.isPair, Problem.constraintAt, Sheet.permutesPairs, Sheet.distinct}
-use Rattle.model.specs.WellFormed.{Stated, GoodConstraint}
+use Rattle.model.specs.inner.WellFormed.{Stated, GoodConstraint}
 use Rattle.model.proofs.{Lists.both-l, Lists.all-e, Lists.below-i}
 use Rattle.model.proofs.Pairs.{init-lt, pair-of, pair-lt, pair-first, pair-second, isPair-i, isPair-lt, isPair-has}
 use Rattle.arrays.specs.inner.Layout.{pairCode}

@@ -1,7 +1,7 @@
 -- Where a table takes the variables, and which values its images come from: one step further. Assumes nothing.
 use Rattle.model.specs.Kit.{_≡_, refl, sym, _∙_, subst, Bool, true, false, List, ℕ, _+_, _*_, _<_, not-suc-le-zero, arith, eqb, length, set, replicate, length-set, eqb-true}
 use Rattle.model.specs.Kit.{eqb-false}
-use Rattle.model.specs.{Lists.at, Problem.Problem, WellFormed.Stated}
+use Rattle.model.specs.{Lists.at, Problem.Problem, inner.WellFormed.Stated}
 use Rattle.model.proofs.Lists.{at-replicate, at-set, at-set-other, set-each}
 use Rattle.sheet_table.specs.{inner.Forbidden.Coded, inner.Forbidden.Back, inner.Forbidden.Blank, inner.Forbidden.Target, inner.Forbidden.Moved}
 

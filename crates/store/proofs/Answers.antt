@@ -3,8 +3,8 @@ use Rattle.model.specs.Kit.{_≡_, sym, ap, ap₂, _∙_, Bool, List, _++_, ℕ
 use Rattle.model.specs.Kit.{le-leb, lt-leb}
 use native.Mathlib.Nat.{zero-add}
 use Rattle.model.specs.{Lists.at, Verdict.Verdict, Verdict.accepted, Verdict.refused, Verdict.ask, Sheet.«word», Written.placed, Room.Outcome, Room.wrote, Room.refusal}
-use Rattle.store.specs.Store.{StoreEntry, table, isTable, tableIn, Action, put, fetch, remove, call, actionVerdict, callVerdict, storeAfter, copiedOut, roomIn, replyOf}
-use Rattle.store.specs.Layout.{size, slotAt, tableAt, slotWith, storeOf, slotFor, changed, verdictOn, replyOn, bytesAfter}
+use Rattle.store.specs.Store.{StoreEntry, table, isTable, tableIn, Action, put, fetch, remove, call, actionVerdict, callVerdict, storeAfter, copiedOut, roomIn, replyOf, size}
+use Rattle.store.specs.inner.Layout.{slotAt, tableAt, slotWith, storeOf, slotFor, changed, verdictOn, replyOn, bytesAfter}
 use Rattle.store.proofs.{Slots.entry-there, Free.held-with, Free.room-left, Calls.after-accepted, Calls.after-refused, Calls.verdict-whole, Calls.means-after}
 
 -- ---- by the verdict

@@ -1,15 +1,15 @@
--- A call on bytes is the call on the store that they mean (specs/inner/Claims). Assumes nothing.
+-- A call on bytes is the call on the store that they mean (specs/Calls, specs/inner/Claims). Assumes nothing.
 use Rattle.model.specs.Kit.{_≡_, refl, sym, ap, ap₂, _∙_, subst, Bool, true, false, List, [], _∷_, List·Memᴰ, List·Memᴰ·head, List·Memᴰ·tail, ℕ, zero, suc, _+_, _-_, _≤_, _<_}
 use Rattle.model.specs.Kit.{arith, leb, ltb, eqb, leb→le, length, set, replicate, length-replicate, ltb-true, ltb-false, eqb-true, eqb-false, eq-eqb, ne-eqb}
 use mathlib.Core.Path.{fun-ext}
 use lib.Seq.{set-out}
 use Rattle.model.specs.{Lists.both, Lists.either, Lists.choose, Lists.at, Verdict.Verdict, Verdict.accepted, Verdict.refused, Verdict.ask, Verdict.isAccepted, Written.placed}
 use Rattle.model.proofs.{Lists.of-T, Lists.at-replicate, Lists.set-each, Written.length-placed, Written.placed-before, Written.placed-in, Written.placed-after}
-use Rattle.store.specs.Store.{isTable, Store, keysOf, Action, put, fetch, remove, StoreCall, call, actionVerdict, callVerdict, entryAfter, storeAfter, StoreReply, replyOf}
-use Rattle.store.specs.{Store.ownerOf, Layout.size, Layout.slotAt, Layout.holds, Layout.slotWith, Layout.storeOf, Layout.slotFor}
-use Rattle.store.specs.{Layout.slotBytes, Layout.freed, Layout.changed, Layout.verdictOn, Layout.replyOn, Layout.bytesAfter}
-use Rattle.store.specs.inner.Claims.{replyTo, storeEnd, repliesTo, Each-call, bytesEnd, repliesOn, All-calls, Isolated-bytes}
-use Rattle.store.specs.Calls.{StoreBytes, ByteCall, ByteCalls, Zeros-empty}
+use Rattle.store.specs.Store.{isTable, Store, keysOf, Action, put, fetch, remove, StoreCall, call, actionVerdict, callVerdict, entryAfter, storeAfter, StoreReply, replyOf, ownerOf, size}
+use Rattle.store.specs.Store.{replyTo}
+use Rattle.store.specs.inner.Layout.{slotAt, holds, slotWith, storeOf, slotFor, slotBytes, freed, changed, verdictOn, replyOn, bytesAfter}
+use Rattle.store.specs.{inner.Claims.storeEnd, inner.Claims.repliesTo, inner.Claims.bytesEnd, inner.Claims.repliesOn, inner.Claims.All-calls, inner.Claims.Isolated-bytes, Calls.Each-call}
+use Rattle.store.specs.Calls.{StoreBytes, ByteCall, ByteCalls, Zeros-empty, Other-size}
 use Rattle.store.proofs.{Store.here-after, Store.there-after, Store.refused-same, Store.ask-e, Store.isolated, Slots.holds-free, Slots.with-is, Slots.entry-none}
 use Rattle.store.proofs.Slots.{put-here, put-there, put-elsewhere, remove-here, remove-there, remove-elsewhere, freed-length}
 use Rattle.store.proofs.Free.{room-left}
@@ -142,6 +142,12 @@ each-call b (call o key a) g k = (
     go : (v : Verdict) → verdictOn b (call o key a) ≡ v → StoreBytes (bytesAfter b (call o key a))
     go accepted e = subst StoreBytes (sym (after-accepted b (call o key a) e)) (changed-bytes b (call o key a) g k (sym (verdict-whole b (call o key a) (g .0)) ∙ e))
     go (refused number item) e = subst StoreBytes (sym (after-refused b (call o key a) e)) g
+
+pub other-size : Other-size
+unfolding replyOn
+other-size b o key a n =
+    let e = verdict-wrong b (call o key a) n in
+    (ap (λ (v : Verdict). replyOf v a (storeOf b o key)) e, after-refused b (call o key a) e)
 
 same-replies : (o : ℕ) (b : List ℕ) (xs : List StoreCall) → StoreBytes b → ByteCalls xs → repliesOn o b xs ≡ repliesTo o (storeOf b) xs
 unfolding repliesOn repliesTo

@@ -4,7 +4,7 @@ use Rattle.model.specs.Kit.{length, length-map, ltb-true, ltb-false, lt-ltb, le
 use Rattle.model.specs.{ValueSets.least, Lists.either, Lists.keep, Lists.below, Lists.upFrom, Lists.at}
 use Rattle.model.proofs.{Lists.T-of, Lists.of-T, Lists.keep-i, Lists.keep-e, Lists.below-i, Lists.below-e, Lists.length-below, Counting.distinct-below, Counting.no-more}
 use Rattle.model.proofs.Least.{first-no, first-yes}
-use Rattle.store.specs.{Store.isTable, Store.keysOf, Layout.slotAt, Layout.slotWith, Layout.storeOf, Layout.isFree, Layout.slotFor}
+use Rattle.store.specs.{Store.isTable, Store.keysOf, inner.Layout.slotAt, inner.Layout.slotWith, inner.Layout.storeOf, inner.Layout.isFree, inner.Layout.slotFor}
 use Rattle.store.proofs.{Store.keys-distinct, Slots.holds-e, Slots.holds-i, Slots.with-holds, Slots.with-before, Slots.entry-there, Slots.entry-none, Slots.for-held}
 use Rattle.store.proofs.Slots.{for-free, free-no}
 

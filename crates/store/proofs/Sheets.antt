@@ -5,9 +5,8 @@ use Rattle.model.specs.{Lists.all, Lists.both, Lists.below, Lists.at, Lists.asc
 use Rattle.model.specs.Sheet.{words, headerOf, scopeAt, rowsAt, afterAt, tableAt, problemOf, headerVerdict, setsVerdict, constraintVerdict, constraintsVerdict, formVerdict}
 use Rattle.model.specs.Sheet.{symmetriesVerdict, verdictOf}
 use Rattle.model.proofs.Lists.{at-append, at-skip, map-ext}
-use Rattle.store.specs.{Store.StoreEntry, Store.table, Store.isTable, Store.tableIn, Store.call, Store.fetch, Store.actionVerdict, Store.replyOf, Layout.size, Layout.storeOf}
-use Rattle.store.specs.{Layout.verdictOn, Layout.replyOn}
-use Rattle.store.specs.inner.Claims.{Early, tablesIn, Asked-as-any}
+use Rattle.store.specs.{Store.StoreEntry, Store.table, Store.isTable, Store.tableIn, Store.call, Store.fetch, Store.actionVerdict, Store.replyOf, Store.size, inner.Layout.storeOf}
+use Rattle.store.specs.{inner.Layout.verdictOn, inner.Layout.replyOn, inner.Claims.Early, inner.Claims.tablesIn, inner.Claims.Asked-as-any}
 use Rattle.store.proofs.Answers.{asks-more}
 
 -- ---- an answer to an earlier question, or what is asked last

@@ -1,4 +1,4 @@
--- What the store's bytes mean (specs/Layout), and what they mean after a table was put into a slot and after slots were freed. Assumes nothing.
+-- What the store's bytes mean (specs/inner/Layout), and what they mean after a table was put into a slot and after slots were freed. Assumes nothing.
 use Rattle.model.specs.Kit.{_≡_, refl, sym, ap, ap₂, _∙_, subst, Bool, true, false, not, _⊎_, ⊎-elim, List, _∷_, _++_, append-assoc, ℕ, zero, suc, _+_, _*_, _/_, _%_, _≤_, _<_}
 use Rattle.model.specs.Kit.{min, add-one, arith, T-not, ltb, eqb, eqb→eq, length, take, drop, set, length-take, length-drop, length-set, getD-drop, length-take-le, ltb-true}
 use Rattle.model.specs.Kit.{ltb-false, lt-ltb, le-ltb, eq-eqb, ne-eqb, eqb-true, eqb-false}
@@ -7,8 +7,8 @@ use Rattle.model.specs.{ValueSets.least, Lists.both, Lists.either, Lists.choose
 use Rattle.model.proofs.Lists.{T-of, of-T, not-of, both-l, both-r, either-e, at-take, at-ext, at-set, at-set-other}
 use Rattle.model.proofs.{Written.length-placed, Written.placed-then, Written.placed-before, Written.placed-in, Written.placed-after, Least.first-is, Least.first-most}
 use Rattle.model.proofs.Least.{first-no, first-yes, first-before, first-same}
-use Rattle.store.specs.{Store.StoreEntry, Store.none, Store.table, Layout.size, Layout.slotAt, Layout.holds, Layout.tableAt, Layout.slotWith, Layout.storeOf, Layout.isFree}
-use Rattle.store.specs.Layout.{slotFor, slotBytes, freed}
+use Rattle.store.specs.{Store.StoreEntry, Store.none, Store.table, Store.size, inner.Layout.slotAt, inner.Layout.holds, inner.Layout.tableAt, inner.Layout.slotWith, inner.Layout.storeOf}
+use Rattle.store.specs.inner.Layout.{isFree, slotFor, slotBytes, freed}
 
 -- a text put at the front is read back
 pub read-back : (b t c : List ℕ) → c ≡ placed b 0 t → take (length t) c ≡ t

@@ -6,9 +6,9 @@ use Rattle.model.specs.{Lists.both, Lists.either, Lists.choose, Lists.keep, Lis
 use Rattle.model.specs.Sheet.{distinct}
 use Rattle.model.proofs.Lists.{T-of, of-T, not-of, of-not, both-i, both-l, both-r, either-l, either-r, either-e, keep-i, keep-e, keep-none, Sorted, sorted-keep, sorted-below, never}
 use Rattle.model.proofs.Counting.{distinct-i, no-more}
-use Rattle.store.specs.Store.{StoreEntry, none, table, isTable, tableIn, Entries, Store, emptyStore, keysOf, Action, put, fetch, remove, StoreCall, call, actionVerdict, callVerdict}
-use Rattle.store.specs.Store.{entryAfter, storeAfter, StoreReply, replyOf, ownerOf, callsOf}
-use Rattle.store.specs.inner.Claims.{replyTo, storeEnd, repliesTo, Isolated, writes, spares, allSpare, Fetches-last, Fetches-none, Four-keys, Refused-same}
+use Rattle.store.specs.Store.{StoreEntry, none, table, isTable, tableIn, Entries, Store, emptyStore, keysOf, Action, put, fetch, remove, StoreCall, call, actionVerdict, callVerdict, entryAfter}
+use Rattle.store.specs.Store.{storeAfter, StoreReply, replyOf, ownerOf, callsOf, replyTo}
+use Rattle.store.specs.inner.Claims.{storeEnd, repliesTo, Isolated, writes, spares, allSpare, Fetches-last, Fetches-none, Four-keys, Refused-same}
 
 -- ---- one call
 -- an owner's entries after its own call depend on its own entries alone

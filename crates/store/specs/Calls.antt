@@ -2,8 +2,9 @@
 -- the function's contract. And paper 02, #110, of what the owners hold who make calls one after another; proofs/Isolated has the theorem.
 use Rattle.model.specs.Kit.{_≡_, List, [], _∷_, List·Memᴰ, ℕ, _<_, length, replicate, eqb}
 use Rattle.model.specs.Lists.{at, choose}
-use Rattle.store.specs.Store.{emptyStore, StoreCall, call, put, fetch, remove, storeAfter, callsOf}
-use Rattle.store.specs.{Layout.size, Layout.storeOf, Layout.replyOn, Layout.bytesAfter, Meaning.means, declared.Answer.Answer}
+use Rattle.model.specs.Room.{refusal}
+use Rattle.store.specs.Store.{emptyStore, Action, StoreCall, call, put, fetch, remove, storeAfter, roomIn, replyTo, callsOf, size}
+use Rattle.store.specs.{inner.Layout.storeOf, inner.Layout.replyOn, inner.Layout.bytesAfter, Meaning.means, declared.Answer.Answer}
 
 abbrev pub CallPut : List ℕ → ℕ → ℕ → List ℕ → Answer → List ℕ → Type 0
 CallPut b owner key t r b′ =
@@ -33,6 +34,18 @@ ByteCalls xs = (x : StoreCall) → List·Memᴰ x xs → ByteCall x
 -- zeros are the empty store
 abbrev pub Zeros-empty : Type 0
 Zeros-empty = StoreBytes (replicate size 0) × (storeOf (replicate size 0) ≡ emptyStore)
+
+-- each call on bytes is the call on the store that they mean
+abbrev pub Each-call : Type 0
+Each-call =
+    (b : List ℕ) (x : StoreCall) → StoreBytes b → ByteCall x →
+    (replyOn b x ≡ replyTo (storeOf b) x) × (storeOf (bytesAfter b x) ≡ storeAfter (storeOf b) x) × StoreBytes (bytesAfter b x)
+
+-- bytes of another length get 255, and every buffer stays as it came
+abbrev pub Other-size : Type 0
+Other-size =
+    (b : List ℕ) (owner key : ℕ) (a : Action) → (length b ≡ size → ⊥) →
+    (replyOn b (call owner key a) ≡ record { outcome = refusal 255 0; room = roomIn a }) × (bytesAfter b (call owner key a) ≡ b)
 
 -- ---- calls one after another, of any owners
 -- what a call handed back: its answer, and the room at the end; none is lent to put and remove

@@ -87,6 +87,10 @@ roomIn remove = []
 abbrev pub replyOf : Verdict → Action → StoreEntry → StoreReply
 replyOf v a e = record { outcome = outcomeOf v (copiedOut a e); room = roomAfter v (copiedOut a e) (roomIn a) }
 
+-- the reply of a store
+unfoldable pub replyTo : Store → StoreCall → StoreReply
+replyTo s (call owner key a) = replyOf (callVerdict s (call owner key a)) a (s owner key)
+
 -- ---- calls one after another
 abbrev pub ownerOf : StoreCall → ℕ
 ownerOf (call owner key a) = owner
@@ -94,3 +98,7 @@ ownerOf (call owner key a) = owner
 -- one owner's calls among those of all
 unfoldable pub callsOf : ℕ → List StoreCall → List StoreCall
 callsOf o xs = keep (λ x. eqb (ownerOf x) o) xs
+
+-- ---- its bytes: how many there are (Calls says what they mean)
+abbrev pub size : ℕ
+size = 32832

@@ -1,4 +1,4 @@
-// The symmetry store (paper 02, #110) in lent bytes: tables under an owner (the paper's course) and a key (its hall). specs/Layout.antt says
+// The symmetry store (paper 02, #110) in lent bytes: tables under an owner (the paper's course) and a key (its hall). specs/inner/Layout.antt says
 // what any bytes mean; zeros are the empty store.
 use wire::place;
 ghost use mathlib.Core.Path.{_≡_};
@@ -7,7 +7,8 @@ ghost use lib.ListN.{length};
 ghost use Rattle.model.specs.ValueSets.{least};
 ghost use Rattle.model.specs.Sheet.{«word»};
 ghost use Rattle.model.specs.Written.{placed};
-ghost use Rattle.store.specs.Layout.{size, slotAt, holds, slotWith, isFree, slotFor, slotBytes, freed};
+ghost use Rattle.store.specs.Store.{size};
+ghost use Rattle.store.specs.inner.Layout.{slotAt, holds, slotWith, isFree, slotFor, slotBytes, freed};
 ghost use Rattle.store.specs.Calls.{CallPut, CallFetch, CallRemove};
 
 // The store's size in bytes.

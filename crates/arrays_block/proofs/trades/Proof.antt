@@ -1,6 +1,6 @@
 use Rattle.model.specs.Kit.{_≡_, refl, ℕ, _-_, _≤_, _<_, arith, needs, T}
 use Rattle.model.specs.Problem.{Problem}
-use Rattle.block.specs.Block.{factorial, isBlock, TradePasses}
+use Rattle.block.specs.{Block.factorial, Block.isBlock, inner.Claims.TradePasses}
 use Rattle.arrays_block.specs.inner.Asked.{Held}
 use Rattle.arrays_block.proofs.Asking.{few, symmetries-are, next-row, row-few, next-few, row-of, trade-no, trade-yes, trades-all}
 use Rattle.arrays_block.proofs.trades.Statement.{statement}

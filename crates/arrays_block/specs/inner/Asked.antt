@@ -1,6 +1,6 @@
 -- What the functions of this crate are lent.
 use Rattle.model.specs.Kit.{_≡_, List, ℕ, _+_, _*_, _≤_, _<_, length}
-use Rattle.model.specs.{Lists.at, Lists.flat, Problem.Problem, Problem.respects, inner.Filling.Filled, Sheet.words, Sheet.permutesPairs, WellFormed.WellFormed}
+use Rattle.model.specs.{Lists.at, Lists.flat, Problem.Problem, Problem.respects, inner.Filling.Filled, Sheet.words, Sheet.permutesPairs, inner.WellFormed.WellFormed}
 use Rattle.sheet_table.specs.inner.Table.{Framed, Ready, answerOf}
 use Rattle.arrays.specs.{inner.Layout.Images, inner.Layout.pairCode, inner.Places.IMAGES, inner.Places.WIDE}
 use Rattle.block.specs.Block.{orderings, factorial, orderingTable}

@@ -1,6 +1,6 @@
 -- Reordering the compiled problem: what the crate's function asks and leaves.
 use Rattle.model.specs.Kit.{_≡_, List, ℕ, _*_, _≤_, length, take}
-use Rattle.model.specs.{Lists.at, Problem.Problem, WellFormed.WellFormed}
+use Rattle.model.specs.{Lists.at, Problem.Problem, inner.WellFormed.WellFormed}
 use Rattle.order.specs.{Order.Ordering, Reordered.reordered}
 use Rattle.arrays.specs.{inner.Layout.Compiled, inner.Places.NUMBERS, inner.Places.SUPPORTS}
 

@@ -1,6 +1,6 @@
 -- Making the search's tables from the compiled problem: what the crate's function asks and leaves.
 use Rattle.model.specs.Kit.{_≡_, List, ℕ, _≤_, _<_, length}
-use Rattle.model.specs.{Lists.at, Problem.Problem, WellFormed.WellFormed}
+use Rattle.model.specs.{Lists.at, Problem.Problem, inner.WellFormed.WellFormed}
 use Rattle.arrays.specs.{inner.Places.LINKED, inner.Places.NUMBERS, inner.Places.TABLES, inner.Layout.Compiled, inner.Tables.Indexed}
 
 -- the arrays hold p, which has no more symmetries than they have room for; what is lent to write on has its length

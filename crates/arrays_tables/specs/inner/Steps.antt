@@ -1,7 +1,7 @@
 -- What the functions inside this crate say to each other.
 use Rattle.model.specs.Kit.{_≡_, Bool, true, false, List, [], _∷_, ℕ, _+_, _*_, _/_, _%_, _^_, _≤_, _<_, T, eqb, ltb, leb, length, set}
 use Rattle.model.specs.{Lists.any, Lists.at, Lists.keep, Lists.same, Lists.either, ValueSets.has, ValueSets.maskOf, ValueSets.members, Problem.Problem, Problem.constraintAt}
-use Rattle.model.specs.WellFormed.{WellFormed}
+use Rattle.model.specs.inner.WellFormed.{WellFormed}
 use Rattle.arrays.specs.inner.Places.{INITIAL, SCOPES, VARIABLES, VALUES, CONSTRAINTS, LINKED, LOOSE, SPREAD, UNIONS, SMALLER, OWN}
 use Rattle.arrays.specs.{inner.Layout.Numbers, inner.Layout.Supports, inner.Tables.linkOf, inner.Tables.Linked, inner.Tables.Words, inner.Tables.between}
 

@@ -2,7 +2,7 @@
 use Rattle.model.specs.Kit.{_≡_, refl, sym, ap₂, _∙_, _+_, _-_, _*_, _≤_, min, arith, needs}
 use Rattle.model.specs.{Lists.at, inner.Filling.Filled}
 use Rattle.model.proofs.Filling.{filled-begin, filled-turn, filled-end}
-use Rattle.desk.specs.{Places.LIMIT, Places.COUNTS, Layout.long, Layout.nodesAt}
+use Rattle.desk.specs.{inner.Places.LIMIT, inner.Places.COUNTS, inner.Layout.long, inner.Layout.nodesAt}
 use Rattle.desk.proofs.{Counts.counts-as, Slots.long-small, counts_at.Statement.statement}
 use Rattle.desk.proofs.counts_at.Tie as tie
 

@@ -1,7 +1,7 @@
 -- `read_long`: two words. Assumes nothing.
 use Rattle.model.specs.Kit.{ap₂, ℕ, _+_, _*_, arith, needs}
 use Rattle.model.specs.Lists.{at}
-use Rattle.desk.specs.Layout.{long}
+use Rattle.desk.specs.inner.Layout.{long}
 use Rattle.desk.proofs.{Slots.word-small, read_long.Statement.statement}
 use Rattle.desk.proofs.read_long.Tie as tie
 

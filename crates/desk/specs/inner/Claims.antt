@@ -4,10 +4,10 @@ use Rattle.model.specs.Kit.{_≡_, _⊎_, true, false, List, [], _∷_, _++_, L
 use Rattle.model.specs.{Lists.flat, Verdict.refused, Search.nodes, Sheet.verdictOf, Sheet.problemOf, Run.spent, Run.plansIn, Run.nodesIn}
 use Rattle.model.specs.Run.{written, tallyAt}
 use Rattle.run_cut.specs.Parts.{progressAt}
-use Rattle.desk.specs.Queue.{Standing, running, over, goesOn, Job, newJob, jobTurned, turned, free, taken, isFree, waits, Queue, emptyQueue, slotAt, QueueCall, submit, turn, release, QueueReply}
+use Rattle.desk.specs.Queue.{Standing, running, over, goesOn, Job, newJob, jobTurned, free, taken, isFree, waits, Queue, emptyQueue, slotAt, QueueCall, submit, turn, release, QueueReply}
 use Rattle.desk.specs.Queue.{refusal, answered, queued, idle, served, released, fits, releaseSlot, queueReply, queueAfter, queueEnd, queueReplies}
-use Rattle.desk.specs.{Queue.roundsQueue, Queue.turnsGiven, Queue.due, Layout.queueOf, Layout.replyOn, Layout.bytesAfter}
-use Rattle.desk.specs.Claims.{alone, serves, QueueBytes, ByteCall}
+use Rattle.desk.specs.{Rounds.turned, Rounds.roundsQueue, Rounds.turnsGiven, Rounds.due, inner.Layout.queueOf, inner.Layout.replyOn, inner.Layout.bytesAfter, Claims.alone, Claims.serves}
+use Rattle.desk.specs.Claims.{QueueBytes, ByteCall}
 
 unfoldable pub timesServed : ℕ → List QueueReply → ℕ
 timesServed k [] = 0

@@ -2,9 +2,8 @@
 -- (specs/Claims, specs/inner/Claims) is met by them.
 use Rattle.model.specs.Kit.{_≡_, List, [], _∷_, map, ℕ, replicate}
 use Rattle.model.specs.{Lists.flat, Bytes.twoBytes, Run.finished, Examples.sheetA}
-use Rattle.desk.specs.Queue.{running, over, Queue, emptyQueue, newJob, jobTurned, taken, slotAt, submit, turn, answered, queued, idle, served, queueEnd, queueReplies, statusReply}
-use Rattle.desk.specs.{Queue.statusCounts, Claims.WaitsOn}
-use Rattle.desk.specs.inner.Claims.{Throughout, Remains}
+use Rattle.desk.specs.Queue.{running, over, Queue, emptyQueue, newJob, jobTurned, taken, slotAt, submit, turn, answered, queued, idle, served, queueEnd, queueReplies}
+use Rattle.desk.specs.{Status.statusReply, Status.statusCounts, Claims.WaitsOn, inner.Claims.Throughout, inner.Claims.Remains}
 
 -- three windows, four values, no rule: 4 + 16 + 64 nodes
 abbrev pub sheetOpen : List ℕ

@@ -1,7 +1,7 @@
 -- Rounds of a queue of eight slots as the code goes them: each slot gets its turns at once. The proofs are in proofs/Rounds.
 use Rattle.model.specs.Kit.{_≡_, List, [], _∷_, map, ℕ, _+_, _%_, length, leb, ltb}
 use Rattle.model.specs.{Lists.both, Lists.choose}
-use Rattle.desk.specs.Queue.{Slot, free, taken, Queue, slotAt, roundFrom, dueAt, given, roundsQueue}
+use Rattle.desk.specs.{Queue.Slot, Queue.free, Queue.taken, Queue.Queue, Queue.slotAt, Queue.roundFrom, Rounds.dueAt, Rounds.given, Rounds.roundsQueue}
 
 abbrev pub slotGiven : ℕ → Slot → Slot
 slotGiven r free = free

@@ -1,7 +1,7 @@
 -- `release`: the queue's size, the slot's number, whether it is taken, the room. Assumes nothing.
 use Rattle.model.specs.Kit.{refl, _+_, _-_, _*_, arith, needs}
 use Rattle.model.specs.Lists.{at}
-use Rattle.desk.specs.Places.{LIST, SLOT}
+use Rattle.desk.specs.inner.Places.{LIST, SLOT}
 use Rattle.desk.proofs.{Slots.release-255, Slots.release-out, Slots.release-free, Slots.release-22, Slots.release-yes, Held.release-done}
 use Rattle.desk_slots.proofs.release.Statement.{statement}
 use Rattle.desk_slots.proofs.release.Tie as tie

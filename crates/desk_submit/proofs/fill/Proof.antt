@@ -2,7 +2,7 @@
 use Rattle.model.specs.Kit.{ap, _∙_, List, ℕ, _+_, arith, length, needs}
 use Rattle.model.specs.{Bytes.fourBytes, Written.placed}
 use Rattle.model.proofs.Written.{placed-then}
-use Rattle.desk.specs.{Places.SHEET, Layout.headBytes, Layout.slotBytes}
+use Rattle.desk.specs.{inner.Places.SHEET, inner.Layout.headBytes, inner.Layout.slotBytes}
 use Rattle.desk_submit.proofs.fill.Statement.{statement}
 use Rattle.desk_submit.proofs.fill.Tie as tie
 

@@ -1,7 +1,7 @@
 -- `lowest_free`: after k turns the first k slots are taken. Assumes nothing.
 use Rattle.model.specs.Kit.{_≡_, ℕ, _≤_, _<_, _-_, arith, needs}
 use Rattle.model.specs.Lists.{at}
-use Rattle.desk.specs.Layout.{slotPlace}
+use Rattle.desk.specs.inner.Layout.{slotPlace}
 use Rattle.desk.proofs.Slots.{lowest-is, lowest-none, more-taken}
 use Rattle.desk_submit.proofs.lowest_free.Statement.{statement}
 use Rattle.desk_submit.proofs.lowest_free.Tie as tie

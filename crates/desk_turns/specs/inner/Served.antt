@@ -4,8 +4,8 @@ use Rattle.model.specs.{Lists.at, Lists.flat, Lists.choose, Problem.Problem, Sh
 use Rattle.arrays.specs.inner.Places.{PLANS, LAST}
 use Rattle.run_cut.specs.Parts.{goOn, madeIn, lastAfter}
 use Rattle.run_state.specs.{inner.Pair.prefixOf, inner.Walk.stopIn}
-use Rattle.desk.specs.{Places.LIST, Places.LIST-PLANS, Queue.Job, Queue.listRoom, Queue.given, Queue.due, Queue.dueAt, Layout.slotPlace, Layout.sheetAt, Layout.jobAt}
-use Rattle.desk.specs.Layout.{slotOf, standingByte, withRun}
+use Rattle.desk.specs.{inner.Places.LIST, Queue.LIST-PLANS, Queue.Job, Queue.listRoom, Rounds.given, Rounds.due, Rounds.dueAt, inner.Layout.slotPlace, inner.Layout.sheetAt, inner.Layout.jobAt}
+use Rattle.desk.specs.inner.Layout.{slotOf, standingByte, withRun}
 use Rattle.desk_turns.specs.declared.serve.Served.{Served}
 
 -- the problem of the slot at p, and its run by so many nodes more

@@ -2,7 +2,7 @@
 use Rattle.model.specs.Kit.{sym, _∙_, _≤_, _-_, arith, needs}
 use Rattle.model.specs.Lists.{at}
 use Rattle.desk_waits.proofs.{Finding.Quiet, Finding.quiet-more, Finding.serve-is, Finding.serve-none, to_serve.Statement.statement}
-use Rattle.desk.specs.Places.{NEXT}
+use Rattle.desk.specs.inner.Places.{NEXT}
 use Rattle.desk_waits.proofs.to_serve.Tie as tie
 
 abbrev Inv-loop : tie.InvT-loop

@@ -2,7 +2,7 @@
 use Rattle.model.specs.Kit.{Bool, ap, _∙_, ℕ, _-_, _^_, _≤_, _<_, arith, or-lt, needs}
 use Rattle.model.specs.{ValueSets.oneIf, inner.Filling.Gathered}
 use Rattle.model.proofs.Filling.{gathered-begin, gathered-turn}
-use Rattle.desk.specs.{Queue.waits, Layout.slotOf}
+use Rattle.desk.specs.{Queue.waits, inner.Layout.slotOf}
 use Rattle.desk_waits.proofs.{Finding.one-lt, Finding.waiting-is, waiting.Statement.statement}
 use Rattle.desk_waits.proofs.waiting.Tie as tie
 

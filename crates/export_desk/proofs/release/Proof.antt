@@ -2,7 +2,7 @@
 use Rattle.model.specs.Kit.{sym, _∙_, subst, [], needs}
 use Rattle.model.specs.Lists.{at}
 use Rattle.desk.specs.{Queue.QueueReply, Meaning.means}
-use Rattle.export_desk.specs.Told.{Holds}
+use Rattle.export_desk.specs.inner.Fits.{Holds}
 use Rattle.export_desk.proofs.Replies.{code-any, answer-any, holds-any, release-reply, release-short, release-done}
 use Rattle.export_desk.proofs.release.Statement.{statement}
 use Rattle.export_desk.proofs.release.Tie as tie

@@ -2,12 +2,13 @@
 use Rattle.model.specs.Kit.{sym, ap, _∙_, subst, [], _++_, ℕ, arith, length, needs}
 use Rattle.desk.specs.{declared.Answer.Answer, Meaning.means}
 use Rattle.export_counts.specs.Tallied.{numbersOf}
-use Rattle.export_desk.specs.Told.{fourNumbers, replyCode, statusBytes, Sees}
+use Rattle.export_desk.specs.{Told.fourNumbers, Told.replyCode, Told.statusBytes, inner.Fits.Sees}
 use Rattle.export_desk.proofs.{Replies.all-counts, Replies.after-four, seen.Statement.statement}
 use Rattle.export_desk.proofs.seen.Tie as tie
 
 code-requires : tie.Need-code-requires
-code-requires c κs = subst (λ (q : Answer). Sees (means q []) (length (c .before .before .before .before .args .answer .now))) (c .before .r .given .1) (c .before .before .before .before .pre .0)
+code-requires c κs =
+    subst (λ (q : Answer). Sees (means q []) (length (c .before .before .before .before .args .answer .now))) (c .before .r .given .1) (c .before .before .before .before .pre .0)
 
 numbers-requires : tie.Need-numbers-requires
 numbers-requires c κs =

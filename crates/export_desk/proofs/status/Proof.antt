@@ -3,7 +3,7 @@ use Rattle.model.specs.Kit.{sym, subst, [], needs}
 use Rattle.model.specs.Lists.{at}
 use Rattle.desk.specs.{Queue.QueueReply, Meaning.means}
 use Rattle.export_counts.specs.inner.Inner.{Twelve}
-use Rattle.export_desk.specs.Told.{Sees}
+use Rattle.export_desk.specs.inner.Fits.{Sees}
 use Rattle.export_desk.proofs.{Replies.status-reply, Replies.status-twelve, Replies.status-short, Replies.status-done, status.Statement.statement}
 use Rattle.export_desk.proofs.status.Tie as tie
 

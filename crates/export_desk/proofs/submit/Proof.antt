@@ -2,7 +2,7 @@
 use Rattle.model.specs.Kit.{sym, subst, [], needs}
 use Rattle.model.specs.Lists.{at}
 use Rattle.desk.specs.{Queue.submit, Queue.QueueReply, Meaning.means}
-use Rattle.export_desk.specs.Told.{Holds}
+use Rattle.export_desk.specs.inner.Fits.{Holds}
 use Rattle.export_desk.proofs.{Replies.submit-reply, Replies.unanswered, Replies.replied, submit.Statement.statement}
 use Rattle.export_desk.proofs.submit.Tie as tie
 

@@ -1,7 +1,7 @@
 -- `told`: the kinds of reply. Assumes nothing.
 use Rattle.model.specs.Kit.{sym, ap, _∙_, subst, [], ℕ, arith, length, needs}
 use Rattle.desk.specs.{declared.Answer.Answer, Meaning.means}
-use Rattle.export_desk.specs.Told.{fourNumbers, replyCode, replyAnswer, Holds}
+use Rattle.export_desk.specs.{Told.fourNumbers, Told.replyCode, Told.replyAnswer, inner.Fits.Holds}
 use Rattle.export_desk.proofs.{Replies.sixteen, Replies.all-four, told.Statement.statement}
 use Rattle.export_desk.proofs.told.Tie as tie
 

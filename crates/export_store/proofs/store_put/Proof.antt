@@ -1,7 +1,7 @@
 -- `store_put`: the answer's length is asked first; then the call. Assumes nothing.
 use Rattle.model.specs.Kit.{sym, subst, needs}
 use Rattle.store.specs.{Store.call, Store.put, Meaning.means}
-use Rattle.export_store.specs.Stored.{Holds}
+use Rattle.export_store.specs.inner.Fits.{Holds}
 use Rattle.export_store.proofs.{Replies.reply-holds, Replies.unanswered, Replies.answered, store_put.Statement.statement}
 use Rattle.export_store.proofs.store_put.Tie as tie
 

@@ -2,7 +2,7 @@
 use Rattle.model.specs.Kit.{sym, ap, _∙_, subst, arith, needs}
 use Rattle.store.specs.{declared.Answer.Answer, Meaning.means}
 use Rattle.wire.specs.Outcomes.{outcomeCode, outcomeAnswer}
-use Rattle.export_store.specs.Stored.{Holds}
+use Rattle.export_store.specs.inner.Fits.{Holds}
 use Rattle.export_store.proofs.told.Statement.{statement}
 use Rattle.export_store.proofs.told.Tie as tie
 

@@ -2,7 +2,7 @@
 use Rattle.model.specs.Kit.{sym, subst, [], needs}
 use Rattle.model.specs.Lists.{at}
 use Rattle.desk.specs.{Queue.turn, Queue.QueueReply, Meaning.means}
-use Rattle.export_desk.specs.Told.{Holds}
+use Rattle.export_desk.specs.inner.Fits.{Holds}
 use Rattle.export_desk.proofs.Replies.{turn-reply, unanswered, replied}
 use Rattle.export_turns.proofs.turn.Statement.{statement}
 use Rattle.export_turns.proofs.turn.Tie as tie

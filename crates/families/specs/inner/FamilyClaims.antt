@@ -1,7 +1,7 @@
 -- What families are, said of every problem that the questions can pass, with the exchanges of a block or without (paper 02, #104 and #112); of callers it is in
 -- promises' FamilyCalls. The proofs are in proofs/Joined, FamilyCount and Closed.
 use Rattle.model.specs.Kit.{List, ℕ, T, _≡_, _↔_, length}
-use Rattle.model.specs.{Problem.Problem, Problem.isSolution, WellFormed.WellFormed, WellFormed.Respected, Lists.earlier, Claims.Leader, Claims.leaders}
+use Rattle.model.specs.{Problem.Problem, Problem.isSolution, inner.WellFormed.WellFormed, inner.WellFormed.Respected, Lists.earlier, Claims.Leader, Claims.leaders}
 use Rattle.families.specs.Families.{Joined, FamilyCount, Closed, familiesOf}
 
 -- what closed symmetries give: the leaders are the earliest of their families, each family has exactly one, and there are as many as families

@@ -1,6 +1,6 @@
 -- What the functions that count families are lent, of which problem.
 use Rattle.model.specs.Kit.{_≡_, List, ℕ, zero, suc, _+_, _-_, _*_, _/_, _%_, _^_, _≤_, _<_, length, T}
-use Rattle.model.specs.{Lists.at, Problem.Problem, Problem.isSolution, WellFormed.WellFormed, WellFormed.Respected}
+use Rattle.model.specs.{Lists.at, Problem.Problem, Problem.isSolution, inner.WellFormed.WellFormed, inner.WellFormed.Respected}
 use Rattle.arrays.specs.inner.Layout.{Images}
 use Rattle.families.specs.{Families.solutionsOf, inner.Walk.solutionAt, inner.Walk.Walk}
 

@@ -1,6 +1,6 @@
 -- What the functions are lent: the images of the pairs of a problem.
 use Rattle.model.specs.Kit.{_≡_, List, ℕ, _≤_, length}
-use Rattle.model.specs.{Problem.Problem, WellFormed.WellFormed, Verdict.accepted, Sheet.problemOf}
+use Rattle.model.specs.{Problem.Problem, inner.WellFormed.WellFormed, Verdict.accepted, Sheet.problemOf}
 use Rattle.arrays.specs.{inner.Layout.Numbers, inner.Layout.Images, inner.Places.IMAGES}
 use Rattle.run_input.specs.Lent.{verdictLent}
 

@@ -2,7 +2,7 @@
 -- Depth k has the sets of sixteen variables from 16 k on. The numbers of `work` from 0 to 11 are the prefix, the value of variable j at j;
 -- from 16 k + MARKS on, the marks of depth k: what is known there of each symmetry's nogoods.
 use Rattle.model.specs.Kit.{_≡_, Bool, false, not, List, [], _∷_, _++_, ℕ, _+_, _*_, _≤_, _<_, T, length, take}
-use Rattle.model.specs.{Lists.at, ValueSets.has, Problem.Problem, Problem.withSymmetries, Search.setsAt, Search.isLive, WellFormed.WellFormed}
+use Rattle.model.specs.{Lists.at, ValueSets.has, Problem.Problem, Problem.withSymmetries, Search.setsAt, Search.isLive, inner.WellFormed.WellFormed}
 use Rattle.arrays.specs.{inner.Places.BLOCK, inner.Places.MARKS, inner.Places.STACK, inner.Places.WORK, inner.Tables.Indexed}
 use Rattle.block.specs.inner.BlockSets.{BlockIn}
 use Rattle.prune_symmetries.specs.inner.Levels.{Mark}

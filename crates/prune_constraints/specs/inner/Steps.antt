@@ -1,7 +1,7 @@
 -- What the functions inside this crate say to each other: tables of sets, and one constraint at a time.
 use Rattle.model.specs.Kit.{_≡_, not, _⊎_, List, [], _∷_, _++_, List·Memᴰ, ℕ, suc, _+_, _*_, _^_, _<_, T, eqb, length, set, bitAnd, bitOr}
 use Rattle.model.specs.{Lists.any, Lists.at, Lists.same, Lists.ascending, ValueSets.has, ValueSets.maskOf, ValueSets.oneIf, Problem.Problem, Problem.Constraint}
-use Rattle.model.specs.WellFormed.{WellFormed}
+use Rattle.model.specs.inner.WellFormed.{WellFormed}
 use Rattle.arrays.specs.{inner.Places.VALUES, inner.Places.OTHERS, inner.Places.DEAD, inner.Layout.Numbers, inner.Layout.Supports, inner.Layout.place, inner.Tables.Words}
 
 -- a set of one value

@@ -1,6 +1,6 @@
 -- Pruning by the constraints on two variables, by variable: what the crate's function asks and leaves.
 use Rattle.model.specs.Kit.{_≡_, false, List, ℕ, _<_, T}
-use Rattle.model.specs.{Lists.at, ValueSets.has, ValueSets.Inside, Problem.Problem, inner.Pruning.Sets, WellFormed.WellFormed}
+use Rattle.model.specs.{Lists.at, ValueSets.has, ValueSets.Inside, Problem.Problem, inner.Pruning.Sets, inner.WellFormed.WellFormed}
 use Rattle.arrays.specs.{inner.Places.DEAD, inner.Tables.Linked, inner.Tables.Rows, inner.Pruning.Given, inner.Pruning.Lessened, inner.Pruning.Ended, inner.Pruning.Arc}
 use Rattle.arrays.specs.inner.Pruning.{setsOf}
 

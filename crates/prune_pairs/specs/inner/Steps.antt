@@ -1,6 +1,6 @@
 -- What the functions inside this crate say to each other: the cover of a variable's set, and one cut by it.
 use Rattle.model.specs.Kit.{_≡_, false, _⊎_, List, ℕ, _+_, _*_, _^_, _<_, bitAnd, bitOr, T, length}
-use Rattle.model.specs.{Lists.at, Lists.either, ValueSets.has, ValueSets.Inside, Problem.Problem, inner.Pruning.Sets, WellFormed.WellFormed}
+use Rattle.model.specs.{Lists.at, Lists.either, ValueSets.has, ValueSets.Inside, Problem.Problem, inner.Pruning.Sets, inner.WellFormed.WellFormed}
 use Rattle.arrays.specs.{inner.Places.DEAD, inner.Tables.goes, inner.Tables.Rows, inner.Pruning.Given, inner.Pruning.Lessened, inner.Pruning.Ended, inner.Pruning.Arc}
 use Rattle.arrays.specs.inner.Pruning.{setsOf}
 

@@ -1,6 +1,6 @@
 -- What `compile` leaves.
 use Rattle.model.specs.Kit.{_≡_, List, ℕ, _≤_, length, take}
-use Rattle.model.specs.{Problem.Problem, Sheet.problemOf, WellFormed.WellFormed}
+use Rattle.model.specs.{Problem.Problem, Sheet.problemOf, inner.WellFormed.WellFormed}
 use Rattle.order.specs.{Order.settlingOrder, Order.orderVerdict, Order.Ordering, Reordered.reordered}
 use Rattle.arrays.specs.inner.Layout.{Compiled}
 use Rattle.sheet.specs.{inner.Form.Sized, Meaning.means, declared.Answer.Answer, declared.Answer.the-variants.Accepted}

@@ -1,7 +1,7 @@
 -- A block's orderings say of what is left to do only what the sets say: what goes on behind one prefix is carried over to another with the same sets behind it,
 -- whatever values of the block either has settled.
 use Rattle.model.specs.Kit.{_≡_, Bool, List, ℕ, T, length, drop}
-use Rattle.model.specs.{Problem.Problem, Problem.withSymmetries, Search.setsAt, Search.isLive, WellFormed.WellFormed}
+use Rattle.model.specs.{Problem.Problem, Problem.withSymmetries, Search.setsAt, Search.isLive, inner.WellFormed.WellFormed}
 use Rattle.block.specs.inner.BlockSets.{Reorders, BlockIn}
 use Rattle.run_alike.specs.inner.Alike.{Carries}
 

@@ -1,7 +1,7 @@
 -- What a program compares at two prefixes of one depth: the sets behind them, some settled values, and the symmetries' marks.
 -- A block's orderings are not asked.
 use Rattle.model.specs.Kit.{_≡_, Bool, _⊎_, List, ℕ, _+_, _%_, _≤_, _<_, T, length, drop}
-use Rattle.model.specs.{Lists.at, Problem.Problem, Problem.withSymmetries, Search.setsAt, Search.isLive, WellFormed.WellFormed, WellFormed.Respected}
+use Rattle.model.specs.{Lists.at, Problem.Problem, Problem.withSymmetries, Search.setsAt, Search.isLive, inner.WellFormed.WellFormed, inner.WellFormed.Respected}
 use Rattle.arrays.specs.inner.Places.{ENTAILED, OBEYED}
 use Rattle.prune_symmetries.specs.inner.Levels.{Mark}
 use Rattle.block.specs.inner.BlockSets.{BlockIn}

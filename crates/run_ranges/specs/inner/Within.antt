@@ -1,7 +1,7 @@
 -- The nodes of a part below a prefix, as a search makes them.
 use Rattle.model.specs.Kit.{Bool, true, false, not, List, [], _∷_, _++_, ℕ, eqb, ltb}
 use Rattle.model.specs.{Lists.both, Lists.any, Lists.keep, Problem.Problem, Search.nodesBelow}
-use Rattle.run_cut.specs.Parts.{after, nodesOf, candidatesAt}
+use Rattle.run_cut.specs.{Parts.after, inner.Paths.nodesOf, inner.Paths.candidatesAt}
 
 -- the nodes below a prefix, k variables left, that come after the prefix with one path behind it and not after it with another
 unfoldable pub within : Problem → ℕ → List ℕ → List ℕ → List ℕ → List (List ℕ)

@@ -1,6 +1,6 @@
 -- What is made of a compiled problem before the search, and the search from there.
 use Rattle.model.specs.Kit.{_≡_, false, List, [], ℕ, _*_, _^_, _<_, T, length, take}
-use Rattle.model.specs.{Lists.at, ValueSets.has, Problem.Problem, Problem.withSymmetries, Search.isLive, Run.Tally, WellFormed.WellFormed, WellFormed.Respected}
+use Rattle.model.specs.{Lists.at, ValueSets.has, Problem.Problem, Problem.withSymmetries, Search.isLive, Run.Tally, inner.WellFormed.WellFormed, inner.WellFormed.Respected}
 use Rattle.order.specs.Order.{Ordering}
 use Rattle.block.specs.inner.BlockSets.{BlockIn}
 use Rattle.run_input.specs.inner.Compile.{WithinLimits}

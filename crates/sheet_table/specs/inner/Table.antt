@@ -1,6 +1,6 @@
 -- Questions 15 and 16 for one table (paper 01): what is known of the problem before they are asked, and their answer.
 use Rattle.model.specs.Kit.{Bool, true, false, List, ℕ, _+_, _*_, _≤_, length}
-use Rattle.model.specs.{Problem.Problem, Problem.respects, Sheet.words, Sheet.permutesPairs, WellFormed.Stated}
+use Rattle.model.specs.{Problem.Problem, Problem.respects, Sheet.words, Sheet.permutesPairs, inner.WellFormed.Stated}
 use Rattle.arrays.specs.inner.Layout.{Numbers, Supports}
 
 -- the numbers hold those of the problem

@@ -1,6 +1,6 @@
 -- `fetch`: the questions in their order, and the copy. Assumes nothing.
 use Rattle.model.specs.Kit.{_≡_, ap, _∙_, arith, needs}
-use Rattle.store.specs.{Store.fetch, Store.call, Layout.slotAt, Layout.slotWith}
+use Rattle.store.specs.{Store.fetch, Store.call, inner.Layout.slotAt, inner.Layout.slotWith}
 use Rattle.store.proofs.{Calls.verdict-wrong, Answers.leaves-room, Answers.asks-31, Answers.fetch-34, Answers.fetch-35, Answers.fetch-yes, fetch.Statement.statement}
 use Rattle.store.proofs.fetch.Tie as tie
 

@@ -1,7 +1,7 @@
 -- `free_all`: after i turns the first i slots are freed. Assumes nothing.
 use Rattle.model.specs.Kit.{_≡_, refl, sym, ap, _∙_, ⊎-elim, _≤_, _-_, length, length-set, needs}
 use native.Mathlib.Nat.{le-antisymm}
-use Rattle.store.specs.Layout.{freed}
+use Rattle.store.specs.inner.Layout.{freed}
 use Rattle.store.proofs.{Slots.freed-taken, Slots.freed-left, free_all.Statement.statement}
 use Rattle.store.proofs.free_all.Tie as tie
 

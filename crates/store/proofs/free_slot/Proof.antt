@@ -1,6 +1,6 @@
 -- `free_slot`: after i turns the first i slots are not free. Assumes nothing.
 use Rattle.model.specs.Kit.{_≡_, sym, _∙_, false, ℕ, _≤_, _<_, _-_, arith, below-more, needs}
-use Rattle.store.specs.Layout.{isFree}
+use Rattle.store.specs.inner.Layout.{isFree}
 use Rattle.model.proofs.Least.{first-is}
 use Rattle.store.proofs.free_slot.Statement.{statement}
 use Rattle.store.proofs.free_slot.Tie as tie

@@ -1,7 +1,7 @@
 -- `is_free`: the flag, then the first slot with its key. Assumes nothing.
 use Rattle.model.specs.Kit.{sym, ap, _∙_, ℕ, _+_, ltb, needs}
 use Rattle.model.specs.Lists.{at}
-use Rattle.store.specs.Layout.{slotWith}
+use Rattle.store.specs.inner.Layout.{slotWith}
 use Rattle.store.proofs.{Slots.free-unheld, Slots.free-held, is_free.Statement.statement}
 use Rattle.store.proofs.is_free.Tie as tie
 

@@ -1,7 +1,7 @@
 -- `put`: the questions in their order, and the slot filled. Assumes nothing.
 use Rattle.model.specs.Kit.{_≡_, ap, _∙_, ℕ, _<_, arith, needs}
 use Rattle.model.specs.{Lists.at, Written.placed}
-use Rattle.store.specs.{Store.put, Store.call, Layout.slotAt, Layout.slotFor, Layout.slotBytes}
+use Rattle.store.specs.{Store.put, Store.call, inner.Layout.slotAt, inner.Layout.slotFor, inner.Layout.slotBytes}
 use Rattle.store.proofs.{Calls.verdict-wrong, Answers.refuses, Answers.accepts, Answers.asks-31, Answers.put-33, Answers.put-32, Answers.put-yes, put.Statement.statement}
 use Rattle.store.proofs.put.Tie as tie
 

@@ -1,7 +1,7 @@
 -- `remove`: the questions in their order, and the slots freed. Assumes nothing.
 use Rattle.model.specs.Kit.{_≡_, ℕ, _<_, arith, needs}
 use Rattle.model.specs.Lists.{at}
-use Rattle.store.specs.{Store.remove, Store.call, Layout.slotWith}
+use Rattle.store.specs.{Store.remove, Store.call, inner.Layout.slotWith}
 use Rattle.store.proofs.{Calls.verdict-wrong, Answers.refuses, Answers.accepts, Answers.asks-31, Answers.remove-34, Answers.remove-yes, remove.Statement.statement}
 use Rattle.store.proofs.remove.Tie as tie
 

@@ -1,6 +1,6 @@
 -- `slot_with`: after i turns the first i slots do not hold the key. Assumes nothing.
 use Rattle.model.specs.Kit.{_≡_, sym, ap, _∙_, false, ℕ, _≤_, _<_, _-_, arith, below-more, needs}
-use Rattle.store.specs.Layout.{slotAt, holds}
+use Rattle.store.specs.inner.Layout.{slotAt, holds}
 use Rattle.store.proofs.{Slots.with-is, slot_with.Statement.statement}
 use Rattle.store.proofs.slot_with.Tie as tie
 

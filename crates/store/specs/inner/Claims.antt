@@ -4,11 +4,7 @@ use Rattle.model.specs.Kit.{List, [], _∷_, ℕ, eqb, _≡_, _⊎_, Bool, true
 use Rattle.model.specs.{Lists.choose, Lists.both, Lists.below, Verdict.Verdict, Verdict.accepted, Verdict.refused, Verdict.ask, Verdict.isAccepted, Sheet.words}
 use Rattle.store.specs.Store.{Store, StoreCall, callVerdict, storeAfter, StoreReply, replyOf, ownerOf, call, none, table, isTable, emptyStore, keysOf, Action, put, fetch, remove}
 use Rattle.model.specs.Sheet.{headerOf, problemOf, symmetriesVerdict, verdictOf}
-use Rattle.store.specs.{Store.callsOf, Layout.size, Layout.storeOf, Layout.replyOn, Layout.bytesAfter}
-use Rattle.store.specs.Calls.{StoreBytes, ByteCall, ByteCalls}
-
-unfoldable pub replyTo : Store → StoreCall → StoreReply
-replyTo s (call owner key a) = replyOf (callVerdict s (call owner key a)) a (s owner key)
+use Rattle.store.specs.{Store.callsOf, Store.replyTo, Store.size, inner.Layout.storeOf, inner.Layout.replyOn, inner.Layout.bytesAfter, Calls.StoreBytes, Calls.ByteCalls}
 
 -- ---- calls one after another
 unfoldable pub storeEnd : Store → List StoreCall → Store
@@ -69,12 +65,6 @@ Four-keys =
 -- a refused call leaves the store
 abbrev pub Refused-same : Type 0
 Refused-same = (s : Store) (x : StoreCall) (number item : ℕ) → callVerdict s x ≡ refused number item → storeAfter s x ≡ s
-
--- each call on bytes is the call on the store that they mean
-abbrev pub Each-call : Type 0
-Each-call =
-    (b : List ℕ) (x : StoreCall) → StoreBytes b → ByteCall x →
-    (replyOn b x ≡ replyTo (storeOf b) x) × (storeOf (bytesAfter b x) ≡ storeAfter (storeOf b) x) × StoreBytes (bytesAfter b x)
 
 -- calls one after another on bytes, and what those of one owner give back
 unfoldable pub bytesEnd : List ℕ → List StoreCall → List ℕ

@@ -2,7 +2,7 @@
 use Rattle.model.specs.Kit.{sym, _∙_, inl, inr, ⊎-elim, _-_, _≤_, arith, needs}
 use Rattle.model.specs.Lists.{at}
 use Rattle.desk_turns.proofs.{Rounding.RoundTo, Rounding.round-begin, Rounding.round-more, Rounding.round-end, round.go_round.Statement.statement}
-use Rattle.desk.specs.Places.{NEXT}
+use Rattle.desk.specs.inner.Places.{NEXT}
 use Rattle.desk_turns.proofs.round.go_round.Tie as tie
 
 abbrev Inv-loop : tie.InvT-loop

@@ -3,7 +3,7 @@ use Rattle.model.specs.Kit.{_≡_, refl, sym, ap, _∙_, _+_, _-_, _≤_, arith
 use Rattle.model.specs.{Lists.at, Bytes.fourBytes, Written.placed}
 use Rattle.run_cut.specs.Parts.{added}
 use Rattle.run_cut.proofs.Counts.{length-added, at-added}
-use Rattle.desk.specs.{Places.COUNTS, Layout.countBytes}
+use Rattle.desk.specs.{inner.Places.COUNTS, inner.Layout.countBytes}
 use Rattle.desk_turns.proofs.{Counting.counts-begin, Counting.counts-turn, Counting.counts-end, serve.put_counts.Statement.statement}
 use Rattle.desk_turns.proofs.serve.put_counts.Tie as tie
 

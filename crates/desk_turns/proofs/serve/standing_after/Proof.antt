@@ -1,7 +1,7 @@
 -- `standing_after`: by the ending, and where the run was spent by the limit. Assumes nothing.
 use Rattle.model.specs.Kit.{_≡_, refl, sym, ap, Bool, true, false, ℕ, _≤_, _<_, arith, lt-ltb, le-ltb}
 use Rattle.model.specs.Run.{finished, spent, full}
-use Rattle.desk.specs.{Queue.running, Queue.over, Queue.standingAfter, Layout.standingByte}
+use Rattle.desk.specs.{Queue.running, Queue.over, Queue.standingAfter, inner.Layout.standingByte}
 use Rattle.desk_turns.proofs.serve.standing_after.Statement.{statement}
 use Rattle.desk_turns.proofs.serve.standing_after.Tie as tie
 

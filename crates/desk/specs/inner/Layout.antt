@@ -1,13 +1,13 @@
--- The queue's bytes: eight slots, and one byte for the slot where the next turn begins to look; specs/Places says where a slot has what. Any bytes of the
+-- The queue's bytes: eight slots, and one byte for the slot where the next turn begins to look; specs/inner/Places says where a slot has what. Any bytes of the
 -- queue's size are a queue; zeros are the empty one.
-use Rattle.model.specs.Kit.{List, [], _∷_, _++_, map, ℕ, zero, suc, _+_, _-_, _*_, _%_, min, length, take, drop, set, replicate, eqb}
+use Rattle.model.specs.Kit.{List, [], _∷_, _++_, map, ℕ, _+_, _-_, _*_, _%_, min, length, take, drop, set, replicate, eqb}
 use Rattle.model.specs.{Lists.at, Lists.choose, Lists.flat, Lists.below, Lists.tabulate, Verdict.Verdict, Verdict.accepted, Verdict.refused, Sheet.«word», Sheet.verdictOf}
 use Rattle.model.specs.{Bytes.twoBytes, Bytes.fourBytes, Written.placed, Run.finished, Run.spent, Run.full, Run.listedPlans}
 use Rattle.sheet.specs.Meaning.{compilable}
-use Rattle.desk.specs.Places.{LENGTH, LIMIT, STANDING, NODES, PLANS, DEPTH, LAST, COUNTS, SHEET, SHEET-BYTES, LIST, LIST-PLANS, LIST-BYTES, SLOT, NEXT, size}
-use Rattle.desk.specs.Queue.{Standing, running, over, Job, jobTurned, Slot, free, taken, Queue, slotAt, Found, none-found, slot, lowestFree, toServe, QueueCall, submit, turn}
-use Rattle.desk.specs.Queue.{release, QueueReply, refusal, fits, queueReply, dueAt, given, roundFrom, roundsQueue, statusReply, noCounts, statusCounts, RoundsReply}
-use Rattle.desk.specs.Queue.{roundsReply}
+use Rattle.desk.specs.Queue.{LIST-PLANS, size, Standing, running, over, standingBy, Job, jobTurned, Slot, free, taken, Queue, slotAt, Found, none-found, slot, lowestFree, toServe, QueueCall}
+use Rattle.desk.specs.Queue.{submit, turn, release, QueueReply, refusal, fits, queueReply, roundFrom}
+use Rattle.desk.specs.{Status.statusReply, Status.noCounts, Status.statusCounts, Rounds.dueAt, Rounds.given, Rounds.roundsQueue, Rounds.RoundsReply, Rounds.roundsReply}
+use Rattle.desk.specs.inner.Places.{LENGTH, LIMIT, STANDING, NODES, PLANS, DEPTH, LAST, COUNTS, SHEET, SHEET-BYTES, LIST, LIST-BYTES, SLOT, NEXT}
 
 -- where slot k starts
 abbrev pub slotPlace : ℕ → ℕ
@@ -17,13 +17,6 @@ slotPlace k = SLOT * k
 -- a number in four bytes
 unfoldable pub long : List ℕ → ℕ → ℕ
 long b o = «word» b o + 65536 * «word» b (o + 2)
-
--- how a run stands, by its number and its figures
-abbrev pub standingBy : ℕ → ℕ → ℕ → Standing
-standingBy zero plans made = running
-standingBy (suc zero) plans made = over (finished plans made)
-standingBy (suc (suc zero)) plans made = over (spent plans made)
-standingBy (suc (suc (suc k))) plans made = over (full plans made)
 
 -- The numbers of the slot at p. One that is too large counts as the largest: 3 for how the run stands, 55,656 bytes of the sheet, 4,096 plans,
 -- twelve values of the last node, twelve variables; the limit for the nodes, and these for each of their counts

@@ -3,10 +3,7 @@
 use Rattle.model.specs.Kit.{Bool, not, List, _∷_, _++_, ℕ, zero, suc, _+_, _*_, min, length, take, drop, set, ltb, eqb}
 use Rattle.model.specs.{ValueSets.least, Lists.both, Lists.either, Lists.choose, Lists.at, Verdict.Verdict, Verdict.ask, Verdict.isAccepted, Sheet.«word», Bytes.twoBytes}
 use Rattle.model.specs.Written.{placed}
-use Rattle.store.specs.Store.{none, table, Store, put, fetch, remove, StoreCall, call, callVerdict, StoreReply, replyOf}
-
-abbrev pub size : ℕ
-size = 32832
+use Rattle.store.specs.Store.{none, table, Store, put, fetch, remove, StoreCall, call, callVerdict, StoreReply, replyOf, size}
 
 -- ---- what the bytes mean
 -- where slot i of an owner starts

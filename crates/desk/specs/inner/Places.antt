@@ -1,4 +1,4 @@
--- Where a queue's bytes have what: the constants of src/lib.rt.
+-- Where a queue's bytes have what: the constants of src/lib.rt. Their number, the plans of a list and the nodes of a turn stand in specs/Queue.
 use Rattle.model.specs.Kit.{ℕ}
 
 -- ---- in a slot, low bytes first; its first byte says whether it is taken (0: free)
@@ -44,9 +44,6 @@ SHEET-BYTES = 55656
 abbrev pub LIST : ℕ
 LIST = 55731
 
-abbrev pub LIST-PLANS : ℕ
-LIST-PLANS = 4096
-
 abbrev pub LIST-BYTES : ℕ
 LIST-BYTES = 49152
 
@@ -56,10 +53,3 @@ SLOT = 104883
 
 abbrev pub NEXT : ℕ
 NEXT = 839064
-
-abbrev pub size : ℕ
-size = 839065
-
--- the nodes of a turn, unless the run ends in it
-abbrev pub QUANTUM : ℕ
-QUANTUM = 64
