@@ -14,7 +14,7 @@ use Rattle.run_cut.specs.{Parts.nodesAfter, Parts.lastOf, Parts.Progress, Parts
 use Rattle.desk.specs.Queue.{Standing, running, over, goesOn, Job, newJob, listRoom, turnLimit, standingAfter, jobAfter, jobTurned, Slot, free, taken, isFree, waits, slotTurned, Queue}
 use Rattle.desk.specs.Queue.{emptyQueue, slotAt, Found, none-found, slot, firstOf, lowestFree, toServe, QueueCall, submit, turn, release, refusal, answered, queued, idle, served, released}
 use Rattle.desk.specs.Queue.{servedAs, submitReply, submitQueue, turnReply, turnQueue, fits, releaseFor, releaseReply, releaseSlot, queueReply, queueAfter, queueEnd, queueReplies}
-use Rattle.desk.specs.inner.Claims.{timesServed, Throughout, Remains, HoldsAs, Holds, As-alone, Turn-of-64, Sixty-four-each, Turn-answers, Refused-same, Idle-exactly, Past-eighth}
+use Rattle.desk.specs.inner.Claims.{timesServed, Throughout, Remains, HoldsRunAs, HoldsRun, As-alone, Turn-of-64, Sixty-four-each, Turn-answers, Refused-same, Idle-exactly, Past-eighth}
 use Rattle.desk.specs.inner.Claims.{By-own-turns, Others-nothing, Releases, Lowest-slot, Slots-taken, Keeps-slot}
 use Rattle.desk.specs.{Rounds.turned, Claims.serves, Claims.turnsIn, Claims.WaitsOn, Claims.Fair, Claims.alone, Claims.Going-on, Claims.Same-as-run}
 use Rattle.model.proofs.{Lists.T-of, Lists.of-T, Lists.of-not, Lists.any-cons, Lists.either-l, Lists.either-r, Lists.below-i, Lists.below-e, Room.length-flat, Runs.Ended, Lists.never}
@@ -172,11 +172,11 @@ begun : (p : Problem) → start ≡ progressAt p 0
 unfolding keep lastOf countsBy tabulate
 begun p = refl
 
-new-job-holds : (b : List ℕ) (limit : ℕ) → Holds (newJob b limit)
+new-job-holds : (b : List ℕ) (limit : ℕ) → HoldsRun (newJob b limit)
 new-job-holds b limit = (begun (problemOf b), inl refl)
 
 -- the progress of a job that goes on is what a run alone makes of it
-module _ (h : Job) (H : HoldsAs h running) where
+module _ (h : Job) (H : HoldsRunAs h running) where
   abbrev p : Problem
   p = problemOf (h .sheet)
 
@@ -217,11 +217,11 @@ module _ (h : Job) (H : HoldsAs h running) where
       ∙ ap (λ (k : ℕ). countsBy settledBy (take k (nodes p))) (let i : made + (n - made) ≡ n = omega arith in i)
 
   -- ended, or spent with the limit made
-  ended-holds : (x : Ending) → alone h upto .ending ≡ x → (alone h (h .limit) ≡ record { ending = x; rows = alone h upto .rows }) → HoldsAs (jobAfter h (alone h upto)) (over x)
+  ended-holds : (x : Ending) → alone h upto .ending ≡ x → (alone h (h .limit) ≡ record { ending = x; rows = alone h upto .rows }) → HoldsRunAs (jobAfter h (alone h upto)) (over x)
   unfolding tallyAt
   ended-holds x e q = (q, ap nodesIn e, sym (rows-counted p upto room) ∙ ap plansIn e, counts-alone ∙ ap (λ (y : Ending). countsBy settledBy (take (nodesIn y) (nodes p))) e)
 
-  spent-holds : (plans total : ℕ) → alone h upto .ending ≡ spent plans total → total < h .limit → HoldsAs (jobAfter h (alone h upto)) running
+  spent-holds : (plans total : ℕ) → alone h upto .ending ≡ spent plans total → total < h .limit → HoldsRunAs (jobAfter h (alone h upto)) running
   spent-holds plans total e l =
       let r = alone h upto in
       let s = stands p room upto plans total e in
@@ -247,12 +247,12 @@ module _ (h : Job) (H : HoldsAs h running) where
   whole : (x : Ending) → alone h upto .ending ≡ x → alone h (h .limit) ≡ resumed p (h .limit) room x (alone h upto .rows)
   whole x e = in-parts p (h .limit) room upto (omega arith) ∙ ap (λ (y : Ending). resumed p (h .limit) room y (alone h upto .rows)) e
 
-  after-holds : (x : Ending) → alone h upto .ending ≡ x → HoldsAs (jobAfter h (alone h upto)) (standingAfter (h .limit) x)
+  after-holds : (x : Ending) → alone h upto .ending ≡ x → HoldsRunAs (jobAfter h (alone h upto)) (standingAfter (h .limit) x)
   after-holds (finished plans total) e = ended-holds (finished plans total) e (whole (finished plans total) e)
   after-holds (full plans total) e = ended-holds (full plans total) e (whole (full plans total) e)
   after-holds (spent plans total) e = go (ltb total (h .limit)) refl
     where
-      go : (b : Bool) → ltb total (h .limit) ≡ b → HoldsAs (jobAfter h (alone h upto)) (elim b [ true ↦ running | false ↦ over (spent plans total) ])
+      go : (b : Bool) → ltb total (h .limit) ≡ b → HoldsRunAs (jobAfter h (alone h upto)) (elim b [ true ↦ running | false ↦ over (spent plans total) ])
       go true f = spent-holds plans total e (ltb-true total (h .limit) f)
       go false f =
           let t = stands p room upto plans total e .there in
@@ -260,16 +260,16 @@ module _ (h : Job) (H : HoldsAs h running) where
           let z : h .limit ≡ upto = omega arith in
           ended-holds (spent plans total) e (ap (alone h) z ∙ ap (λ (x : Ending). let w : Result = record { ending = x; rows = alone h upto .rows } in w) e)
 
-  pub turned-holds : Holds (jobTurned h)
+  pub turned-holds : HoldsRun (jobTurned h)
   unfolding jobTurned
-  turned-holds = subst (λ (r : Result). Holds (jobAfter h r)) (sym turn-alone) (after-holds (alone h upto .ending) refl)
+  turned-holds = subst (λ (r : Result). HoldsRun (jobAfter h r)) (sym turn-alone) (after-holds (alone h upto .ending) refl)
 
 -- ---- the same of each slot of the queue
 abbrev pub SlotHolds : Slot → Type 0
 SlotHolds free = Unit {0}
-SlotHolds (taken h) = Holds h × (verdictOf (h .sheet) ≡ accepted)
+SlotHolds (taken h) = HoldsRun h × (verdictOf (h .sheet) ≡ accepted)
 
-goes-holds : (h : Job) (x : Standing) → T (goesOn x) → HoldsAs h x → HoldsAs h running
+goes-holds : (h : Job) (x : Standing) → T (goesOn x) → HoldsRunAs h x → HoldsRunAs h running
 goes-holds h running t u = u
 goes-holds h (over e) t u = absurd t
 
@@ -343,8 +343,8 @@ same-as-run xs k h e out tally q s n = (
     c : verdictOf (h .sheet) ≡ accepted
     c = queued-accepted xs k h q
 
-    a : HoldsAs h (over e)
-    a = subst (HoldsAs h) s (as-alone xs k h q)
+    a : HoldsRunAs h (over e)
+    a = subst (HoldsRunAs h) s (as-alone xs k h q)
 
     same-answer : reply (verdictOf (h .sheet)) (resultOf p (h .limit) (length out) .ending) ≡ ended e
     same-answer = ap (λ (v : Verdict). reply v (resultOf p (h .limit) (length out) .ending)) c ∙ ap (λ (m : ℕ). ended (resultOf p (h .limit) m .ending)) n ∙ ap
@@ -388,7 +388,7 @@ goes-on p limit upto room ts made k (spent plans total) q s = (q .2, go (ltb tot
 pub turn-of-64 : Turn-of-64
 unfolding jobTurned goOn
 turn-of-64 h u r =
-    let H = subst (HoldsAs h) r u in
+    let H = subst (HoldsRunAs h) r u in
     let p = problemOf (h .sheet) in
     let room = listRoom p in
     let ts = nodesAfter p (h .progress .last) in
@@ -403,7 +403,7 @@ turn-of-64 h u r =
 pub going-on : Going-on
 going-on xs k h q r =
     let u = as-alone xs k h q in
-    let H = subst (HoldsAs h) r u in
+    let H = subst (HoldsRunAs h) r u in
     let t = turn-of-64 h u r in
     record { so-far = H .0; no-end = H .1; more = (t .0, t .1); all-64 = t .2 }
 
@@ -606,7 +606,7 @@ is-running : (x : Standing) → T (goesOn x) → x ≡ running
 is-running running t = refl
 is-running (over e) t = absurd t
 
-count-from : (d : Queue) (xs : List QueueCall) (k : ℕ) (h : Job) (c : ℕ) → Holds h → (h .standing ≡ running → h .progress .made ≡ 64 * c) → slotAt d k ≡ taken h → Throughout (Remains k) d xs →
+count-from : (d : Queue) (xs : List QueueCall) (k : ℕ) (h : Job) (c : ℕ) → HoldsRun h → (h .standing ≡ running → h .progress .made ≡ 64 * c) → slotAt d k ≡ taken h → Throughout (Remains k) d xs →
     (g : Job) → slotAt (queueEnd d xs) k ≡ taken g → g .standing ≡ running → g .progress .made ≡ 64 * (c + timesServed k (queueReplies d xs))
 unfolding queueEnd queueReplies timesServed
 count-from d [] k h c u m q r g e s =
@@ -619,7 +619,7 @@ count-from d (x ∷ xs) k h c u m q r g e s =
     rest = timesServed k (queueReplies (queueAfter d x) xs)
 
     go : (b : Bool) → serves k (queueReply d x) ≡ b → slotAt (queueAfter d x) k ≡ taken (oneTurn (serves k (queueReply d x)) h) →
-        ((h′ : Job) (c′ : ℕ) → Holds h′ → (h′ .standing ≡ running → h′ .progress .made ≡ 64 * c′) → slotAt (queueAfter d x) k ≡ taken h′ → g .progress .made ≡ 64 * (c′ + rest)) →
+        ((h′ : Job) (c′ : ℕ) → HoldsRun h′ → (h′ .standing ≡ running → h′ .progress .made ≡ 64 * c′) → slotAt (queueAfter d x) k ≡ taken h′ → g .progress .made ≡ 64 * (c′ + rest)) →
         g .progress .made ≡ 64 * (c + elim b [ true ↦ suc rest | false ↦ rest ])
     go true f y ih =
         let w : T (waits (taken h)) = subst (λ (z : Slot). T (waits z)) q (served-waits d x k (T-of (serves k (queueReply d x)) f)) in

@@ -15,7 +15,7 @@ use Rattle.export_counts.specs.{Tallied.numbersOf, inner.Inner.Twelve}
 use Rattle.export_counts.proofs.Tallied.{length-numbers}
 use Rattle.export_desk.specs.Told.{fourNumbers, kindOf, replyCode, replyAnswer, answerLength, queueCode, queueBytes, queueAnswer, releaseRoom, statusBytes, statusCode, statusAnswer}
 use Rattle.export_desk.specs.Told.{roundsReplyAnswer, roundsCode, roundsQueue, roundsAnswer, CallQueue, CallRelease, CallStatus, CallRounds}
-use Rattle.export_desk.specs.inner.Fits.{Holds, Sees}
+use Rattle.export_desk.specs.inner.Fits.{ReplyFits, StatusFits}
 
 -- ---- four numbers
 pub put-four : {d e : List ℕ} {r : ℕ} {f : List ℕ} {s : ℕ} {g : List ℕ} {t : ℕ} {h : List ℕ} {u : ℕ} (kind a b c : ℕ) → 16 ≤ length d → Written d 0 (fourBytes kind) e r → Written e r
@@ -72,7 +72,7 @@ answer-any (Stands s standing plans nodes) room answer = refl
 answer-any (Released bytes) room answer = refl
 answer-any (Refused number item) room answer = refl
 
-pub holds-any : (r : Answer) (room : List ℕ) (n : ℕ) → Holds (means r room) n → Holds (means r []) n
+pub holds-any : (r : Answer) (room : List ℕ) (n : ℕ) → ReplyFits (means r room) n → ReplyFits (means r []) n
 holds-any (Queued s) room n h = h
 holds-any Idle room n h = h
 holds-any (Stands s standing plans nodes) room n h = h
@@ -85,14 +85,14 @@ unfolding at
 none-twelve = record { long = refl; small = λ i. let z = at-replicate 12 i in omega arith }
 
 module _ (b : List ℕ) (small : (i : ℕ) → at b i < 256) where
-  sized : (x : QueueReply) (n : ℕ) → (length b ≡ size → Holds x n) → Holds (choose (eqb (length b) size) x (refusal 255 0)) n
+  sized : (x : QueueReply) (n : ℕ) → (length b ≡ size → ReplyFits x n) → ReplyFits (choose (eqb (length b) size) x (refusal 255 0)) n
   sized x n h = go (eqb (length b) size) refl
     where
-      go : (t : Bool) → eqb (length b) size ≡ t → Holds (choose t x (refusal 255 0)) n
+      go : (t : Bool) → eqb (length b) size ≡ t → ReplyFits (choose t x (refusal 255 0)) n
       go true e = h (eqb-true (length b) size e)
       go false e = omega arith
 
-  submit-holds : (f : Found) (v : Verdict) → ((k : ℕ) → f ≡ slot k → k < 8) → Small v → Holds (submitReply f v) 12
+  submit-holds : (f : Found) (v : Verdict) → ((k : ℕ) → f ≡ slot k → k < 8) → Small v → ReplyFits (submitReply f v) 12
   submit-holds none-found v l s = omega arith
   submit-holds (slot k) (refused number item) l s = s
   submit-holds (slot k) accepted l s = (refl, (let z = l k refl in omega arith))
@@ -110,11 +110,11 @@ module _ (b : List ℕ) (small : (i : ℕ) → at b i < 256) where
         go true x true y = let l = ltb-true k 8 x in subst P (sym (slot-in b k l ∙ free-at b k (eqb-true (at b (slotPlace k)) 0 y))) f
         go true x false y = let l = ltb-true k 8 x in subst P (sym (slot-in b k l ∙ taken-at b k (eqb-false (at b (slotPlace k)) 0 y))) (g l)
 
-    job-holds : (k p : ℕ) (h : Job) → k < 8 → Fits b p h → Holds (servedAs k (taken h)) 16
+    job-holds : (k p : ℕ) (h : Job) → k < 8 → Fits b p h → ReplyFits (servedAs k (taken h)) 16
     job-holds k p h l f = let n = f .few in let a = f .allowed in let m = f .limited in let z = long-small b small (p + LIMIT) in (refl, omega arith, omega arith, omega arith)
 
-    status-fits : (k : ℕ) → Sees (statusFor k (slotAt (queueOf b) k)) 64
-    status-fits k = by-slot (λ s. Sees (statusFor k s) 64) k (omega arith) (λ l. let h = job-holds k (slotPlace k) (jobAt b (slotPlace k)) l (job-fits k l) in (refl, h .1, h .2, h .3))
+    status-fits : (k : ℕ) → StatusFits (statusFor k (slotAt (queueOf b) k)) 64
+    status-fits k = by-slot (λ s. StatusFits (statusFor k s) 64) k (omega arith) (λ l. let h = job-holds k (slotPlace k) (jobAt b (slotPlace k)) l (job-fits k l) in (refl, h .1, h .2, h .3))
 
     counts-fit : (k : ℕ) → Twelve (jobIn (slotAt (queueOf b) k) .progress .counts)
     unfolding at
@@ -125,10 +125,10 @@ module _ (b : List ℕ) (small : (i : ℕ) → at b i < 256) where
         let e = f .limited in
         record { long = f .twelve; small = λ i. let n = f .counted i in omega arith })
 
-    release-fits : (k : ℕ) (room : List ℕ) → Holds (releaseReply (slotAt (queueOf b) k) room) 12
-    release-fits k room = by-slot (λ s. Holds (releaseReply s room) 12) k (omega arith) (λ l. go (fits (jobAt b (slotPlace k)) room) (job-fits k l))
+    release-fits : (k : ℕ) (room : List ℕ) → ReplyFits (releaseReply (slotAt (queueOf b) k) room) 12
+    release-fits k room = by-slot (λ s. ReplyFits (releaseReply s room) 12) k (omega arith) (λ l. go (fits (jobAt b (slotPlace k)) room) (job-fits k l))
       where
-        go : (t : Bool) → Fits b (slotPlace k) (jobAt b (slotPlace k)) → Holds (releaseFor t (jobAt b (slotPlace k)) room) 12
+        go : (t : Bool) → Fits b (slotPlace k) (jobAt b (slotPlace k)) → ReplyFits (releaseFor t (jobAt b (slotPlace k)) room) 12
         go true f =
             let n = length-flat (widthAt b (slotPlace k)) (jobAt b (slotPlace k) .progress .rows) (f .wide) in
             let w : widthAt b (slotPlace k) ≤ 12 = omega arith in
@@ -136,31 +136,31 @@ module _ (b : List ℕ) (small : (i : ℕ) → at b i < 256) where
             (refl, omega arith)
         go false f = omega arith
 
-  pub submit-reply : (sheet : List ℕ) (limit : ℕ) → Holds (replyOn b (submit sheet limit)) 12
+  pub submit-reply : (sheet : List ℕ) (limit : ℕ) → ReplyFits (replyOn b (submit sheet limit)) 12
   unfolding replyOn
   submit-reply sheet limit =
       sized (submitReply (lowestFree (queueOf b)) (verdictOf sheet)) 12
       (λ e. submit-holds (lowestFree (queueOf b)) (verdictOf sheet) (λ k f. below-e 8 k (first-in (λ n. isFree (slotAt (queueOf b) n)) (below 8) k f .1)) (verdict-small sheet))
 
   -- a turn serves one of the eight slots
-  turn-holds : (e : length b ≡ size) (f : Found) → toServe (queueOf b) ≡ f → Holds (turnReply f (queueOf b)) 16
+  turn-holds : (e : length b ≡ size) (f : Found) → toServe (queueOf b) ≡ f → ReplyFits (turnReply f (queueOf b)) 16
   turn-holds e none-found q = refl
   turn-holds e (slot k) q =
       let m = first-in (λ n. waits (slotAt (queueOf b) n)) (roundFrom (queueOf b .next)) k q .1 in
       let r = Memᴰ·of-map (λ i. (queueOf b .next + i) % 8) (below 8) m in
       let l : k < 8 = (let z : (queueOf b .next + r .0) % 8 ≡ k = r .2 in omega arith) in
-      by-slot e (λ s. Holds (servedAs k (slotTurned s)) 16) k (refl, omega arith, omega arith, omega arith)
+      by-slot e (λ s. ReplyFits (servedAs k (slotTurned s)) 16) k (refl, omega arith, omega arith, omega arith)
       (λ _. job-holds e k (slotPlace k) (jobTurned (jobAt b (slotPlace k))) l (turned-fits b (slotPlace k) (jobAt b (slotPlace k)) (job-fits e k l)))
 
-  pub turn-reply : Holds (replyOn b turn) 16
+  pub turn-reply : ReplyFits (replyOn b turn) 16
   unfolding replyOn
   turn-reply = sized (turnReply (toServe (queueOf b)) (queueOf b)) 16 (λ e. turn-holds e (toServe (queueOf b)) refl)
 
-  pub status-reply : (k : ℕ) → Sees (statusOn b k) 64
+  pub status-reply : (k : ℕ) → StatusFits (statusOn b k) 64
   unfolding statusOn
   status-reply k = go (eqb (length b) size) refl
     where
-      go : (t : Bool) → eqb (length b) size ≡ t → Sees (choose t (statusFor k (slotAt (queueOf b) k)) (refusal 255 0)) 64
+      go : (t : Bool) → eqb (length b) size ≡ t → StatusFits (choose t (statusFor k (slotAt (queueOf b) k)) (refusal 255 0)) 64
       go true e = status-fits (eqb-true (length b) size e) k
       go false e = omega arith
 
@@ -172,7 +172,7 @@ module _ (b : List ℕ) (small : (i : ℕ) → at b i < 256) where
       go true e = counts-fit (eqb-true (length b) size e) k
       go false e = none-twelve
 
-  pub release-reply : (k : ℕ) (room : List ℕ) → Holds (replyOn b (release k room)) 12
+  pub release-reply : (k : ℕ) (room : List ℕ) → ReplyFits (replyOn b (release k room)) 12
   unfolding replyOn
   release-reply k room = sized (releaseReply (slotAt (queueOf b) k) room) 12 (λ e. release-fits e k room)
 

@@ -16,7 +16,7 @@ ghost use Rattle.desk.specs.Queue.{submit, standingBy};
 ghost use Rattle.desk.specs.Meaning.{means};
 ghost use Rattle.export_counts.specs.inner.Inner.{Twelve};
 ghost use Rattle.export_desk.specs.Told.{fourNumbers, kindOf, replyCode, replyAnswer, statusBytes, CallQueue, CallRelease, CallStatus};
-ghost use Rattle.export_desk.specs.inner.Fits.{Holds, Sees};
+ghost use Rattle.export_desk.specs.inner.Fits.{ReplyFits, StatusFits};
 
 // Puts four numbers at the front; answers the place after them.
 fn numbers(answer: &mut [u8], kind: usize, a: usize, b: usize, c: usize) -> usize
@@ -44,7 +44,7 @@ fn kind(standing: u8) -> usize
 
 // A reply as the returned number and the answer.
 pub fn told(answer: &mut [u8], r: Answer) -> u32
-    requires { ⌜ Holds (means r []) (length (now answer)) ⌝ }
+    requires { ⌜ ReplyFits (means r []) (length (now answer)) ⌝ }
     ensures { λ n. ⌜ n ≡ replyCode (means r []) ⌝ }
     ensures { λ _. ⌜ now (answer .exit) ≡ replyAnswer (means r []) (now (answer .entry)) ⌝ }
 {
@@ -76,7 +76,7 @@ pub fn told(answer: &mut [u8], r: Answer) -> u32
 
 // How a slot stands as the returned number and the answer, with its counts.
 fn seen(answer: &mut [u8], r: Answer, counts: [u32; 12]) -> u32
-    requires { ⌜ Sees (means r []) (length (now answer)) × Twelve counts ⌝ }
+    requires { ⌜ StatusFits (means r []) (length (now answer)) × Twelve counts ⌝ }
     ensures { λ n. ⌜ n ≡ replyCode (means r []) ⌝ }
     ensures { λ _. ⌜ now (answer .exit) ≡ statusBytes (means r []) counts (now (answer .entry)) ⌝ }
 {

@@ -5,7 +5,7 @@ use Rattle.store.specs.Store.{none, table, isTable, tableIn, Entries, keysOf, A
 use Rattle.store.specs.inner.Layout.{slotAt, slotWith, tableAt, storeOf, verdictOn, replyOn, bytesAfter}
 use Rattle.wire.specs.{Wire.wrongLength, Outcomes.outcomeCode, Outcomes.outcomeAnswer}
 use Rattle.wire.proofs.Codes.{Small, ask-small}
-use Rattle.export_store.specs.{Stored.storedCode, Stored.storedAnswer, Stored.storedBytes, Stored.storedRoom, inner.Fits.Holds}
+use Rattle.export_store.specs.{Stored.storedCode, Stored.storedAnswer, Stored.storedBytes, Stored.storedRoom, inner.Fits.OutcomeFits}
 
 -- ---- an outcome fits
 -- every refusal has item 0
@@ -36,11 +36,11 @@ written-short b o key (put t) = omega arith
 written-short b o key (fetch room) = table-short b o key
 written-short b o key remove = omega arith
 
-pub reply-holds : (b : List ℕ) (x : StoreCall) → Holds (replyOn b x .outcome)
+pub reply-holds : (b : List ℕ) (x : StoreCall) → OutcomeFits (replyOn b x .outcome)
 unfolding replyOn
 reply-holds b (call o key a) = go (verdictOn b (call o key a)) (verdict-on-small b (call o key a))
   where
-    go : (v : Verdict) → Small v → Holds (outcomeOf v (copiedOut a (storeOf b o key)))
+    go : (v : Verdict) → Small v → OutcomeFits (outcomeOf v (copiedOut a (storeOf b o key)))
     go accepted h = let l = written-short b o key a in omega arith
     go (refused number item) h = h
 

@@ -9,12 +9,12 @@ ghost use mathlib.Core.Path.{_≡_};
 ghost use lib.ListN.{length};
 ghost use Rattle.store.specs.Meaning.{means};
 ghost use Rattle.wire.specs.Outcomes.{outcomeCode, outcomeAnswer};
-ghost use Rattle.export_store.specs.inner.Fits.{Holds};
+ghost use Rattle.export_store.specs.inner.Fits.{OutcomeFits};
 ghost use Rattle.export_store.specs.Calls.{CallPutBytes, CallFetchBytes, CallDropBytes};
 
 // An outcome as the returned number and the answer.
 fn told(answer: &mut [u8], r: Answer) -> u32
-    requires { ⌜ (length (now answer) ≡ 12) × Holds (means r) ⌝ }
+    requires { ⌜ (length (now answer) ≡ 12) × OutcomeFits (means r) ⌝ }
     ensures { λ n. ⌜ n ≡ outcomeCode (means r) ⌝ }
     ensures { λ _. ⌜ now (answer .exit) ≡ outcomeAnswer (means r) (now (answer .entry)) ⌝ }
 {

@@ -6,7 +6,7 @@ use Rattle.model.proofs.Room.{rows-back}
 use Rattle.order.specs.{Order.settlingOrder, Order.orderVerdict, Order.Ordering, Reordered.read}
 use Rattle.order.proofs.{Order.order-passed, LeadersBy.read-below}
 use Rattle.list_merge.specs.{inner.Inner.Places, Merge.ascends, Merge.union, Merge.mergedBy, Merge.merged, Merge.wholeLists, Merge.orderedVerdict, Merge.mergeVerdict}
-use Rattle.list_merge.specs.Claims.{Holds, Ascends, Nothing-lent}
+use Rattle.list_merge.specs.Claims.{Merged-exactly, Ascends, Nothing-lent}
 use Rattle.list_merge.specs.inner.Claims.{Itself, Empty, Swapped}
 use Rattle.list_merge.proofs.{Reading.Earlier, Reading.ascends-none, Reading.sorted-of, Reading.ascends-of, Union.union-e, Union.union-i, Union.union-wide}
 use Rattle.list_merge.proofs.{Union.union-sorted, Asking.rows-bytes, Asking.Whole, Asking.whole-e}
@@ -67,9 +67,9 @@ accepted-of n pairs a b room e =
     let g = o .0 .settled .ordering in
     record { whole = whole-e n a b (of-T _ (q₁ .0)); ordering = g; places = record { inside = g .inside; each = g .each }; first = q₂ .0; second = q₃ .0 }
 
-pub holds : Holds
+pub merged-exactly : Merged-exactly
 unfolding merged
-holds n pairs a b room e r = holds-by n (settlingOrder n pairs) a b (accepted-of n pairs a b room e .whole .some) r
+merged-exactly n pairs a b room e r = holds-by n (settlingOrder n pairs) a b (accepted-of n pairs a b room e .whole .some) r
 
 pub ascends-strictly : Ascends
 unfolding merged

@@ -6,8 +6,8 @@ use Rattle.order.specs.Order.{settlingOrder}
 use Rattle.list_merge.specs.Merge.{ascends, mergedBy, merged, mergeVerdict}
 
 -- the merged list holds exactly the rows of either
-abbrev pub Holds : Type 0
-Holds =
+abbrev pub Merged-exactly : Type 0
+Merged-exactly =
     (n : ℕ) (pairs a b : List ℕ) (room : ℕ) → mergeVerdict n pairs a b room ≡ accepted → (r : List ℕ) →
     List·Memᴰ r (rowsIn n (merged n pairs a b)) ↔ (List·Memᴰ r (rowsIn n a) ⊎ List·Memᴰ r (rowsIn n b))
 

@@ -5,7 +5,7 @@ use Rattle.model.specs.Kit.{eqb-refl, length, take, drop, set, length-set, leng
 use Rattle.model.specs.{Lists.all, Lists.any, Lists.at, Lists.both, Lists.either, ValueSets.has, ValueSets.least, Verdict.Verdict, Verdict.accepted, Verdict.ask}
 use Rattle.model.specs.Verdict.{isAccepted}
 use Rattle.order.specs.Order.{pairsIn, Before, canFollow, settledFirst, settlingOrder, settlesAll, orderVerdict, Settling}
-use Rattle.order.specs.inner.Settled.{Holds, Befores, Settled, Ordered}
+use Rattle.order.specs.inner.Settled.{SetOf, Befores, Settled, Ordered}
 use Rattle.model.proofs.Lists.{T-of, of-T, not-of, of-not, all-i, all-e, any-cons, among-i, among-e, mem-at, at-mem, at-ext, at-take, at-set, at-set-other}
 use Rattle.model.proofs.{Masks.has-or, Sets.has-none, Sets.mask-ext, Members.or-i, Members.or-e}
 use Rattle.order.proofs.Order.{follow-i, follow-e, first-length, first-at, order-length, order-passed}
@@ -69,7 +69,7 @@ below-not pairs n i h l =
     sym (not-of (all (λ x. ltb x n) pairs) (λ t. let k = ltb→lt (at pairs i) n (all-e (λ x. ltb x n) pairs t (at pairs i) (mem-at pairs i h)) in omega arith))
 
 -- ---- what can follow
-module _ (pairs l : List ℕ) (settled y : ℕ) (h : Holds settled l) where
+module _ (pairs l : List ℕ) (settled y : ℕ) (h : SetOf settled l) where
   member : (x : ℕ) → T (has settled x) → List·Memᴰ x l
   member x t = among-e x l (subst T (h x) t)
 
@@ -200,7 +200,7 @@ module _ (n : ℕ) (pairs : List ℕ) where
 
   -- the first k places are settled, and each is below n
   pub record Placing (k settled : ℕ) (old new : List ℕ) : Type 0 where
-    pub holds : Holds settled (settledFirst n pairs k)
+    pub holds : SetOf settled (settledFirst n pairs k)
     pub placed : (i : ℕ) → i < k → at new i ≡ nextOf i
     pub others : (i : ℕ) → k ≤ i → at new i ≡ at old i
     pub small : (i : ℕ) → i < k → nextOf i < n

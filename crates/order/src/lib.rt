@@ -7,7 +7,7 @@ ghost use lib.ListN.{length};
 ghost use Rattle.model.specs.Lists.{all, at};
 ghost use Rattle.model.specs.ValueSets.{has, least};
 ghost use Rattle.order.specs.Order.{canFollow};
-ghost use Rattle.order.specs.inner.Settled.{Holds, Befores, Settled, Ordered};
+ghost use Rattle.order.specs.inner.Settled.{SetOf, Befores, Settled, Ordered};
 
 // The member test of a set of places.
 fn contains(s: u64, x: usize) -> bool
@@ -50,7 +50,7 @@ fn forerunners(pairs: &[u8], befores: &mut [u64; 16])
 // y is not settled, and its forerunners all are.
 fn can_follow(befores: &[u64; 16], settled: u64, y: usize) -> bool
     requires { ⌜ y < 16 ⌝ }
-    ensures { λ r. ⌜ ((pairs l : List ℕ) → Befores pairs (length pairs / 2) (now (befores .entry)) → Holds settled l → r ≡ canFollow pairs l y) ⌝ }
+    ensures { λ r. ⌜ ((pairs l : List ℕ) → Befores pairs (length pairs / 2) (now (befores .entry)) → SetOf settled l → r ≡ canFollow pairs l y) ⌝ }
 {
     if contains(settled, y) {
         return false;
@@ -61,7 +61,7 @@ fn can_follow(befores: &[u64; 16], settled: u64, y: usize) -> bool
 // The lowest place that can be settled next, n where there is none.
 fn next(n: usize, befores: &[u64; 16], settled: u64) -> usize
     requires { ⌜ n ≤ 12 ⌝ }
-    ensures { λ r. ⌜ ((pairs l : List ℕ) → Befores pairs (length pairs / 2) (now (befores .entry)) → Holds settled l → r ≡ least n (canFollow pairs l)) ⌝ }
+    ensures { λ r. ⌜ ((pairs l : List ℕ) → Befores pairs (length pairs / 2) (now (befores .entry)) → SetOf settled l → r ≡ least n (canFollow pairs l)) ⌝ }
 {
     let mut y = 0;
     while y < n {

@@ -9,10 +9,10 @@ use Rattle.run_input.specs.Lent.{verdictLent, orderLent, problemWith, problemLe
 use Rattle.run_input.proofs.Lent.{well-sheet}
 use Rattle.arrays.specs.inner.Places.{PLANS, ALL, SPENT, REFUSED, NUMBERS, STACK, SUPPORTS, TABLES, WORK, WANTED}
 use Rattle.sheet.proofs.Whole.{zeros}
-use Rattle.run_state.specs.inner.Walk.{kept, stopIn, tallyBy}
+use Rattle.run_state.specs.inner.Walk.{allNoted, stopIn, tallyBy}
 use Rattle.run.specs.{Meaning.means, inner.Whole.Stopped, inner.Whole.Answered, inner.Whole.Wanted, declared.Answer.Answer}
 use Rattle.run_search.specs.{inner.Prepared.bytesFor, inner.Prepared.Blank, inner.Explored.resultFor, inner.Explored.Explored}
-use Rattle.run_state.proofs.Outcome.{kept-none, kept-over}
+use Rattle.run_state.proofs.Outcome.{noted-all-none, noted-all-over}
 use Rattle.model.specs.Verdict as model
 use Rattle.model.specs.Run as Run
 
@@ -45,7 +45,7 @@ pub record Ran (task b pairs block : List ℕ) (limit : ℕ) (list : List ℕ) (
   pub refused : (number item : ℕ) → verdictLent b pairs block ≡ refused number item → (means r ≡ refusal number item) × (list′ ≡ list) × (tally′ ≡ tally)
   pub ended : verdictLent b pairs block ≡ accepted →
       (means r ≡ ended (resultFor task b pairs block limit (length list) .ending))
-      × (list′ ≡ kept (map (write (orderLent b pairs)) (resultFor task b pairs block limit (length list) .rows)) list)
+      × (list′ ≡ allNoted (map (write (orderLent b pairs)) (resultFor task b pairs block limit (length list) .rows)) list)
       × (tally′ ≡ tallyBy (orderLent b pairs) (nodes (problemLent b pairs block)) (nodesIn (resultFor task b pairs block limit (length list) .ending)))
 
 module _ (task b pairs block : List ℕ) (limit : ℕ) (list : List ℕ) (tally : Tally) (work′ list′ : List ℕ) (tally′ : Tally) (stop : ℕ)
@@ -96,16 +96,16 @@ no-rows : (p : Problem) (limit : ℕ) → 0 < p .variables → resultOf p limit 
 no-rows p limit s = length-none (resultOf p limit 0 .rows) (nothing-of (p .variables) (length (resultOf p limit 0 .rows)) s (rows-fit p limit 0))
 
 pub kept-listed : (p : Problem) (order : List ℕ) (limit : ℕ) (list : List ℕ) → 0 < p .variables →
-    kept (map (write order) (resultOf p limit (length list) .rows)) list ≡ written (map (write order) (resultOf p limit (length list) .rows)) list
+    allNoted (map (write order) (resultOf p limit (length list) .rows)) list ≡ written (map (write order) (resultOf p limit (length list) .rows)) list
 unfolding written flat
 kept-listed p order limit list s = go (eqb (length list) 0) refl
   where
-    go : (c : Bool) → eqb (length list) 0 ≡ c → kept (map (write order) (resultOf p limit (length list) .rows)) list ≡ written (map (write order) (resultOf p limit (length list) .rows)) list
+    go : (c : Bool) → eqb (length list) 0 ≡ c → allNoted (map (write order) (resultOf p limit (length list) .rows)) list ≡ written (map (write order) (resultOf p limit (length list) .rows)) list
     go true e =
         let z = eqb-true (length list) 0 e in
-        kept-none (map (write order) (resultOf p limit (length list) .rows)) list z
+        noted-all-none (map (write order) (resultOf p limit (length list) .rows)) list z
         ∙ sym (ap (λ (rows : List (List ℕ)). written (map (write order) rows) list) (ap (λ (k : ℕ). resultOf p limit k .rows) z ∙ no-rows p limit s))
-    go false e = kept-over (map (write order) (resultOf p limit (length list) .rows)) list (eqb-false (length list) 0 e)
+    go false e = noted-all-over (map (write order) (resultOf p limit (length list) .rows)) list (eqb-false (length list) 0 e)
 
 module _ (task b pairs block : List ℕ) (limit : ℕ) (list : List ℕ) (tally : Tally) (list′ : List ℕ) (tally′ : Tally) (r : Answer) (h : Ran task b pairs block limit list tally list′ tally′ r)
     (lists : at task WANTED ≡ 0) where
@@ -127,7 +127,7 @@ module _ (task b pairs block : List ℕ) (limit : ℕ) (list : List ℕ) (tally 
       let f = h .ended v in
       let some = well-sheet b pairs block (is-accepted (verdictLent b pairs block) v) .some in (
         f .0 ∙ ap (λ (z : Result). ended (z .ending)) same-result,
-        f .1 ∙ ap (λ (z : Result). kept (map (write (orderLent b pairs)) (z .rows)) list) same-result ∙ kept-listed (problemLent b pairs block) (orderLent b pairs) limit list some,
+        f .1 ∙ ap (λ (z : Result). allNoted (map (write (orderLent b pairs)) (z .rows)) list) same-result ∙ kept-listed (problemLent b pairs block) (orderLent b pairs) limit list some,
         f .2 ∙ ap (λ (z : Result). tallyBy (orderLent b pairs) (nodes (problemLent b pairs block)) (nodesIn (z .ending))) same-result,
       )
 

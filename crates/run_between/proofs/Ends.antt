@@ -4,7 +4,7 @@ use Rattle.model.specs.Kit.{length-take, length-take-le, eqb-true, eqb-false}
 use Rattle.model.specs.{Lists.at, Problem.Problem, Search.setsAt, Search.isLive, Run.Tally}
 use Rattle.model.proofs.Lists.{at-set, at-set-other, at-take, at-out}
 use Rattle.arrays.specs.inner.Places.{ROOM, PLANS, LAST, DEEPER, WORK, MEMO}
-use Rattle.prune.specs.inner.Node.{Holds, Marked}
+use Rattle.prune.specs.inner.Node.{SetsHeld, Marked}
 use Rattle.prune.proofs.Marks.{marked-on}
 use Rattle.run_state.specs.{inner.Walk.noNodes, inner.Pair.prefixOf, inner.Pair.orderIn, inner.Pair.ownIn, inner.Pair.Cleared, inner.Pair.ListRoom, inner.Pair.AtPrefix}
 use Rattle.run_state.specs.inner.Pair.{Walked}
@@ -83,7 +83,7 @@ module _ (path work work′ : List ℕ) (h : Begun path work work′) where
         ready = ready-on (g .ready) refl (h .sized ∙ sym (g .ready .work-length));
         inner = g .inner;
         live = subst (λ (t : List ℕ). T (isLive p t)) (sym e) (g .live);
-        held = subst (λ (t : List ℕ). Holds (ownIn p numbers) stack 0 (setsAt p t)) (sym e) (g .held);
+        held = subst (λ (t : List ℕ). SetsHeld (ownIn p numbers) stack 0 (setsAt p t)) (sym e) (g .held);
         marked = marked-on (ownIn p numbers) (p .symmetries) work work′ (prefixOf work′ 0) 0 (g .ready .symmetries) (λ i l u. h .others i (omega arith) (omega arith) (λ q. omega arith))
             (subst (λ (t : List ℕ). Marked (ownIn p numbers) (p .symmetries) work t 0) (sym e) (g .marked));
         limited = g .limited;

@@ -3,7 +3,7 @@ use Rattle.model.specs.Kit.{_≡_, sym, ap, _∙_, subst, Bool, true, false, Li
 use Rattle.model.specs.{Lists.at, ValueSets.has, Problem.Problem, Search.setsAt, Search.isLive, Run.Tally}
 use Rattle.model.proofs.Lists.{T-of}
 use Rattle.arrays.specs.inner.Places.{ROOM, PLANS}
-use Rattle.prune.specs.inner.Node.{Holds, Marked, AtNode, Reached, longer}
+use Rattle.prune.specs.inner.Node.{SetsHeld, Marked, AtNode, Reached, longer}
 use Rattle.run_state.proofs.{Memo.memo-on, Prefix.prefix-ext, Prefix.prefix-take, Prefix.prefix-snoc}
 use Rattle.run_state.specs.inner.Pair.{prefixOf, orderIn, ownIn, ListRoom, AtPrefix}
 use Rattle.run_tree.proofs.Turns.{ready-on}
@@ -24,7 +24,7 @@ module _ (p : Problem) (stack work supports tables numbers list : List ℕ) (tal
     ready = h .ready;
     room = h .inner;
     live = subst (λ (q : List ℕ). T (isLive p q)) (sym taken) (h .live);
-    held = subst (λ (q : List ℕ). Holds (ownIn p numbers) stack k (setsAt p q)) (sym taken) (h .held);
+    held = subst (λ (q : List ℕ). SetsHeld (ownIn p numbers) stack k (setsAt p q)) (sym taken) (h .held);
     marked = subst (λ (q : List ℕ). Marked (ownIn p numbers) (p .symmetries) work q k) (sym taken) (h .marked);
     member = subst (λ (q : List ℕ). T (has (at (setsAt p q) k) (at work k))) (sym taken) t;
   }
@@ -50,7 +50,7 @@ module _ (p : Problem) (stack work supports tables numbers list : List ℕ) (tal
           ready = ready-on (h .ready) (q .stack-length) (q .work-length);
           inner = omega arith;
           live = T-of _ (subst (λ (t : List ℕ). isLive p t ≡ true) (longer-is ∙ sym s ∙ ap (prefixOf work′) (sym (add-one k))) (not-false (isLive p (longer work k)) (sym (q .answers) ∙ e)));
-          held = subst (λ (t : List ℕ). Holds (ownIn p numbers) stack′ (k + 1) (setsAt p t)) (longer-is ∙ sym s ∙ ap (prefixOf work′) (sym (add-one k))) (q .holds e);
+          held = subst (λ (t : List ℕ). SetsHeld (ownIn p numbers) stack′ (k + 1) (setsAt p t)) (longer-is ∙ sym s ∙ ap (prefixOf work′) (sym (add-one k))) (q .holds e);
           marked = subst (λ (t : List ℕ). Marked (ownIn p numbers) (p .symmetries) work′ t (k + 1)) (longer-is ∙ sym s ∙ ap (prefixOf work′) (sym (add-one k))) (q .marked e);
           limited = h .limited;
           allowed = h .allowed;

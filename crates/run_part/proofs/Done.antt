@@ -11,9 +11,9 @@ use Rattle.run_cut.proofs.{Resume.dead-below, Resume.last-in, Resume.taken, Res
 use Rattle.run_input.specs.Lent.{verdictLent, orderLent, problemLent}
 use Rattle.run_input.proofs.Lent.{well-sheet, ordering-lent}
 use Rattle.arrays.specs.inner.Places.{ROOM, PLANS, NUMBER, ITEM, LAST, ALL, SPENT, DEEPER, REFUSED, WANTED}
-use Rattle.run_state.specs.inner.Walk.{noNodes, State, walk, kept, stopIn, tallyBy}
+use Rattle.run_state.specs.inner.Walk.{noNodes, State, walk, allNoted, stopIn, tallyBy}
 use Rattle.run_state.specs.inner.Pair.{prefixOf, orderIn, stateOf}
-use Rattle.run_state.proofs.{Prefix.prefix-zero, Prefix.prefix-at, Prefix.length-prefix, Outcome.outcome-on, Outcome.kept-none, Outcome.kept-over, Outcome.nothing-kept}
+use Rattle.run_state.proofs.{Prefix.prefix-zero, Prefix.prefix-at, Prefix.length-prefix, Outcome.outcome-on, Outcome.noted-all-none, Outcome.noted-all-over, Outcome.nothing-noted}
 use Rattle.run_task.specs.inner.Task.{roomFor}
 use Rattle.run_search.specs.inner.Prepared.{Prepared}
 use Rattle.run_search.proofs.Prepared.{room-fits, room-most}
@@ -55,15 +55,15 @@ module _ (p : Problem) (order : List ℕ) (sized : length order ≡ p .variables
         tally = tallyBy order ts (nodesIn (r .ending));
         plans = plansIn (r .ending);
         stop = stopIn (r .ending);
-        list = kept (map (write order) (r .rows)) out;
+        list = allNoted (map (write order) (r .rows)) out;
         last = lastOf last
             (take (nodesIn (r .ending)) ts);
       }
   unfolding flat
   outcome-of =
-      outcome-on p order sized limit room bytes out fits most same ts last 0 [] (omega arith) (omega arith) (nothing-kept out)
+      outcome-on p order sized limit room bytes out fits most same ts last 0 [] (omega arith) (omega arith) (nothing-noted out)
       ∙ ap (λ (k : ℕ). done (search p k bytes ts 0 [])) (let e : limit + 0 ≡ limit = omega arith in e)
-      ∙ ap (λ (k : ℕ). record { tally = tallyBy order ts k; plans = plansIn (r .ending); stop = stopIn (r .ending); list = kept (map (write order) (r .rows)) out; last = lastOf last (take k ts) })
+      ∙ ap (λ (k : ℕ). record { tally = tallyBy order ts k; plans = plansIn (r .ending); stop = stopIn (r .ending); list = allNoted (map (write order) (r .rows)) out; last = lastOf last (take k ts) })
       (sub-zero (nodesIn (r .ending)))
     where
       done : Result → State
@@ -71,26 +71,26 @@ module _ (p : Problem) (order : List ℕ) (sized : length order ≡ p .variables
         tally = tallyBy order ts (nodesIn (x .ending) - 0);
         plans = plansIn (x .ending);
         stop = stopIn (x .ending);
-        list = kept
+        list = allNoted
             (map (write order) (x .rows)) out;
         last = lastOf last (take (nodesIn (x .ending) - 0) ts);
       }
 
 -- a list of no byte has room for no row
 kept-so : (p : Problem) (order : List ℕ) (limit : ℕ) (list : List ℕ) (ts : List (List ℕ)) → 0 < p .variables →
-    kept (map (write order) (search p limit (length list) ts 0 [] .rows)) list ≡ written (map (write order) (search p limit (length list) ts 0 [] .rows)) list
+    allNoted (map (write order) (search p limit (length list) ts 0 [] .rows)) list ≡ written (map (write order) (search p limit (length list) ts 0 [] .rows)) list
 unfolding written flat
 kept-so p order limit list ts some = go (eqb (length list) 0) refl
   where
-    go : (c : Bool) → eqb (length list) 0 ≡ c → kept (map (write order) (search p limit (length list) ts 0 [] .rows)) list ≡ written
+    go : (c : Bool) → eqb (length list) 0 ≡ c → allNoted (map (write order) (search p limit (length list) ts 0 [] .rows)) list ≡ written
         (map (write order) (search p limit (length list) ts 0 [] .rows)) list
     go true e =
         let z = eqb-true (length list) 0 e in
         let f : length (search p limit (length list) ts 0 [] .rows) * p .variables ≤ length list = R.walk p limit (length list) ts 0 [] .roomy (omega arith) in
-        kept-none (map (write order) (search p limit (length list) ts 0 [] .rows)) list z
+        noted-all-none (map (write order) (search p limit (length list) ts 0 [] .rows)) list z
         ∙ sym (ap (λ (rows : List (List ℕ)). written (map (write order) rows) list) (length-none (search p limit (length list) ts 0 [] .rows)
         (nothing-of (p .variables) (length (search p limit (length list) ts 0 [] .rows)) some (omega arith))))
-    go false e = kept-over (map (write order) (search p limit (length list) ts 0 [] .rows)) list (eqb-false (length list) 0 e)
+    go false e = noted-all-over (map (write order) (search p limit (length list) ts 0 [] .rows)) list (eqb-false (length list) 0 e)
 
 module _ (task b pairs block from upto : List ℕ) (limit : ℕ) (list : List ℕ) (listing : at task WANTED ≡ 0)
     (stack work supports tables numbers : List ℕ) (step : ℕ) (h : Prepared task b pairs block limit (length list) stack work supports tables numbers step)
@@ -162,7 +162,7 @@ module _ (task b pairs block from upto : List ℕ) (limit : ℕ) (list : List �
           tally = tallyBy order ts (nodesIn (x .ending));
           plans = plansIn (x .ending);
           stop = stopIn (x .ending);
-          list = kept (map (write order) (x .rows)) list;
+          list = allNoted (map (write order) (x .rows)) list;
           last = lastOf
               (take 12 from) (take (nodesIn (x .ending)) ts);
         }

@@ -13,7 +13,7 @@ use Rattle.run_input.specs.Lent.{verdictLent, problemWith, orderLent, problemLe
 use Rattle.run_input.proofs.Lent.{well-lent, ordering-lent}
 use Rattle.run_ranges.specs.Ranges.{resultPart, answerPart, listPart, plansSaid, nodesSaid, madeBy, tallyPart, lastPart}
 use Rattle.run_ranges.specs.Claims.{Part, CallRange, plansHeld, Refused-part, Whole-run, Goes, reachedFor, reachedBy, Chain, allPlans, sumPlans, sumNodes, sumCounts, Together}
-use Rattle.run_ranges.specs.Claims.{Joined, Joined-run, One-piece, Done, CutAt, Cuts-run}
+use Rattle.run_ranges.specs.Claims.{Parts-join, Joined-run, One-piece, Done, CutAt, Cuts-run}
 use Rattle.run_ranges.proofs.Between.{Before, before-of, join-nodes, none-between, whole-between, stop}
 use Rattle.order.proofs.Reordered as O
 
@@ -113,14 +113,14 @@ module _ (b pairs block : List ℕ) (so : verdictLent b pairs block ≡ accepted
       (λ r m. let q = Memᴰ·of-map (write order) rows m in ap length (sym (q .2)) ∙ O.write-length (problemWith b block) order o (q .0))
 
   -- what a caller holds of some nodes that are all made
-  pub record Holds (ts : List (List ℕ)) (plans : List (List ℕ)) (number made : ℕ) (counts : ℕ → ℕ) : Type 0 where
+  pub record PartHolds (ts : List (List ℕ)) (plans : List (List ℕ)) (number made : ℕ) (counts : ℕ → ℕ) : Type 0 where
     pub listed : plans ≡ map (write (orderLent b pairs)) (keep (isPlan (problemLent b pairs block)) ts)
     pub many : number ≡ length (keep (isPlan (problemLent b pairs block)) ts)
     pub nodes : made ≡ length ts
     pub settled : (x : ℕ) → counts x ≡ at (countsBy (λ t. at (orderLent b pairs) (settledBy t)) ts) x
 
   abbrev held : Part → List (List ℕ) → Type 0
-  held c ts = Holds ts (plansHeld n c) (plansSaid (c .answer)) (nodesSaid (c .answer)) (λ x. at (c .tally .counts) x)
+  held c ts = PartHolds ts (plansHeld n c) (plansSaid (c .answer)) (nodesSaid (c .answer)) (λ x. at (c .tally .counts) x)
 
   held-by : (c : Part) (ts : List (List ℕ)) (e : Ending) → CallRange b pairs block c → c .answer ≡ ended e → Passed p (c .limit) (length (c .out)) (nodesBetween p (c .from) (c .upto)) e →
       ts ≡ take (nodesIn e) (nodesBetween p (c .from) (c .upto)) → held c ts
@@ -165,7 +165,7 @@ module _ (b pairs block : List ℕ) (so : verdictLent b pairs block ≡ accepted
 
   -- ---- parts one behind the other
   abbrev heldBy : List Part → List (List ℕ) → Type 0
-  heldBy cs ts = Holds ts (allPlans n cs) (sumPlans cs) (sumNodes cs) (λ x. sumCounts x cs)
+  heldBy cs ts = PartHolds ts (allPlans n cs) (sumPlans cs) (sumNodes cs) (λ x. sumCounts x cs)
 
   holds-nothing : heldBy [] []
   unfolding flat total keep
@@ -229,8 +229,8 @@ nodes-of : (a : Answer) (plans made : ℕ) → (a ≡ ended (finished plans made
 nodes-of a plans made (inl e) = ap nodesSaid e
 nodes-of a plans made (inr e) = ap nodesSaid e
 
-pub joined : Joined
-joined b pairs block from upto cs so chain c call e f l m =
+pub parts-join : Parts-join
+parts-join b pairs block from upto cs so chain c call e f l m =
     let k = chained b pairs block so from upto cs chain in
     let ts = nodesBetween (problemLent b pairs block) (c .from) (c .upto) in
     let h = subst (λ (x : List ℕ). heldBy b pairs block so cs (nodesBetween (problemLent b pairs block) x (c .upto))) (sym e)

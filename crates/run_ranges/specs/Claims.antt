@@ -89,8 +89,8 @@ pub record Together (n : ℕ) (cs : List Part) (out : List ℕ) (a : Answer) (li
   pub counts : (x : ℕ) → at (tally .counts) x ≡ sumCounts x cs
 
 -- a call from where the first began to where the last came, with limit and room enough, is finished with what they hold together ..
-abbrev pub Joined : Type 0
-Joined =
+abbrev pub Parts-join : Type 0
+Parts-join =
     (b pairs block from upto : List ℕ) (cs : List Part) → verdictLent b pairs block ≡ accepted → Chain b pairs block from cs upto →
     (c : Part) → CallRange b pairs block c → c .from ≡ from → c .upto ≡ upto → sumNodes cs ≤ c .limit → sumPlans cs * problemOf b .variables ≤ length (c .out) →
     Together (problemOf b .variables) cs (c .out) (c .answer) (c .list) (c .tally)

@@ -15,9 +15,9 @@ use Rattle.run_cut.specs.Parts.{after, nodesAfter, lastOf, Progress, goOn, made
 use Rattle.run_cut.proofs.{Resume.node-values, Resume.last-in, Resume.taken, Counts.counts-none, Anywhere.no-fewer}
 use Rattle.arrays.specs.inner.Places.{LIMIT, ROOM, PLANS, LAST, ALL, DEEPER, WORK}
 use Rattle.sheet.specs.Meaning.{compilable}
-use Rattle.run_state.specs.inner.Walk.{State, noNodes, kept, walk, stopIn, tallyBy}
+use Rattle.run_state.specs.inner.Walk.{State, noNodes, allNoted, walk, stopIn, tallyBy}
 use Rattle.run_state.specs.inner.Pair.{prefixOf, orderIn, ownIn, stateOf, AtPrefix, Walked}
-use Rattle.run_state.proofs.{Outcome.kept-none, Outcome.kept-over, Outcome.outcome-on, Prefix.length-prefix, Prefix.prefix-at, Prefix.prefix-ext, Prefix.prefix-zero}
+use Rattle.run_state.proofs.{Outcome.noted-all-none, Outcome.noted-all-over, Outcome.outcome-on, Prefix.length-prefix, Prefix.prefix-at, Prefix.prefix-ext, Prefix.prefix-zero}
 use Rattle.run_state.proofs.Prefix.{prefix-is}
 use Rattle.run_search.proofs.Prepared.{room-fits, room-most}
 use Rattle.run_ranges.specs.inner.Within.{within}
@@ -129,7 +129,7 @@ module _ (p : Problem) (s : Progress) (limit room : ℕ) (stack work supports ta
         let d = div-add-mod' room (p .variables) in omega arith
 
     -- a list of no byte has room for no row
-    written-so : (rows : List (List ℕ)) → length rows * p .variables ≤ room → kept rows list ≡ written rows list
+    written-so : (rows : List (List ℕ)) → length rows * p .variables ≤ room → allNoted rows list ≡ written rows list
     unfolding written flat
     written-so rows l = go (eqb (length list) 0) refl
       where
@@ -137,12 +137,12 @@ module _ (p : Problem) (s : Progress) (limit room : ℕ) (stack work supports ta
         empty [] z = refl
         empty (r ∷ rs) z = absurd (let o = some in let q : suc (length rs) * p .variables ≡ p .variables + length rs * p .variables = omega arith in omega arith)
 
-        go : (c : Bool) → eqb (length list) 0 ≡ c → kept rows list ≡ written rows list
+        go : (c : Bool) → eqb (length list) 0 ≡ c → allNoted rows list ≡ written rows list
         go true c =
             let z = eqb-true (length list) 0 c in
             let r : length rows * p .variables ≤ 0 = (let q = h .lent e in omega arith) in
-            kept-none rows list z ∙ sym (ap (λ (x : List (List ℕ)). written x list) (empty rows r))
-        go false c = kept-over rows list (eqb-false (length list) 0 c)
+            noted-all-none rows list z ∙ sym (ap (λ (x : List (List ℕ)). written x list) (empty rows r))
+        go false c = noted-all-over rows list (eqb-false (length list) 0 c)
 
     module _ (stack′ work′ list′ : List ℕ) (tally : Tally) (stop : ℕ) (c : Walked p (within p (p .variables - 0) (prefixOf work 0) (s .last) (255 ∷ [])) stack work numbers list noNodes 0 stack′
         work′ list′ tally stop) where
@@ -154,7 +154,7 @@ module _ (p : Problem) (s : Progress) (limit room : ℕ) (stack work supports ta
         tally = tallyBy (below (p .variables)) all (nodesIn (r .ending) - s .made);
         plans = plansIn (r .ending);
         stop = stopIn (r .ending);
-        list = kept
+        list = allNoted
             (map (write (below (p .variables))) (r .rows)) list;
         last = lastOf (s .last) (take (nodesIn (r .ending) - s .made) all);
       }
@@ -176,7 +176,7 @@ module _ (p : Problem) (s : Progress) (limit room : ℕ) (stack work supports ta
           (room-most 0 (p .variables) room some) (λ o. sym (h .lent e)) all (s .last) (s .made) (s .rows)
           (ap (λ (l : List (List ℕ)). length (flat l)) (same-rows (s .rows) (h .widths e)) ∙ length-flat (p .variables) (s .rows) (h .widths e))
           fits
-          (ap (λ (l : List (List ℕ)). kept l list) (same-rows (s .rows) (h .widths e)) ∙ written-so (s .rows) fits ∙ h .stands .listed)
+          (ap (λ (l : List (List ℕ)). allNoted l list) (same-rows (s .rows) (h .widths e)) ∙ written-so (s .rows) fits ∙ h .stands .listed)
           ∙ ap (λ (k : ℕ). to (search p k room all (s .made) (s .rows))) (h .bounded e)
 
       -- a node that settles the variable of its depth is counted as that variable's
@@ -226,7 +226,7 @@ module _ (p : Problem) (s : Progress) (limit room : ℕ) (stack work supports ta
         bytes = λ i l.
             let q : at work′ LAST ≡ length (lastAfter p s result) = sym (length-prefix work′ (at work′ LAST)) ∙ ap length is-last in
             subst (λ (v : ℕ). v < 256) (sym (sym (prefix-at work′ (at work′ LAST) i l) ∙ ap (λ (t : List ℕ). at t i) is-last)) (small .0 i (omega arith));
-        wrote = ap (λ (x : State). x .list) came ∙ ap (λ (l : List (List ℕ)). kept l list) (same-rows (result .rows) (rest-wide p limit room s (h .widths e))) ∙ written-so (result .rows)
+        wrote = ap (λ (x : State). x .list) came ∙ ap (λ (l : List (List ℕ)). allNoted l list) (same-rows (result .rows) (rest-wide p limit room s (h .widths e))) ∙ written-so (result .rows)
             (rest-walk p limit room s .roomy fits);
       }
 

@@ -11,7 +11,7 @@ use Rattle.run_input.specs.inner.Compile.{WithinLimits}
 use Rattle.arrays.specs.inner.Places.{VARIABLES, VALUES, CONSTRAINTS, SYMMETRIES, LIMIT, ROOM, ORDER, BLOCK, ASKS, PLANS, ALL, DEEPER, NUMBERS, STACK, TABLES, WORK, DEPTH}
 use Rattle.arrays.specs.inner.Layout.{Numbers, Compiled}
 use Rattle.arrays_tables.specs.inner.Index.{Compact, Made}
-use Rattle.prune.specs.inner.Node.{Ready, Holds, Marked, Reached}
+use Rattle.prune.specs.inner.Node.{Ready, SetsHeld, Marked, Reached}
 use Rattle.run_state.specs.{inner.Walk.noNodes, inner.Memo.entryAt, inner.Pair.prefixOf, inner.Pair.orderIn, inner.Pair.ownIn, inner.Pair.ListRoom, inner.Pair.AtPrefix}
 use Rattle.run_memo.specs.inner.Steps.{Cleared}
 use Rattle.run_state.proofs.{Prefix.prefix-zero, Written.order-taken, Walk.none-summed}
@@ -155,7 +155,7 @@ module _ (p own : Problem) (order numbers supports images bytes : List ℕ) (pos
           ready = ready stack′ work′ (q .stack-length ∙ lent .stack-length) (q .work-length ∙ cleared .long ∙ lent .work-length);
           inner = subst (λ (n : ℕ). 0 < n) (sym same-variables) (fits .wellFormed .some);
           live = T-of (isLive p (prefixOf work′ 0)) (ap (isLive p) (prefix-zero work′) ∙ not-false (isLive p []) (sym (q .answers) ∙ e));
-          held = subst (λ (t : List ℕ). Holds (ownIn p numbers′) stack′ 0 (setsAt p t)) (sym (prefix-zero work′)) (q .holds e);
+          held = subst (λ (t : List ℕ). SetsHeld (ownIn p numbers′) stack′ 0 (setsAt p t)) (sym (prefix-zero work′)) (q .holds e);
           marked = subst (λ (t : List ℕ). Marked (ownIn p numbers′) (p .symmetries) work′ t 0) (sym (prefix-zero work′)) (q .marked e);
           limited = subst (λ (k : ℕ). k < 2 ^ 32) (sym (first LIMIT (omega arith))) small;
           allowed = omega arith;

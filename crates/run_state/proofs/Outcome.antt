@@ -11,7 +11,7 @@ use Rattle.model.proofs.{Lists.flat-append, Lists.map-append, Runs.turn, Runs.s
 use Rattle.order.specs.Reordered.{write}
 use Rattle.run_cut.specs.Parts.{lastOf}
 use Rattle.arrays.specs.inner.Places.{ALL, SPENT, FULL}
-use Rattle.run_state.specs.inner.Walk.{withNode, noNodes, State, noted, kept, listed, counted, visit, walk, stopIn, tallyBy}
+use Rattle.run_state.specs.inner.Walk.{withNode, noNodes, State, noted, allNoted, listed, counted, visit, walk, stopIn, tallyBy}
 use Rattle.run_state.proofs.Walk.{listed-full, listed-kept, noted-none, noted-over, visit-spent, visit-other, visit-plan, walk-stopped, length-write}
 
 -- rows of n bytes
@@ -37,25 +37,25 @@ length-written : (rows : List (List ℕ)) (out : List ℕ) → length (flat rows
 unfolding written
 length-written rows out h = simp (length-append, length-drop) (omega arith)
 
-pub kept-none : (rows : List (List ℕ)) (out : List ℕ) → length out ≡ 0 → kept rows out ≡ out
-unfolding kept
-kept-none rows out e = rw (eq-eqb (length out) 0 e)
+pub noted-all-none : (rows : List (List ℕ)) (out : List ℕ) → length out ≡ 0 → allNoted rows out ≡ out
+unfolding allNoted
+noted-all-none rows out e = rw (eq-eqb (length out) 0 e)
 
-pub kept-over : (rows : List (List ℕ)) (out : List ℕ) → (length out ≡ 0 → ⊥) → kept rows out ≡ written rows out
-unfolding kept
-kept-over rows out n = rw (ne-eqb (length out) 0 n)
+pub noted-all-over : (rows : List (List ℕ)) (out : List ℕ) → (length out ≡ 0 → ⊥) → allNoted rows out ≡ written rows out
+unfolding allNoted
+noted-all-over rows out n = rw (ne-eqb (length out) 0 n)
 
-kept-snoc : (rows : List (List ℕ)) (t out : List ℕ) (n : ℕ) → length (flat rows) ≡ n → ((length out ≡ 0 → ⊥) → n ≤ length out) → noted n t (kept rows out) ≡ kept (rows ++ (t ∷ [])) out
-kept-snoc rows t out n e h = go (eqb (length out) 0) refl
+noted-all-snoc : (rows : List (List ℕ)) (t out : List ℕ) (n : ℕ) → length (flat rows) ≡ n → ((length out ≡ 0 → ⊥) → n ≤ length out) → noted n t (allNoted rows out) ≡ allNoted (rows ++ (t ∷ [])) out
+noted-all-snoc rows t out n e h = go (eqb (length out) 0) refl
   where
-    go : (b : Bool) → eqb (length out) 0 ≡ b → noted n t (kept rows out) ≡ kept (rows ++ (t ∷ [])) out
+    go : (b : Bool) → eqb (length out) 0 ≡ b → noted n t (allNoted rows out) ≡ allNoted (rows ++ (t ∷ [])) out
     go true z =
         let o = eqb-true (length out) 0 z in
-        ap (noted n t) (kept-none rows out o) ∙ noted-none n t out o ∙ sym (kept-none (rows ++ (t ∷ [])) out o)
+        ap (noted n t) (noted-all-none rows out o) ∙ noted-none n t out o ∙ sym (noted-all-none (rows ++ (t ∷ [])) out o)
     go false z =
         let o = eqb-false (length out) 0 z in
         let l = length-written rows out (let k = h o in omega arith) in
-        ap (noted n t) (kept-over rows out o) ∙ noted-over n t (written rows out) (λ g. o (sym l ∙ g)) ∙ written-snoc rows t out n e ∙ sym (kept-over (rows ++ (t ∷ [])) out o)
+        ap (noted n t) (noted-all-over rows out o) ∙ noted-over n t (written rows out) (λ g. o (sym l ∙ g)) ∙ written-snoc rows t out n e ∙ sym (noted-all-over (rows ++ (t ∷ [])) out o)
 
 last-snoc : (path : List ℕ) (l : List (List ℕ)) (t : List ℕ) → lastOf path (l ++ (t ∷ [])) ≡ t
 unfolding lastOf
@@ -80,7 +80,7 @@ module _ (p : Problem) (order : List ℕ) (sized : length order ≡ p .variables
 
   -- the state after so many of the nodes
   abbrev after : ℕ → ℕ → ℕ → List (List ℕ) → State
-  after made plans stop rows = record { tally = tallyBy order all made; plans = plans; stop = stop; list = kept (by rows) out; last = lastOf path (take made all) }
+  after made plans stop rows = record { tally = tallyBy order all made; plans = plans; stop = stop; list = allNoted (by rows) out; last = lastOf path (take made all) }
 
   abbrev from : ℕ → List (List ℕ) → State
   from made rows = after made (length rows) ALL rows
@@ -135,7 +135,7 @@ module _ (p : Problem) (order : List ℕ) (sized : length order ≡ p .variables
       Y = search p (limit + d) bytes ts (suc so) (rows ++ (t ∷ []))
 
       next : counted x t (from made rows) ≡ from (suc made) rows
-      next = ap₂ (λ (a : Tally) (u : List ℕ). record { tally = a; plans = length rows; stop = ALL; list = kept (by rows) out; last = u }) (tally-next made t ts g) (last-next made t ts g)
+      next = ap₂ (λ (a : Tally) (u : List ℕ). record { tally = a; plans = length rows; stop = ALL; list = allNoted (by rows) out; last = u }) (tally-next made t ts g) (last-next made t ts g)
 
       due : eqb so (limit + d) ≡ false → from made rows .tally .nodes ≡ limit → ⊥
       due e q = let m : made ≡ limit = sym (nodes-by made) ∙ q in eqb-false so (limit + d) e (omega arith)
@@ -182,20 +182,20 @@ module _ (p : Problem) (order : List ℕ) (sized : length order ≡ p .variables
           ap (walk p order limit room ts)
           (visit-plan p order limit room t s refl (due e) e′ ∙ ap (listed (p .variables) room (write order t)) next ∙ listed-kept (p .variables) room (write order t) _ (less l)
           ∙ ap₂ (λ (k : ℕ) (l : List ℕ). record { tally = tallyBy order all (suc made); plans = k; stop = ALL; list = l; last = lastOf path (take (suc made) all) }) (sym g)
-          (kept-snoc (by rows) (write order t) out (length rows * p .variables) z (λ o. let s = same o in omega arith) ∙ ap (λ (l : List (List ℕ)). kept l out) (sym m)))
+          (noted-all-snoc (by rows) (write order t) out (length rows * p .variables) z (λ o. let s = same o in omega arith) ∙ ap (λ (l : List (List ℕ)). allNoted l out) (sym m)))
           ∙ jh (f ∙ (omega arith) ∙ ap (λ (k : ℕ). k * p .variables) (sym g)) (subst (λ (k : ℕ). k * p .variables ≤ bytes) (sym g) l)
 
   -- along all the nodes, from nothing counted and rows that stand in the list
-  pub outcome-on : (rows : List (List ℕ)) → length (flat (by rows)) ≡ length rows * p .variables → length rows * p .variables ≤ bytes → kept (by rows) out ≡ out →
+  pub outcome-on : (rows : List (List ℕ)) → length (flat (by rows)) ≡ length rows * p .variables → length rows * p .variables ≤ bytes → allNoted (by rows) out ≡ out →
       walk p order limit room all (record { tally = noNodes; plans = length rows; stop = ALL; list = out; last = path }) ≡ to (search p (limit + d) bytes all d rows)
   unfolding tallyBy countsBy tabulate keep lastOf
   outcome-on rows z h e =
       ap (λ (l : List ℕ). walk p order limit room all (record { tally = noNodes; plans = length rows; stop = ALL; list = l; last = path })) (sym e)
       ∙ walk-search all 0 d rows (omega arith) refl z h
 
-pub nothing-kept : (out : List ℕ) → kept [] out ≡ out
-unfolding kept written flat
-nothing-kept out = go (eqb (length out) 0)
+pub nothing-noted : (out : List ℕ) → allNoted [] out ≡ out
+unfolding allNoted written flat
+nothing-noted out = go (eqb (length out) 0)
   where
     go : (b : Bool) → choose b out out ≡ out
     go true = refl
@@ -212,12 +212,12 @@ module _ (p : Problem) (order : List ℕ) (sized : length order ≡ p .variables
         tally = tallyBy order (nodes p) (nodesIn (r .ending));
         plans = plansIn (r .ending);
         stop = stopIn (r .ending);
-        list = kept (map (write order) (r .rows)) out;
+        list = allNoted (map (write order) (r .rows)) out;
         last = lastOf last
             (take (nodesIn (r .ending)) (nodes p));
       }
   unfolding resultOf flat
   outcome =
-      outcome-on p order sized limit room bytes out fits most same (nodes p) last 0 [] (omega arith) (omega arith) (nothing-kept out)
+      outcome-on p order sized limit room bytes out fits most same (nodes p) last 0 [] (omega arith) (omega arith) (nothing-noted out)
       ∙ ap (λ (k : ℕ). to p order sized limit room bytes out fits most same (nodes p) last 0 (search p k bytes (nodes p) 0 [])) (let e : limit + 0 ≡ limit = omega arith in e)
       ∙ ap (λ (k : ℕ). after p order sized limit room bytes out fits most same (nodes p) last 0 k (plansIn (r .ending)) (stopIn (r .ending)) (r .rows)) (sub-zero (nodesIn (r .ending)))

@@ -7,7 +7,7 @@ use Rattle.model.specs.{Run.settledBy, inner.WellFormed.WellFormed}
 use Rattle.model.proofs.{Lists.T-of, Lists.both-l, Lists.at-set, Lists.at-set-other, Sets.mask-e, Lowest.lowest-in, Lowest.without-less, Tree.well-sized}
 use Rattle.order.specs.{Order.Ordering, Reordered.write}
 use Rattle.arrays.specs.inner.Places.{VARIABLES, LIMIT, ROOM, PLANS, LAST, MARKS, ALL, SPENT, DEEPER, WORK, DIAGONAL}
-use Rattle.prune.specs.inner.Node.{Ready, Holds, Marked, AtNode, Reached, longer}
+use Rattle.prune.specs.inner.Node.{Ready, SetsHeld, Marked, AtNode, Reached, longer}
 use Rattle.prune.proofs.Marks.{marked-on}
 use Rattle.run_state.specs.{inner.Walk.withNode, inner.Walk.Summed, inner.Walk.State, inner.Walk.listed, inner.Walk.counted, inner.Walk.walk, inner.Walk.nodesFor, inner.Pair.prefixOf}
 use Rattle.run_state.specs.inner.Pair.{settling}
@@ -35,7 +35,7 @@ ready-on h s w = record {
 }
 
 -- sets that are unchanged are still right
-pub held-on : (p : Problem) (stack stack′ : List ℕ) (k : ℕ) (ds : List ℕ) → WellFormed p → ((i : ℕ) → i < 16 * suc k → at stack′ i ≡ at stack i) → Holds p stack k ds → Holds p stack′ k ds
+pub held-on : (p : Problem) (stack stack′ : List ℕ) (k : ℕ) (ds : List ℕ) → WellFormed p → ((i : ℕ) → i < 16 * suc k → at stack′ i ≡ at stack i) → SetsHeld p stack k ds → SetsHeld p stack′ k ds
 held-on p stack stack′ k ds w e h = record {
   sets = λ x l. e (16 * k + x) (let f = w .few in omega arith) ∙ h .sets x l;
   unused = λ x l u. e (16 * k + x) (omega arith) ∙ h .unused x l u;
@@ -59,7 +59,7 @@ module _ (p : Problem) (stack work supports tables numbers list : List ℕ) (tal
     inner = h .inner;
     live = subst (λ (q : List ℕ). T (isLive p q)) (sym same) (h .live);
     held = held-on (ownIn p numbers) stack stack′ k (setsAt p (prefixOf work′ k)) (h .ready .wellFormed) (λ i l. d .sets i (omega arith))
-        (subst (λ (q : List ℕ). Holds (ownIn p numbers) stack k (setsAt p q)) (sym same) (h .held));
+        (subst (λ (q : List ℕ). SetsHeld (ownIn p numbers) stack k (setsAt p q)) (sym same) (h .held));
     marked = marked-on (ownIn p numbers) (p .symmetries) work work′ (prefixOf work′ k) k (h .ready .symmetries) (λ i l u. d .marks i l (omega arith))
         (subst (λ (q : List ℕ). Marked (ownIn p numbers) (p .symmetries) work q k) (sym same) (h .marked));
     limited = h .limited;
@@ -223,7 +223,7 @@ module _ (p : Problem) (stack work supports tables numbers list : List ℕ) (tal
     ready = ready-on (h .ready) refl length-put;
     room = h .inner;
     live = subst (λ (q : List ℕ). T (isLive p q)) (sym taken) (h .live);
-    held = subst (λ (q : List ℕ). Holds (ownIn p numbers) stack k (setsAt p q)) (sym taken) (h .held);
+    held = subst (λ (q : List ℕ). SetsHeld (ownIn p numbers) stack k (setsAt p q)) (sym taken) (h .held);
     marked = marked-on (ownIn p numbers) (p .symmetries) work put (take k put) k (h .ready .symmetries) (λ i l u. let f = early in kept i (λ e. omega arith) (λ e. omega arith))
         (subst (λ (q : List ℕ). Marked (ownIn p numbers) (p .symmetries) work q k) (sym taken) (h .marked));
     member = subst (λ (u : ℕ). T (has (at (setsAt p (take k put)) k) u)) (sym value)
@@ -376,7 +376,7 @@ module _ (p : Problem) (stack work supports tables numbers list : List ℕ) (tal
       ready = ready-on (h .ready) (q .stack-length) work-length₂;
       inner = let i = h .inner in omega arith;
       live = T-of (isLive p (prefixOf work₂ (k + 1))) (subst (λ (t : List ℕ). isLive p t ≡ true) (sym node₂) (live₂ e));
-      held = subst (λ (t : List ℕ). Holds (ownIn p numbers) stack₂ (k + 1) (setsAt p t)) (longer-is ∙ sym node₂) (q .holds e);
+      held = subst (λ (t : List ℕ). SetsHeld (ownIn p numbers) stack₂ (k + 1) (setsAt p t)) (longer-is ∙ sym node₂) (q .holds e);
       marked = subst (λ (t : List ℕ). Marked (ownIn p numbers) (p .symmetries) work₂ t (k + 1)) (longer-is ∙ sym node₂) (q .marked e);
       limited = h .limited;
       allowed = let a = h .allowed in let d = g .due in omega arith;

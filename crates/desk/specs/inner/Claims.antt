@@ -1,4 +1,4 @@
--- What else holds of the queue: paper 02, #113, in words about the definitions; what the proofs keep of a job (`Holds`). The claims that a reader needs are in
+-- What else holds of the queue: paper 02, #113, in words about the definitions; what the proofs keep of a job (`HoldsRun`). The claims that a reader needs are in
 -- specs/Claims.
 use Rattle.model.specs.Kit.{_≡_, _⊎_, true, false, List, [], _∷_, _++_, List·Memᴰ, ℕ, suc, _+_, _*_, _≤_, _<_, length, replicate, T}
 use Rattle.model.specs.{Lists.flat, Verdict.refused, Search.nodes, Sheet.verdictOf, Sheet.problemOf, Run.spent, Run.plansIn, Run.nodesIn}
@@ -26,26 +26,26 @@ Remains k d (release j room) = (j ≡ k) → releaseSlot (slotAt d j) room ≡ s
 
 -- before its run ends, a job holds the run alone as it is after that many nodes, and after its first turn neither the tree nor the limit is at its end;
 -- once ended, it holds the plans, the ending, the figures and the counts by variable of the run alone
-abbrev pub HoldsAs : Job → Standing → Type 0
-HoldsAs h running =
+abbrev pub HoldsRunAs : Job → Standing → Type 0
+HoldsRunAs h running =
     (h .progress ≡ progressAt (problemOf (h .sheet)) (h .progress .made))
     × ((h .progress .made ≡ 0)
     ⊎ ((h .progress .made < h .limit) × (h .progress .made < length (nodes (problemOf (h .sheet)))) ×
     (alone h (h .progress .made) ≡ record { ending = spent (length (h .progress .rows)) (h .progress .made); rows = h .progress .rows })))
-HoldsAs h (over e) =
+HoldsRunAs h (over e) =
     (alone h (h .limit) ≡ record { ending = e; rows = h .progress .rows }) × (h .progress .made ≡ nodesIn e) × (length (h .progress .rows) ≡ plansIn e)
     × (h .progress .counts ≡ tallyAt (problemOf (h .sheet)) (nodesIn e) .counts)
 
-abbrev pub Holds : Job → Type 0
-Holds h = HoldsAs h (h .standing)
+abbrev pub HoldsRun : Job → Type 0
+HoldsRun h = HoldsRunAs h (h .standing)
 
 abbrev pub As-alone : Type 0
-As-alone = (xs : List QueueCall) (k : ℕ) (h : Job) → slotAt (queueEnd emptyQueue xs) k ≡ taken h → Holds h
+As-alone = (xs : List QueueCall) (k : ℕ) (h : Job) → slotAt (queueEnd emptyQueue xs) k ≡ taken h → HoldsRun h
 
 -- a turn makes 64 nodes, fewer only if the run ends
 abbrev pub Turn-of-64 : Type 0
 Turn-of-64 =
-    (h : Job) → Holds h → h .standing ≡ running →
+    (h : Job) → HoldsRun h → h .standing ≡ running →
     (h .progress .made ≤ jobTurned h .progress .made) × (jobTurned h .progress .made ≤ h .progress .made + 64)
     × (jobTurned h .standing ≡ running → jobTurned h .progress .made ≡ h .progress .made + 64)
 

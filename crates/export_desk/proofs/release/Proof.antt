@@ -2,7 +2,7 @@
 use Rattle.model.specs.Kit.{sym, _∙_, subst, [], needs}
 use Rattle.model.specs.Lists.{at}
 use Rattle.desk.specs.{Queue.QueueReply, Meaning.means}
-use Rattle.export_desk.specs.inner.Fits.{Holds}
+use Rattle.export_desk.specs.inner.Fits.{ReplyFits}
 use Rattle.export_desk.proofs.Replies.{code-any, answer-any, holds-any, release-reply, release-short, release-done}
 use Rattle.export_desk.proofs.release.Statement.{statement}
 use Rattle.export_desk.proofs.release.Tie as tie
@@ -18,8 +18,8 @@ told-requires c κs =
     let c10 = c .before .before .before .before .before .before .before .before .before .before in
     let a = c10 .before .before .args in
     let f = c .before .before .before .before .before .release in
-    subst (Holds (means (f .result) [])) (sym (c .before .before .before .before .before .before .before .before .if1 .left))
-    (holds-any (f .result) _ 12 (subst (λ (q : QueueReply). Holds q 12) (sym (f .ensures .answers))
+    subst (ReplyFits (means (f .result) [])) (sym (c .before .before .before .before .before .before .before .before .if1 .left))
+    (holds-any (f .result) _ 12 (subst (λ (q : QueueReply). ReplyFits q 12) (sym (f .ensures .answers))
     (release-reply (a .queue .now) (λ i. c10 .before .slice-known .given i .fits) (a .slot) (a .room .now))))
 
 returns-2 : tie.Need-returns-2

@@ -2,23 +2,23 @@
 use Rattle.model.specs.Kit.{sym, ap, _∙_, subst, [], _++_, ℕ, arith, length, needs}
 use Rattle.desk.specs.{declared.Answer.Answer, Meaning.means}
 use Rattle.export_counts.specs.Tallied.{numbersOf}
-use Rattle.export_desk.specs.{Told.fourNumbers, Told.replyCode, Told.statusBytes, inner.Fits.Sees}
+use Rattle.export_desk.specs.{Told.fourNumbers, Told.replyCode, Told.statusBytes, inner.Fits.StatusFits}
 use Rattle.export_desk.proofs.{Replies.all-counts, Replies.after-four, seen.Statement.statement}
 use Rattle.export_desk.proofs.seen.Tie as tie
 
 code-requires : tie.Need-code-requires
 code-requires c κs =
-    subst (λ (q : Answer). Sees (means q []) (length (c .before .before .before .before .args .answer .now))) (c .before .r .given .1) (c .before .before .before .before .pre .0)
+    subst (λ (q : Answer). StatusFits (means q []) (length (c .before .before .before .before .args .answer .now))) (c .before .r .given .1) (c .before .before .before .before .pre .0)
 
 numbers-requires : tie.Need-numbers-requires
 numbers-requires c κs =
-    let h = subst (λ (q : Answer). Sees (means q []) (length (c .before .before .before .before .before .before .args .answer .now))) (c .before .before .before .r2 .given .1)
+    let h = subst (λ (q : Answer). StatusFits (means q []) (length (c .before .before .before .before .before .before .args .answer .now))) (c .before .before .before .r2 .given .1)
     (c .before .before .before .before .before .before .pre .0) in
     (omega (arith, h .0), omega (arith, c .kind .ensures .1), h .1, h .2, h .3)
 
 numbers-requires-2 : tie.Need-numbers-requires-2
 numbers-requires-2 c κs =
-    let h = subst (λ (q : Answer). Sees (means q []) (length (c .before .before .before .before .before .before .before .before .before .before .args .answer .now)))
+    let h = subst (λ (q : Answer). StatusFits (means q []) (length (c .before .before .before .before .before .before .before .before .before .before .args .answer .now)))
     (c .before .before .before .before .before .before .before .r2 .given .1) (c .before .before .before .before .before .before .before .before .before .before .pre .0) in
     let n = c .before .before .before .numbers in
     (omega (arith, after-four _ _ _ _ (n .ensures), n .kept .0, h .0), c .before .before .before .before .before .before .before .before .before .before .pre .1)
@@ -35,7 +35,7 @@ returns-2 c =
     let a = c10 .before .before .before .args in
     let g = c10 .r2 .given in
     let e = sym (g .1) in
-    let h = subst (λ (q : Answer). Sees (means q []) (length (c10 .before .before .before .args .answer .now))) (c10 .r2 .given .1) (c10 .before .before .before .pre .0) in
+    let h = subst (λ (q : Answer). StatusFits (means q []) (length (c10 .before .before .before .args .answer .now))) (c10 .r2 .given .1) (c10 .before .before .before .pre .0) in
     let k = c .before .before .before .before .before .before .before .kind .ensures .0 (g .0 .1 .1 .0) (g .0 .1 .1 .1 .0) in (
       ap (λ (q : Answer). replyCode (means q [])) e,
       all-counts _ (g .0 .0) (g .0 .1 .1 .0) (g .0 .1 .1 .1 .0) (a .counts) (h .0) (c10 .before .before .before .pre .1 .long) (c .before .before .before .before .before .before .numbers .ensures)

@@ -3,7 +3,7 @@ use Rattle.model.specs.Kit.{sym, subst, [], needs}
 use Rattle.model.specs.Lists.{at}
 use Rattle.desk.specs.{Queue.QueueReply, Meaning.means}
 use Rattle.export_counts.specs.inner.Inner.{Twelve}
-use Rattle.export_desk.specs.inner.Fits.{Sees}
+use Rattle.export_desk.specs.inner.Fits.{StatusFits}
 use Rattle.export_desk.proofs.{Replies.status-reply, Replies.status-twelve, Replies.status-short, Replies.status-done, status.Statement.statement}
 use Rattle.export_desk.proofs.status.Tie as tie
 
@@ -15,8 +15,8 @@ unfolding at
 seen-requires c κs =
     let a = c .before .before .before .before .before .before .args in
     let f = c .before .before .status in (
-      subst (Sees (means (f .result .answer) [])) (sym (c .before .before .before .if1 .left))
-          (subst (λ (q : QueueReply). Sees q 64) (sym (f .ensures .answers)) (status-reply (a .queue .now) (λ i. c .before .before .before .before .before .shared-slice-known .given i .fits)
+      subst (StatusFits (means (f .result .answer) [])) (sym (c .before .before .before .if1 .left))
+          (subst (λ (q : QueueReply). StatusFits q 64) (sym (f .ensures .answers)) (status-reply (a .queue .now) (λ i. c .before .before .before .before .before .shared-slice-known .given i .fits)
           (a .slot))),
       subst Twelve (sym (f .ensures .counts)) (status-twelve (a .queue .now) (λ i. c .before .before .before .before .before .shared-slice-known .given i .fits) (a .slot)),
     )

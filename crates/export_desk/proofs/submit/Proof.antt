@@ -2,7 +2,7 @@
 use Rattle.model.specs.Kit.{sym, subst, [], needs}
 use Rattle.model.specs.Lists.{at}
 use Rattle.desk.specs.{Queue.submit, Queue.QueueReply, Meaning.means}
-use Rattle.export_desk.specs.inner.Fits.{Holds}
+use Rattle.export_desk.specs.inner.Fits.{ReplyFits}
 use Rattle.export_desk.proofs.{Replies.submit-reply, Replies.unanswered, Replies.replied, submit.Statement.statement}
 use Rattle.export_desk.proofs.submit.Tie as tie
 
@@ -14,8 +14,8 @@ unfolding at
 told-requires c κs =
     let a = c .before .before .before .before .before .before .before .before .before .args in
     let f = c .before .before .before .submit in
-    subst (Holds (means (f .result) [])) (sym (c .before .before .before .before .before .if1 .left))
-    (subst (λ (q : QueueReply). Holds q 12) (sym (f .ensures .answers)) (submit-reply (a .queue .now)
+    subst (ReplyFits (means (f .result) [])) (sym (c .before .before .before .before .before .if1 .left))
+    (subst (λ (q : QueueReply). ReplyFits q 12) (sym (f .ensures .answers)) (submit-reply (a .queue .now)
     (λ i. c .before .before .before .before .before .before .before .before .slice-known .given i .fits) (a .sheet .now) (a .limit)))
 
 returns-2 : tie.Need-returns-2

@@ -1,22 +1,22 @@
 -- `told`: the kinds of reply. Assumes nothing.
 use Rattle.model.specs.Kit.{sym, ap, _∙_, subst, [], ℕ, arith, length, needs}
 use Rattle.desk.specs.{declared.Answer.Answer, Meaning.means}
-use Rattle.export_desk.specs.{Told.fourNumbers, Told.replyCode, Told.replyAnswer, inner.Fits.Holds}
+use Rattle.export_desk.specs.{Told.fourNumbers, Told.replyCode, Told.replyAnswer, inner.Fits.ReplyFits}
 use Rattle.export_desk.proofs.{Replies.sixteen, Replies.all-four, told.Statement.statement}
 use Rattle.export_desk.proofs.told.Tie as tie
 
 code-requires : tie.Need-code-requires
-code-requires c κs = subst (λ (q : Answer). Holds (means q []) (length (c .before .before .before .before .args .answer .now))) (c .before .r .given .1) (c .before .before .before .before .pre)
+code-requires c κs = subst (λ (q : Answer). ReplyFits (means q []) (length (c .before .before .before .before .args .answer .now))) (c .before .r .given .1) (c .before .before .before .before .pre)
 
 three-requires : tie.Need-three-requires
 three-requires c κs =
-    let h = subst (λ (q : Answer). Holds (means q []) (length (c .before .before .before .before .before .args .answer .now))) (c .before .before .r2 .given .1)
+    let h = subst (λ (q : Answer). ReplyFits (means q []) (length (c .before .before .before .before .before .args .answer .now))) (c .before .before .r2 .given .1)
     (c .before .before .before .before .before .pre) in
     (h .0, omega arith, h .1, omega arith)
 
 numbers-requires : tie.Need-numbers-requires
 numbers-requires c κs = (
-  sixteen (subst (λ (q : Answer). Holds (means q []) (length (c .before .before .before .before .args .answer .now))) (c .before .enum-told .given .1)
+  sixteen (subst (λ (q : Answer). ReplyFits (means q []) (length (c .before .before .before .before .args .answer .now))) (c .before .enum-told .given .1)
       (c .before .before .before .before .pre)),
   omega arith,
   omega arith,
@@ -26,13 +26,13 @@ numbers-requires c κs = (
 
 numbers-requires-2 : tie.Need-numbers-requires-2
 numbers-requires-2 c κs =
-    let h = subst (λ (q : Answer). Holds (means q []) (length (c .before .before .before .before .before .before .args .answer .now))) (c .before .before .before .r3 .given .1)
+    let h = subst (λ (q : Answer). ReplyFits (means q []) (length (c .before .before .before .before .before .before .args .answer .now))) (c .before .before .before .r3 .given .1)
     (c .before .before .before .before .before .before .pre) in
     (sixteen (h .0), omega (arith, c .kind .ensures .1), h .1, h .2, h .3)
 
 three-requires-2 : tie.Need-three-requires-2
 three-requires-2 c κs =
-    let h = subst (λ (q : Answer). Holds (means q []) (length (c .before .before .before .before .before .args .answer .now))) (c .before .before .r4 .given .1)
+    let h = subst (λ (q : Answer). ReplyFits (means q []) (length (c .before .before .before .before .before .args .answer .now))) (c .before .before .r4 .given .1)
     (c .before .before .before .before .before .pre) in
     (h .0, omega arith, h .1, omega arith)
 
@@ -53,7 +53,7 @@ returns-3 : tie.Need-returns-3
 returns-3 c =
     let g = c .before .before .before .before .enum-told .given .1 in
     let e = sym g in
-    let h = subst (λ (q : Answer). Holds (means q []) (length (c .before .before .before .before .before .before .before .args .answer .now))) g
+    let h = subst (λ (q : Answer). ReplyFits (means q []) (length (c .before .before .before .before .before .before .before .args .answer .now))) g
     (c .before .before .before .before .before .before .before .pre) in (
       ap (λ (q : Answer). replyCode (means q [])) e,
       all-four 0 0 0 0 h (c .before .before .numbers .ensures) ∙ ap
@@ -65,7 +65,7 @@ returns-4 c =
     let g = c .before .before .before .before .before .before .r3 .given in
     let e = sym (g .1) in
     let k = c .before .before .before .kind .ensures .0 (g .0 .1 .1 .0) (g .0 .1 .1 .1 .0) in
-    let h = subst (λ (q : Answer). Holds (means q []) (length (c .before .before .before .before .before .before .before .before .before .args .answer .now))) (g .1)
+    let h = subst (λ (q : Answer). ReplyFits (means q []) (length (c .before .before .before .before .before .before .before .before .before .args .answer .now))) (g .1)
     (c .before .before .before .before .before .before .before .before .before .pre) in (
       ap (λ (q : Answer). replyCode (means q [])) e,
       all-four _ (g .0 .0) (g .0 .1 .1 .0) (g .0 .1 .1 .1 .0) (h .0) (c .before .before .numbers2 .ensures) ∙ ap

@@ -1,7 +1,7 @@
 -- `store_drop`: the answer's length is asked first; then the call. Assumes nothing.
 use Rattle.model.specs.Kit.{sym, subst, needs}
 use Rattle.store.specs.{Store.call, Store.remove, Meaning.means}
-use Rattle.export_store.specs.inner.Fits.{Holds}
+use Rattle.export_store.specs.inner.Fits.{OutcomeFits}
 use Rattle.export_store.proofs.{Replies.reply-holds, Replies.unanswered, Replies.answered, store_drop.Statement.statement}
 use Rattle.export_store.proofs.store_drop.Tie as tie
 
@@ -13,7 +13,7 @@ returns c =
 told-requires : tie.Need-told-requires
 told-requires c κs =
     let a = c .before .before .before .before .before .before .before .before .args in
-    (c .before .before .before .before .before .if1 .left, subst Holds (sym (c .before .before .before .remove .ensures .0)) (reply-holds (a .store .now) (call (a .owner) (a .key) remove)))
+    (c .before .before .before .before .before .if1 .left, subst OutcomeFits (sym (c .before .before .before .remove .ensures .0)) (reply-holds (a .store .now) (call (a .owner) (a .key) remove)))
 
 returns-2 : tie.Need-returns-2
 returns-2 c =

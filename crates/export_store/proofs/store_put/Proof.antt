@@ -1,7 +1,7 @@
 -- `store_put`: the answer's length is asked first; then the call. Assumes nothing.
 use Rattle.model.specs.Kit.{sym, subst, needs}
 use Rattle.store.specs.{Store.call, Store.put, Meaning.means}
-use Rattle.export_store.specs.inner.Fits.{Holds}
+use Rattle.export_store.specs.inner.Fits.{OutcomeFits}
 use Rattle.export_store.proofs.{Replies.reply-holds, Replies.unanswered, Replies.answered, store_put.Statement.statement}
 use Rattle.export_store.proofs.store_put.Tie as tie
 
@@ -14,7 +14,7 @@ told-requires : tie.Need-told-requires
 told-requires c κs =
     let a = c .before .before .before .before .before .before .before .before .before .args in (
       c .before .before .before .before .before .if1 .left,
-      subst Holds (sym (c .before .before .before .put .ensures .0))
+      subst OutcomeFits (sym (c .before .before .before .put .ensures .0))
           (reply-holds (a .store .now) (call (a .owner) (a .key) (put (a .table .now)))),
     )
 

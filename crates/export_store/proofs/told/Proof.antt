@@ -2,18 +2,18 @@
 use Rattle.model.specs.Kit.{sym, ap, _∙_, subst, arith, needs}
 use Rattle.store.specs.{declared.Answer.Answer, Meaning.means}
 use Rattle.wire.specs.Outcomes.{outcomeCode, outcomeAnswer}
-use Rattle.export_store.specs.inner.Fits.{Holds}
+use Rattle.export_store.specs.inner.Fits.{OutcomeFits}
 use Rattle.export_store.proofs.told.Statement.{statement}
 use Rattle.export_store.proofs.told.Tie as tie
 
 code-requires : tie.Need-code-requires
-code-requires c κs = subst (λ (q : Answer). Holds (means q)) (c .before .r .given .1) (c .before .before .before .before .pre .1)
+code-requires c κs = subst (λ (q : Answer). OutcomeFits (means q)) (c .before .r .given .1) (c .before .before .before .before .pre .1)
 
 three-requires : tie.Need-three-requires
 three-requires c κs = (
   c .before .before .before .before .before .pre .0,
   omega arith,
-  subst (λ (q : Answer). Holds (means q)) (c .before .before .r2 .given .1)
+  subst (λ (q : Answer). OutcomeFits (means q)) (c .before .before .r2 .given .1)
       (c .before .before .before .before .before .pre .1),
   omega arith,
 )

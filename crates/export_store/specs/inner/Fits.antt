@@ -2,6 +2,6 @@
 use Rattle.model.specs.Kit.{_^_, _<_}
 use Rattle.model.specs.Room.{Outcome, answered, refusal}
 
-abbrev pub Holds : Outcome → Type 0
-Holds (answered k) = k < 2 ^ 32
-Holds (refusal number item) = item < 256
+abbrev pub OutcomeFits : Outcome → Type 0
+OutcomeFits (answered k) = k < 2 ^ 32
+OutcomeFits (refusal number item) = item < 256

@@ -2,7 +2,7 @@
 use Rattle.model.specs.Kit.{sym, subst, [], needs}
 use Rattle.model.specs.Lists.{at}
 use Rattle.desk.specs.{Queue.turn, Queue.QueueReply, Meaning.means}
-use Rattle.export_desk.specs.inner.Fits.{Holds}
+use Rattle.export_desk.specs.inner.Fits.{ReplyFits}
 use Rattle.export_desk.proofs.Replies.{turn-reply, unanswered, replied}
 use Rattle.export_turns.proofs.turn.Statement.{statement}
 use Rattle.export_turns.proofs.turn.Tie as tie
@@ -14,8 +14,8 @@ told-requires : tie.Need-told-requires
 unfolding at
 told-requires c κs =
     let f = c .before .before .before .turn in
-    subst (Holds (means (f .result) [])) (sym (c .before .before .before .before .before .if1 .left))
-    (subst (λ (q : QueueReply). Holds q 16) (sym (f .ensures .answers)) (turn-reply (c .before .before .before .before .before .before .before .before .args .queue .now)
+    subst (ReplyFits (means (f .result) [])) (sym (c .before .before .before .before .before .if1 .left))
+    (subst (λ (q : QueueReply). ReplyFits q 16) (sym (f .ensures .answers)) (turn-reply (c .before .before .before .before .before .before .before .before .args .queue .now)
     (λ i. c .before .before .before .before .before .before .before .slice-known .given i .fits)))
 
 returns-2 : tie.Need-returns-2

@@ -1,12 +1,12 @@
 -- No place below y can follow. Assumes nothing.
 use Rattle.model.specs.Kit.{false, List, _≡_, sym, _∙_, ℕ, _/_, _-_, _≤_, _<_, arith, length, needs}
-use Rattle.order.specs.{Order.canFollow, inner.Settled.Holds, inner.Settled.Befores}
+use Rattle.order.specs.{Order.canFollow, inner.Settled.SetOf, inner.Settled.Befores}
 use Rattle.model.proofs.Masks.{least-at, least-none}
 use Rattle.order.proofs.{Placing.more-no, next.Statement.statement}
 use Rattle.order.proofs.next.Tie as tie
 
 abbrev Inv-loop : tie.InvT-loop
-Inv-loop n befores settled y₀ y = (y ≤ n) × ((pairs l : List ℕ) → Befores pairs (length pairs / 2) befores → Holds settled l → (j : ℕ) → j < y → canFollow pairs l j ≡ false)
+Inv-loop n befores settled y₀ y = (y ≤ n) × ((pairs l : List ℕ) → Befores pairs (length pairs / 2) befores → SetOf settled l → (j : ℕ) → j < y → canFollow pairs l j ≡ false)
 
 abbrev μ-loop : tie.MeasureT-loop
 μ-loop n befores settled y₀ y = n - y

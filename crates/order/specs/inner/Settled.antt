@@ -14,8 +14,8 @@ pub record Ordered (n : ℕ) (pairs old new : List ℕ) (r : ℕ) : Type 0 where
 
 -- ---- inside
 -- the set has the numbers of the list
-abbrev pub Holds : ℕ → List ℕ → Type 0
-Holds set l = (x : ℕ) → has set x ≡ any (eqb x) l
+abbrev pub SetOf : ℕ → List ℕ → Type 0
+SetOf set l = (x : ℕ) → has set x ≡ any (eqb x) l
 
 -- at each place the set of its forerunners, by the first `count` pairs
 pub record Befores (pairs : List ℕ) (count : ℕ) (befores : List ℕ) : Type 0 where

@@ -8,7 +8,7 @@ use Rattle.block.specs.inner.BlockSets.{BlockIn}
 use Rattle.prune_symmetries.specs.inner.Levels.{Mark}
 
 -- depth k of the stack holds the sets ds of p's variables, and {0} for every other of sixteen
-pub record Holds (p : Problem) (stack : List ℕ) (k : ℕ) (ds : List ℕ) : Type 0 where
+pub record SetsHeld (p : Problem) (stack : List ℕ) (k : ℕ) (ds : List ℕ) : Type 0 where
   pub sets : (x : ℕ) → x < p .variables → at stack (16 * k + x) ≡ at ds x
   pub unused : (x : ℕ) → p .variables ≤ x → x < 16 → at stack (16 * k + x) ≡ 1
 
@@ -41,7 +41,7 @@ pub record AtNode (p : Problem) (gs : List (List ℕ)) (stack work supports tabl
   pub ready : Ready p gs stack work supports tables numbers
   pub room : k < p .variables
   pub live : T (isLive (withSymmetries p gs) (take k work))
-  pub held : Holds p stack k (setsAt (withSymmetries p gs) (take k work))
+  pub held : SetsHeld p stack k (setsAt (withSymmetries p gs) (take k work))
   pub marked : Marked p gs work (take k work) k
   pub member : T (has (at (setsAt (withSymmetries p gs) (take k work)) k) (at work k))
 
@@ -53,7 +53,7 @@ longer work k = take k work ++ (at work k ∷ [])
 -- is open; no other set, no value of the prefix and no other mark is changed
 pub record Reached (p : Problem) (gs : List (List ℕ)) (prefix : List ℕ) (k : ℕ) (stack work stack′ work′ : List ℕ) (dead : Bool) : Type 0 where
   pub answers : dead ≡ not (isLive (withSymmetries p gs) prefix)
-  pub holds : dead ≡ false → Holds p stack′ k (setsAt (withSymmetries p gs) prefix)
+  pub holds : dead ≡ false → SetsHeld p stack′ k (setsAt (withSymmetries p gs) prefix)
   pub before : (i : ℕ) → i < 16 * k → at stack′ i ≡ at stack i
   pub after : (i : ℕ) → 16 * k + 16 ≤ i → at stack′ i ≡ at stack i
   pub marked : dead ≡ false → Marked p gs work′ prefix k

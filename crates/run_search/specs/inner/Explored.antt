@@ -5,7 +5,7 @@ use Rattle.model.specs.Sheet.{problemOf}
 use Rattle.order.specs.Reordered.{write}
 use Rattle.run_input.specs.Lent.{verdictLent, orderLent, problemLent}
 use Rattle.arrays.specs.inner.Places.{PLANS, DEEPER, REFUSED, WANTED}
-use Rattle.run_state.specs.inner.Walk.{Summed, kept, stopIn, tallyBy}
+use Rattle.run_state.specs.inner.Walk.{Summed, allNoted, stopIn, tallyBy}
 use Rattle.run_search.specs.inner.Prepared.{bytesFor, Refusal}
 
 abbrev pub resultFor : List ℕ → List ℕ → List ℕ → List ℕ → ℕ → ℕ → Result
@@ -16,7 +16,7 @@ pub record RunTo (p : Problem) (order : List ℕ) (r : Result) (list work′ lis
   pub tally : tally′ ≡ tallyBy order (nodes p) (nodesIn (r .ending))
   pub plans : at work′ PLANS ≡ plansIn (r .ending)
   pub stopped : stop ≡ stopIn (r .ending)
-  pub wrote : list′ ≡ kept (map (write order) (r .rows)) list
+  pub wrote : list′ ≡ allNoted (map (write order) (r .rows)) list
 
 -- what is lent is refused, and nothing else is changed; or its run has come to its end, and the counts add up
 pub record Explored (task b pairs block : List ℕ) (limit : ℕ) (list : List ℕ) (tally : Tally) (work′ list′ : List ℕ) (tally′ : Tally) (stop : ℕ) : Type 0 where

@@ -5,7 +5,7 @@ use Rattle.model.specs.{Lists.at, Lists.tabulate, ValueSets.has, ValueSets.lowe
 use Rattle.model.specs.{Run.Tally, inner.WellFormed.WellFormed, inner.WellFormed.Respected}
 use Rattle.order.specs.{Order.Ordering, Reordered.write}
 use Rattle.arrays.specs.inner.Places.{SYMMETRIES, LIMIT, ROOM, ORDER, PLANS, LAST, MARKS, ALL, DEEPER, DIAGONAL, ASKS}
-use Rattle.prune.specs.inner.Node.{Ready, Holds, Marked}
+use Rattle.prune.specs.inner.Node.{Ready, SetsHeld, Marked}
 use Rattle.run_state.specs.{inner.Memo.Remembers, inner.Walk.Summed, inner.Walk.withNode, inner.Walk.noNodes, inner.Walk.State, inner.Walk.listed, inner.Walk.walk, inner.Walk.nodesFor}
 
 -- the prefix: the first k numbers of `work`
@@ -64,7 +64,7 @@ pub record AtPrefix (p : Problem) (stack work supports tables numbers list : Lis
   pub ready : Ready (ownIn p numbers) (p .symmetries) stack work supports tables numbers
   pub inner : k < p .variables
   pub live : T (isLive p (prefixOf work k))
-  pub held : Holds (ownIn p numbers) stack k (setsAt p (prefixOf work k))
+  pub held : SetsHeld (ownIn p numbers) stack k (setsAt p (prefixOf work k))
   pub marked : Marked (ownIn p numbers) (p .symmetries) work (prefixOf work k) k
   pub limited : at numbers LIMIT < 2 ^ 32
   pub allowed : tally .nodes ≤ at numbers LIMIT

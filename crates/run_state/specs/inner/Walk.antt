@@ -33,8 +33,8 @@ unfoldable pub noted : ℕ → List ℕ → List ℕ → List ℕ
 noted i row list = choose (eqb (length list) 0) list (placed list i row)
 
 -- and so of all rows at its front
-unfoldable pub kept : List (List ℕ) → List ℕ → List ℕ
-kept rows list = choose (eqb (length list) 0) list (written rows list)
+unfoldable pub allNoted : List (List ℕ) → List ℕ → List ℕ
+allNoted rows list = choose (eqb (length list) 0) list (written rows list)
 
 -- a plan of n bytes was found: full where there is room for no plan more, else it is listed
 unfoldable pub listed : ℕ → ℕ → List ℕ → State → State
