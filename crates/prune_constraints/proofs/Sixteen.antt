@@ -5,7 +5,7 @@ use lib.Bits.{and-le-r}
 use Rattle.model.specs.{Lists.at, ValueSets.has, ValueSets.withoutMask, ValueSets.unionMask, ValueSets.lowestOf, ValueSets.oneIf, inner.Filling.Filled}
 use Rattle.model.proofs.{Lists.set-each, Lists.at-replicate, Sets.has-lt, Sets.member, Filling.filled-begin, Filling.filled-turn, Masks.union-op}
 use Rattle.model.proofs.Members.{Rest, rest-begin, has-0, Union, union-begin, union-end, lowest-left, others-left, others-union, or-i, or-e, and-i, and-e}
-use Rattle.prune_constraints.specs.inner.Steps.{Together, Together3, Joined3, Masks, Met, FullSets}
+use Rattle.prune_constraints.specs.inner.Steps.{Together, Together3, Supported3, Masks, Met, FullSets}
 use Rattle.prune_constraints.proofs.Unions.{full-i, full-e, one-i, one-e, one-lt, others-or, small}
 
 -- ---- the masks: those of the values left are still to be put
@@ -121,7 +121,7 @@ module _ (t : List ℕ) (base a b e : ℕ) where
   abbrev With : ℕ → ℕ → ℕ → Type 0
   With v u w = Together t (base + 16 * u) b e v w
 
-  pub record Joining3 (m first last : ℕ) (all : List ℕ) : Type 0 where
+  pub record Supporting3 (m first last : ℕ) (all : List ℕ) : Type 0 where
     pub rest : Rest 16 a m
     pub size : length all ≡ 16
     pub narrow : (first < 2 ^ 16) × ((v : ℕ) → v < 16 → at all v < 2 ^ 16)
@@ -129,8 +129,8 @@ module _ (t : List ℕ) (base a b e : ℕ) where
     pub each : (v : ℕ) → v < 16 → Union (With v) a m (at all v)
     pub lasts : Union Lasts a m last
 
-  pub joining3-begin : a < 2 ^ 16 → Joining3 a 0 0 (replicate 16 0)
-  joining3-begin h = record {
+  pub supporting3-begin : a < 2 ^ 16 → Supporting3 a 0 0 (replicate 16 0)
+  supporting3-begin h = record {
     rest = rest-begin 16 a h;
     size = refl;
     narrow = (omega arith, λ v l. subst (λ (n : ℕ). n < 2 ^ 16) (sym (at-replicate 16 v)) (omega arith));
@@ -140,9 +140,9 @@ module _ (t : List ℕ) (base a b e : ℕ) where
   }
 
   -- the lowest value u of those left, and what its sixteen sets have of the masks
-  pub joining3-turn : (m u m′ : ℕ) {ms all all′ : List ℕ} {first s first′ last r last′ : ℕ} → Joining3 m first last all → (m ≡ 0 → ⊥) → u ≡ lowestOf m → m′ ≡ withoutMask m (lowestOf m) →
-      b < 2 ^ 16 → r < 2 ^ 16 → Masks b e ms → Met t (base + 16 * u) ms all all′ r → s ≡ oneIf (not (eqb r 0)) u → first′ ≡ unionMask first s → last′ ≡ bitOr last r → Joining3 m′ first′ last′ all′
-  joining3-turn m u m′ {ms} {all} {all′} {first} {s} {first′} {last} {r} {last′} j n low less h i k g q f l = record {
+  pub supporting3-turn : (m u m′ : ℕ) {ms all all′ : List ℕ} {first s first′ last r last′ : ℕ} → Supporting3 m first last all → (m ≡ 0 → ⊥) → u ≡ lowestOf m → m′ ≡ withoutMask m (lowestOf m) →
+      b < 2 ^ 16 → r < 2 ^ 16 → Masks b e ms → Met t (base + 16 * u) ms all all′ r → s ≡ oneIf (not (eqb r 0)) u → first′ ≡ unionMask first s → last′ ≡ bitOr last r → Supporting3 m′ first′ last′ all′
+  supporting3-turn m u m′ {ms} {all} {all′} {first} {s} {first′} {last} {r} {last′} j n low less h i k g q f l = record {
     rest = others-left a m u (j .rest) n low m′ less;
     size = g .size ∙ j .size;
     narrow = (
@@ -172,8 +172,9 @@ module _ (t : List ℕ) (base a b e : ℕ) where
       out : (w : ℕ) → T (has r w) → (v : ℕ) × With v u w
       out w o = let d = g .some-e w o in (d .0, from (d .0) w (d .2))
 
-  pub joining3-end : (m : ℕ) {first second last : ℕ} {all : List ℕ} → m ≡ 0 → b < 2 ^ 16 → Joining3 m first last all → FullSets all b second → Joined3 (Together3 t base a b e) first second last
-  joining3-end m {first} {second} {last} {all} z h j s = record {
+  pub supporting3-end : (m : ℕ) {first second last : ℕ} {all : List ℕ} → m ≡ 0 → b < 2 ^ 16 → Supporting3 m first last all → FullSets all b second →
+      Supported3 (Together3 t base a b e) first second last
+  supporting3-end m {first} {second} {last} {all} z h j s = record {
     first-i = λ u v w q. union-end Firsts a m first z (j .firsts) u u (q .0) (refl, (v, (w, q .1)));
     first-e = λ u q. let r = j .firsts .got u q in (
       r .2 .1 .0,

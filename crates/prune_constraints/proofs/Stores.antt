@@ -8,9 +8,9 @@ use Rattle.model.proofs.Lists.{T-of, of-T, of-not, any-i, any-e, among-i, among
 use Rattle.model.proofs.{Lists.both-false, Lists.at-small-1, Lists.at-small-2, Sets.has-lt, Sets.mask-i, Sets.mask-e, Sets.member, Sets.set-sets, Masks.has-or, Masks.has-oneIf}
 use Rattle.model.proofs.Members.{either-no, rest-begin, has-0, and-i, and-e, lowest-left}
 use Rattle.arrays.specs.{inner.Places.DEAD, inner.Layout.place}
-use Rattle.prune_constraints.specs.{inner.Revised.revised, inner.Revised.Revision, inner.Steps.OneValue, inner.Steps.Together, inner.Steps.Joined, inner.Steps.Together3}
-use Rattle.prune_constraints.specs.inner.Steps.{Joined3, Scoped, SetCut}
-use Rattle.prune_constraints.proofs.{Bits.one-small, Unions.single, Unions.joined3-none, Rows.RowIn, Rows.PairIn, Rows.alive, Rows.pair-has, Rows.supported-e}
+use Rattle.prune_constraints.specs.{inner.Revised.revised, inner.Revised.Revision, inner.Steps.OneValue, inner.Steps.Together, inner.Steps.Supported2, inner.Steps.Together3}
+use Rattle.prune_constraints.specs.inner.Steps.{Supported3, Scoped, SetCut}
+use Rattle.prune_constraints.proofs.{Bits.one-small, Unions.single, Unions.supported3-none, Rows.RowIn, Rows.PairIn, Rows.alive, Rows.pair-has, Rows.supported-e}
 use Rattle.prune_constraints.proofs.Rows.{supported-i, supported-out, revised-is}
 
 -- ---- the sets that changed
@@ -204,7 +204,7 @@ module _ {c : Constraint} {supports : List ℕ} {k x : ℕ} (p : Scoped c suppor
 
 -- ---- a scope of two variables
 module _ {c : Constraint} {supports : List ℕ} {k x y : ℕ} (p : Scoped c supports k (x ∷ y ∷ [])) (ds : List ℕ) (s : Sets 16 ds) (first last : ℕ) (f : first < 2 ^ 16) (g : last < 2 ^ 16)
-    (j : Joined supports (256 * k) (at ds x) (at ds y) first last) where
+    (j : Supported2 supports (256 * k) (at ds x) (at ds y) first last) where
   abbrev es-2 : List ℕ
   es-2 = set (set ds x first) y last
 
@@ -273,7 +273,7 @@ module _ {c : Constraint} {supports : List ℕ} {k x y : ℕ} (p : Scoped c supp
 -- ---- a scope of three variables
 module _ {c : Constraint} {supports : List ℕ} {k x y z : ℕ} (p : Scoped c supports k (x ∷ y ∷ z ∷ [])) (ds : List ℕ) (s : Sets 16 ds) (first second last : ℕ) (f : first < 2 ^ 16)
     (g : second < 2 ^ 16) (h : last < 2 ^ 16)
-    (j : Joined3 (Together3 supports (256 * k) (at ds x) (at ds y) (at ds z)) first second last) where
+    (j : Supported3 (Together3 supports (256 * k) (at ds x) (at ds y) (at ds z)) first second last) where
   abbrev fs-3 : List ℕ
   fs-3 = set (set ds x first) y second
 
@@ -391,7 +391,7 @@ module _ {c : Constraint} {supports : List ℕ} {k x y z : ℕ} (p : Scoped c su
 
 -- the first set stays as it is
 module _ {c : Constraint} {supports : List ℕ} {k x y z : ℕ} (p : Scoped c supports k (x ∷ y ∷ z ∷ [])) (ds : List ℕ) (s : Sets 16 ds) (second last : ℕ) (g : second < 2 ^ 16) (h : last < 2 ^ 16)
-    (j : Joined3 (Together3 supports (256 * k) (at ds x) (at ds y) (at ds z)) (at ds x) second last) where
+    (j : Supported3 (Together3 supports (256 * k) (at ds x) (at ds y) (at ds z)) (at ds x) second last) where
   pub three-rest : (n i : ℕ) → n ≡ oneIf (not (eqb second (at ds y))) y → i ≡ oneIf (not (eqb last (at ds z))) z → (last ≡ 0 → ⊥) → Revision c ds (set (set ds y second) z last) (bitOr n i)
   three-rest n i o a e =
       subst (λ (l : List ℕ). Revision c ds (set (set l y second) z last) (bitOr n i)) (set-at ds x)
@@ -431,13 +431,13 @@ module _ {c : Constraint} {supports : List ℕ} {k x y z : ℕ} (p : Scoped c su
       and-i (at ds z) (at supports (256 * k + 16 * u + v)) w (q .1 .1)
       (subst (λ (i : ℕ). T (has (at supports (256 * k + 16 * i + v)) w)) (is-u a (q .0)) (subst (λ (i : ℕ). T (has (at supports (256 * k + 16 * a + i)) w)) (is-v b (q .1 .0)) (q .1 .2)))
 
-  none : t ≡ 0 → Joined3 M 0 0 0
-  none e = joined3-none never
+  none : t ≡ 0 → Supported3 M 0 0 0
+  none e = supported3-none never
     where
       never : (a b w : ℕ) → M a b w → ⊥
       never a b w q = has-0 w (subst (λ (n : ℕ). T (has n w)) e (together-e a b w q))
 
-  some : (t ≡ 0 → ⊥) → Joined3 M (at ds x) (at ds y) t
+  some : (t ≡ 0 → ⊥) → Supported3 M (at ds x) (at ds y) t
   some n = record {
     first-i = λ a b w q. q .0;
     first-e = λ a q. (v, (w, subst (λ (i : ℕ). M i v w) (sym (is-u a q)) m));

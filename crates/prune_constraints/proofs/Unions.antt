@@ -7,7 +7,7 @@ use Rattle.model.proofs.{Lists.T-of, Lists.both-i, Lists.both-l, Lists.both-r, 
 use Rattle.model.proofs.Members.{Rest, rest-begin, has-0, Union, union-begin, union-end, lowest-left, others-left, others-union, and-i, and-e}
 use Rattle.model.proofs.Masks.{has-oneIf, lowest-op, union-op}
 use Rattle.arrays.specs.{inner.Places.OTHERS, inner.Tables.between}
-use Rattle.prune_constraints.specs.inner.Steps.{OneValue, Together, Joined, Together3, Joined3, Touched}
+use Rattle.prune_constraints.specs.inner.Steps.{OneValue, Together, Supported2, Together3, Supported3, Touched}
 use Rattle.prune_constraints.specs.inner.Lanes.{FullLanes, LaneUnion, InLanes, InLane}
 use Rattle.prune_constraints.proofs.Bits.{one-small}
 
@@ -56,19 +56,19 @@ module _ (t : List ℕ) (base a b : ℕ) where
   abbrev Gives : ℕ → ℕ → Type 0
   Gives v w = T (has b w) × T (has (at t (base + v)) w)
 
-  pub record Joining (m first last : ℕ) : Type 0 where
+  pub record Supporting2 (m first last : ℕ) : Type 0 where
     pub rest : Rest 16 a m
     pub narrow : first < 2 ^ 16
     pub firsts : Union Meets a m first
     pub lasts : Union Gives a m last
 
-  pub joining-begin : a < 2 ^ 16 → Joining a 0 0
-  joining-begin h = record { rest = rest-begin 16 a h; narrow = omega arith; firsts = union-begin Meets a; lasts = union-begin Gives a }
+  pub supporting2-begin : a < 2 ^ 16 → Supporting2 a 0 0
+  supporting2-begin h = record { rest = rest-begin 16 a h; narrow = omega arith; firsts = union-begin Meets a; lasts = union-begin Gives a }
 
   -- the lowest value v of those left
-  pub joining-turn : (k m v m′ : ℕ) {first s first′ last last′ : ℕ} → Joining m first last → (m ≡ 0 → ⊥) → v ≡ lowestOf m → m′ ≡ withoutMask m (lowestOf m) → b < 2 ^ k →
-      s ≡ oneIf (not (eqb (bitAnd (at t (base + v)) b) 0)) v → first′ ≡ unionMask first s → last′ ≡ bitOr last (bitAnd (at t (base + v)) b) → Joining m′ first′ last′
-  joining-turn k m v m′ {first} {s} {first′} {last} {last′} j n low less h e f l = record {
+  pub supporting2-turn : (k m v m′ : ℕ) {first s first′ last last′ : ℕ} → Supporting2 m first last → (m ≡ 0 → ⊥) → v ≡ lowestOf m → m′ ≡ withoutMask m (lowestOf m) → b < 2 ^ k →
+      s ≡ oneIf (not (eqb (bitAnd (at t (base + v)) b) 0)) v → first′ ≡ unionMask first s → last′ ≡ bitOr last (bitAnd (at t (base + v)) b) → Supporting2 m′ first′ last′
+  supporting2-turn k m v m′ {first} {s} {first′} {last} {last′} j n low less h e f l = record {
     rest = others-left a m v (j .rest) n low m′ less;
     narrow = small _ first′ f;
     firsts =
@@ -86,8 +86,8 @@ module _ (t : List ℕ) (base a b : ℕ) where
       x : ℕ
       x = bitAnd (at t (base + v)) b
 
-  pub joining-end : (m first last : ℕ) → m ≡ 0 → Joining m first last → Joined t base a b first last
-  joining-end m first last e j = record {
+  pub supporting2-end : (m first last : ℕ) → m ≡ 0 → Supporting2 m first last → Supported2 t base a b first last
+  supporting2-end m first last e j = record {
     first-i = λ v w q. union-end Meets a m first e (j .firsts) v v (q .0) (refl, (w, q .1, q .2));
     first-e = λ v q. let r = j .firsts .got v q in (
       r .2 .1 .0,
@@ -130,7 +130,7 @@ module _ (t : List ℕ) (base a b : ℕ) where
       x : ℕ
       x = bitAnd (at t (base + v)) b
 
-  pub passing-end : (m all : ℕ) → m ≡ 0 → Passing m all → Joined t base a b a all
+  pub passing-end : (m all : ℕ) → m ≡ 0 → Passing m all → Supported2 t base a b a all
   passing-end m all e j = record {
     first-i = λ v w q. q .0;
     first-e = λ v q. ⊎-elim (λ r. (r .0, (q, r .1 .0, r .1 .1))) (λ r. absurd (has-0 v (subst (λ (n : ℕ). T (has n v)) e r))) (j .firsts v q);
@@ -141,9 +141,9 @@ module _ (t : List ℕ) (base a b : ℕ) where
 -- ---- three sets by 256 sets of a table
 module _ (t : List ℕ) (base a b e : ℕ) where
   -- where a has one value u, what goes together by the sixteen sets for u
-  pub joined3-one : (u : ℕ) {second last : ℕ} → a < 2 ^ 16 → OneValue a → u ≡ lowestOf a → second < 2 ^ 16 → (second ≡ 0 → ⊥) → Joined t (base + 16 * u) b e second last → Joined3
+  pub supported3-one : (u : ℕ) {second last : ℕ} → a < 2 ^ 16 → OneValue a → u ≡ lowestOf a → second < 2 ^ 16 → (second ≡ 0 → ⊥) → Supported2 t (base + 16 * u) b e second last → Supported3
       (Together3 t base a b e) a second last
-  joined3-one u {second} h o low l n j = record {
+  supported3-one u {second} h o low l n j = record {
     first-i = λ i v w q. q .0;
     first-e = λ i q. let m = member second l n in let r = j .first-e (m .0) (m .2) in (m .0, (r .0, (q, subst (λ (c : ℕ). Together t (base + 16 * c) b e (m .0) (r .0)) (sym (is-u i q)) (r .1))));
     second-i = λ i v w q. j .first-i v w (here i v w q);
@@ -162,8 +162,8 @@ module _ (t : List ℕ) (base a b e : ℕ) where
       here i v w q = subst (λ (c : ℕ). Together t (base + 16 * c) b e v w) (is-u i (q .0)) (q .1)
 
 -- nothing goes together
-pub joined3-none : {M : ℕ → ℕ → ℕ → Type 0} → ((u v w : ℕ) → M u v w → ⊥) → Joined3 M 0 0 0
-joined3-none never = record {
+pub supported3-none : {M : ℕ → ℕ → ℕ → Type 0} → ((u v w : ℕ) → M u v w → ⊥) → Supported3 M 0 0 0
+supported3-none never = record {
   first-i = λ u v w q. absurd (never u v w q);
   first-e = λ u q. absurd (has-0 u q);
   second-i = λ u v w q. absurd (never u v w q);
@@ -188,8 +188,8 @@ module _ (supports : List ℕ) (k a b e : ℕ) (m : b < 2 ^ 8) where
   third-is u v w t = has-mask 16 (λ v. has (at supports (256 * k + 16 * u + v)) w) v (omega (arith, has-lt 8 b v m t))
 
   -- along the lane of one value u
-  pub lane-joined : (u : ℕ) {second last : ℕ} → InLane b u e (of-second supports k) last → InLane e u b (of-third supports k) second → Joined supports (256 * k + 16 * u) b e second last
-  lane-joined u f g = record {
+  pub lane-supported2 : (u : ℕ) {second last : ℕ} → InLane b u e (of-second supports k) last → InLane e u b (of-third supports k) second → Supported2 supports (256 * k + 16 * u) b e second last
+  lane-supported2 u f g = record {
     first-i = λ v w q. g .lane-i w v (q .1) (q .0) (subst T (sym (third-is u v w (q .0))) (q .2));
     first-e = λ v q. let r = g .lane-e v q in (r .0, (r .2, r .1, subst T (third-is u v (r .0) (r .2)) (r .3)));
     last-i = λ v w q. f .lane-i v w (q .0) (q .1) (q .2);
@@ -198,7 +198,7 @@ module _ (supports : List ℕ) (k a b e : ℕ) (m : b < 2 ^ 8) where
 
   -- x and y have what goes together in all lanes
   pub union-both : {x y first second last : ℕ} → a < 2 ^ 8 → e < 2 ^ 8 → InLanes b a e (of-second supports k) x → InLanes e a b (of-third supports k) y → FullLanes x first → LaneUnion y second
-      → LaneUnion x last → Joined3 (Together3 supports (256 * k) a b e) first second last
+      → LaneUnion x last → Supported3 (Together3 supports (256 * k) a b e) first second last
   union-both {x} {y} h l c d f g i = record {
     first-i = λ u v w q. let r = to u v w q in f .full-i u w (r .0) (r .2) (r .3);
     first-e = λ u q. let r = f .full-e u q in let o = from u (r .1 .0) (r .0) (r .1 .1) (r .1 .2) in (o .0, (r .1 .0, o .1));

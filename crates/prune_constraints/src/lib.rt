@@ -26,8 +26,8 @@ ghost use Rattle.arrays.specs.inner.Places.{SCOPES, VALUES, NUMBERS, SUPPORTS};
 ghost use Rattle.model.specs.Problem.{constraintAt};
 ghost use Rattle.arrays.specs.inner.Tables.{Spreads, Words};
 ghost use Rattle.prune_constraints.specs.inner.Revised.{Revision, ConstraintsPending, Constrained};
-ghost use Rattle.prune_constraints.specs.inner.Steps.{OneValue, Joined, Together3, Joined3, Scoped, Nonempty, Narrow, ConstraintsHeld, SetCut, Touched};
-ghost use Rattle.prune_constraints.specs.inner.Steps.{Masks, Met, FullSets, Waiting, Round};
+ghost use Rattle.prune_constraints.specs.inner.Steps.{OneValue, Supported2, Together3, Supported3, Scoped, Nonempty, Narrow, ConstraintsHeld, SetCut};
+ghost use Rattle.prune_constraints.specs.inner.Steps.{Touched, Masks, Met, FullSets, Waiting, Round};
 ghost use Rattle.prune_constraints.specs.inner.LookUps.{LookUp, LookUpsPending, LookedUp};
 ghost use Rattle.prune_constraints.specs.inner.Lanes.{FullLanes, LaneUnion, FullHeads, Halves, TogetherIn, InLanes, InLane};
 
@@ -70,9 +70,9 @@ pub fn moved(a: ValueSet, b: ValueSet, x: usize) -> u64
 }
 
 // The values of a and of b that go together with one of the other set, by the sixteen sets of the table from a base on.
-fn joined(supports: &Supports, base: usize, a: ValueSet, b: ValueSet) -> Two
+fn supported2(supports: &Supports, base: usize, a: ValueSet, b: ValueSet) -> Two
     requires { ⌜ base + 16 ≤ SUPPORTS ⌝ }
-    ensures { λ r. ⌜ Joined (now (supports .entry)) base (a .bits) (b .bits) (r .first .bits) (r .last .bits) ⌝ }
+    ensures { λ r. ⌜ Supported2 (now (supports .entry)) base (a .bits) (b .bits) (r .first .bits) (r .last .bits) ⌝ }
 {
     let mut first = ValueSet::EMPTY;
     let mut last = ValueSet::EMPTY;
@@ -136,9 +136,9 @@ fn full_sets(all: &[u16; 16], b: ValueSet) -> ValueSet
 }
 
 // The values of three sets that go together with some of the other two, by 256 sets of the table.
-fn joined3(supports: &Supports, base: usize, a: ValueSet, b: ValueSet, e: ValueSet) -> Three
+fn supported3(supports: &Supports, base: usize, a: ValueSet, b: ValueSet, e: ValueSet) -> Three
     requires { ⌜ base + 256 ≤ SUPPORTS ⌝ }
-    ensures { λ r. ⌜ Joined3 (Together3 (now (supports .entry)) base (a .bits) (b .bits) (e .bits)) (r .first .bits) (r .second .bits) (r .last .bits) ⌝ }
+    ensures { λ r. ⌜ Supported3 (Together3 (now (supports .entry)) base (a .bits) (b .bits) (e .bits)) (r .first .bits) (r .second .bits) (r .last .bits) ⌝ }
 {
     let masks = masks(b, e);
     let mut first = ValueSet::EMPTY;
@@ -237,7 +237,7 @@ fn fills(numbers: &Numbers, w: u64, b: ValueSet) -> bool
 // Whether every value of two sets goes together with some of the other, by the sixteen sets of the table from a base on.
 fn quiet16(supports: &Supports, base: usize, b: ValueSet, e: ValueSet) -> bool
     requires { ⌜ base + 16 ≤ SUPPORTS ⌝ }
-    ensures { λ r. ⌜ (r ≡ true → Joined (now (supports .entry)) base (b .bits) (e .bits) (b .bits) (e .bits)) ⌝ }
+    ensures { λ r. ⌜ (r ≡ true → Supported2 (now (supports .entry)) base (b .bits) (e .bits) (b .bits) (e .bits)) ⌝ }
 {
     let mut all = 0u16;
     let mut left = b;
@@ -278,7 +278,7 @@ fn revise_two(sets: &mut [u16; 16], supports: &Supports, k: usize, x: usize, y: 
 {
     let a = ValueSet { bits: sets[x] };
     let b = ValueSet { bits: sets[y] };
-    let r = joined(supports, 256 * k, a, b);
+    let r = supported2(supports, 256 * k, a, b);
     let first = r.first;
     let last = r.last;
     if last.is_empty() {
@@ -341,7 +341,7 @@ fn revise_last(
 fn leave(sets: &mut [u16; 16], x: usize, y: usize, z: usize, t: Three) -> u64
     requires { ⌜ Sets 16 (now sets) ⌝ }
     requires { ⌜ (x < 16) × (y < 16) × (z < 16) ⌝ }
-    ensures { λ r. ⌜ ((c : Constraint) (supports : List ℕ) (k : ℕ) → Scoped c supports k (x ∷ y ∷ z ∷ []) → Joined3
+    ensures { λ r. ⌜ ((c : Constraint) (supports : List ℕ) (k : ℕ) → Scoped c supports k (x ∷ y ∷ z ∷ []) → Supported3
         (Together3 supports (256 * k) (at (now (sets .entry)) x) (at (now (sets .entry)) y) (at (now (sets .entry)) z)) (t .first .bits) (t .second .bits)
         (t .last .bits) → Revision c (now (sets .entry)) (now (sets .exit)) r) ⌝ }
 {
@@ -438,7 +438,7 @@ fn revise16(sets: &mut [u16; 16], numbers: &Numbers, supports: &Supports, k: usi
             return 0;
         }
     }
-    let t = joined3(supports, 256 * k, a, b, e);
+    let t = supported3(supports, 256 * k, a, b, e);
     leave(sets, x, y, z, t)
 }
 

@@ -3,7 +3,7 @@
 use Rattle.model.specs.Kit.{_≡_, refl, sym, _∙_, subst, _<_, arith, needs, eqb-true, eqb-false, not-true, not-false, T}
 use Rattle.model.specs.Lists.{at}
 use Rattle.model.proofs.Members.{lowest-left, others-less}
-use Rattle.prune_constraints.specs.inner.Steps.{Joined}
+use Rattle.prune_constraints.specs.inner.Steps.{Supported2}
 use Rattle.prune_constraints.proofs.{Unions.Passing, Unions.passing-begin, Unions.passing-turn, Unions.passing-end, quiet16.Statement.statement}
 use Rattle.prune_constraints.proofs.quiet16.Tie as tie
 
@@ -56,7 +56,7 @@ loop-again c =
     passing-turn _ _ _ _ 16 _ _ _ (l .before .before .before .loop .inv) (some (l .before)) (l .lowest .ensures) (c .without-lowest .ensures) (search needs) (c .before .if2 .left) refl
 
 returns-2 : tie.Need-returns-2 Inv-loop μ-loop
-returns-2 c = λ q. subst (Joined _ _ _ _ _) (eqb-true _ _ q) (passing-end _ _ _ _ _ _ (eqb-true _ 0 (sym (c .before .before .is-empty .ensures) ∙ not-false _ (c .before .if1 .left)))
+returns-2 c = λ q. subst (Supported2 _ _ _ _ _) (eqb-true _ _ q) (passing-end _ _ _ _ _ _ (eqb-true _ 0 (sym (c .before .before .is-empty .ensures) ∙ not-false _ (c .before .if1 .left)))
     (c .before .before .before .loop .inv))
 
 pub quiet16-spec : {M : Type 1} → statement M

@@ -4,7 +4,7 @@ use Rattle.model.specs.{Lists.at, Problem.Problem, Problem.constraintAt}
 use Rattle.model.proofs.Members.{lowest-left, rest-begin}
 use Rattle.arrays.specs.{inner.Places.SCOPES, inner.Layout.arityIn}
 use Rattle.prune_constraints.specs.inner.Steps.{OneValue, ConstraintsHeld, Scoped}
-use Rattle.prune_constraints.proofs.{Scopes.of-three, Scopes.read-3, Unions.one-value, Unions.joined3-one, Stores.three-same, revise16.Statement.statement}
+use Rattle.prune_constraints.proofs.{Scopes.of-three, Scopes.read-3, Unions.one-value, Unions.supported3-one, Stores.three-same, revise16.Statement.statement}
 use Rattle.prune_constraints.proofs.revise16.Tie as tie
 
 -- the arity is 3
@@ -87,7 +87,7 @@ returns-3 c =
     let d = c12 .before .before .before .before .before .before in
     let n = of-three (three c12 .is) (d .pre .1 .3) in λ p g h.
     three-same (three-of c12 p g h) _ (d .pre .0) _ _ _ (d .pre .0 .1 _) (d .pre .0 .1 _) (d .pre .0 .1 _)
-    (joined3-one _ _ _ _ _ _ (d .pre .0 .1 _) (one (c .before .before .before .before .before .before)) (c .before .before .lowest .ensures) (d .pre .0 .1 _) (n .1)
+    (supported3-one _ _ _ _ _ _ (d .pre .0 .1 _) (one (c .before .before .before .before .before .before)) (c .before .before .lowest .ensures) (d .pre .0 .1 _) (n .1)
     (c .before .quiet16 .ensures (c .if4 .taken))) refl refl refl (n .2)
 
 leave-requires : tie.Need-leave-requires
@@ -96,7 +96,7 @@ leave-requires c κs = let c8 = c .before .before .before .before .before .befor
 
 returns-4 : tie.Need-returns-4
 unfolding at
-returns-4 c = λ p g h. c .leave .ensures _ _ _ (three-of (c .before .before .before .before .before .before .before .before .before) p g h) (c .before .before .joined3 .ensures)
+returns-4 c = λ p g h. c .leave .ensures _ _ _ (three-of (c .before .before .before .before .before .before .before .before .before) p g h) (c .before .before .supported3 .ensures)
 
 pub revise16-spec : {M : Type 1} → statement M
 revise16-spec =

@@ -10,7 +10,7 @@ x-lt c = c .pre .1 .1 .inside _ (List·Memᴰ·head refl)
 y-lt : (c : tie.Start) → c .args .y < 16
 y-lt c = c .pre .1 .1 .inside _ (List·Memᴰ·tail (List·Memᴰ·head refl))
 
-narrow : (c : tie.After-joined) → (c .joined .result .first .bits < 2 ^ 16) × (c .joined .result .last .bits < 2 ^ 16)
+narrow : (c : tie.After-supported2) → (c .supported2 .result .first .bits < 2 ^ 16) × (c .supported2 .result .last .bits < 2 ^ 16)
 narrow c = (search needs, search needs)
 
 mul-t11 : tie.Need-mul-t11
@@ -30,7 +30,7 @@ unfolding at
 returns c =
     let j = c .before .before .before .before in
     let s = j .before .before .before in λ d q.
-    two-dead q _ (s .pre .0) _ _ (narrow j .0) (narrow j .1) (j .joined .ensures) (eqb-true _ 0 (sym (c .before .is-empty .ensures) ∙ c .if1 .taken))
+    two-dead q _ (s .pre .0) _ _ (narrow j .0) (narrow j .1) (j .supported2 .ensures) (eqb-true _ 0 (sym (c .before .is-empty .ensures) ∙ c .if1 .taken))
 
 mul-sets : tie.Need-mul-sets
 mul-sets c = omega (arith, x-lt (c .before .before .before .before .before .before .before))
@@ -56,7 +56,7 @@ returns-2 c =
     let i = c .before .before .before in
     let j = i .before .before .before in
     let s = j .before .before .before in λ d q.
-    two q _ (s .pre .0) _ _ (narrow j .0) (narrow j .1) (j .joined .ensures) _ _ (c .before .moved .ensures) (c .moved2 .ensures)
+    two q _ (s .pre .0) _ _ (narrow j .0) (narrow j .1) (j .supported2 .ensures) _ _ (c .before .moved .ensures) (c .moved2 .ensures)
     (eqb-false _ 0 (sym (i .is-empty .ensures) ∙ c .before .before .if1 .left))
 
 pub revise-two-spec : {M : Type 1} → statement M

@@ -14,7 +14,7 @@ abbrev pub Together : List ℕ → ℕ → ℕ → ℕ → ℕ → ℕ → Type 
 Together t base a b v w = T (has a v) × T (has b w) × T (has (at t (base + v)) w)
 
 -- the values of a and of b that go together with some value of the other set
-pub record Joined (t : List ℕ) (base a b first last : ℕ) : Type 0 where
+pub record Supported2 (t : List ℕ) (base a b first last : ℕ) : Type 0 where
   pub first-i : (v w : ℕ) → Together t base a b v w → T (has first v)
   pub first-e : (v : ℕ) → T (has first v) → (w : ℕ) × Together t base a b v w
   pub last-i : (v w : ℕ) → Together t base a b v w → T (has last w)
@@ -43,7 +43,7 @@ abbrev pub Together3 : List ℕ → ℕ → ℕ → ℕ → ℕ → ℕ → ℕ 
 Together3 t base a b e u v w = T (has a u) × Together t (base + 16 * u) b e v w
 
 -- the values that go together with some values of the other two sets
-pub record Joined3 (M : ℕ → ℕ → ℕ → Type 0) (first second last : ℕ) : Type 0 where
+pub record Supported3 (M : ℕ → ℕ → ℕ → Type 0) (first second last : ℕ) : Type 0 where
   pub first-i : (u v w : ℕ) → M u v w → T (has first u)
   pub first-e : (u : ℕ) → T (has first u) → (v : ℕ) × ((w : ℕ) × M u v w)
   pub second-i : (u v w : ℕ) → M u v w → T (has second v)

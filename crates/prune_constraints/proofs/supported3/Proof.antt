@@ -3,11 +3,11 @@
 use Rattle.model.specs.Kit.{_≡_, refl, sym, _∙_, ℕ, _^_, _<_, arith, needs, eqb-true, eqb-false, not-true, not-false}
 use Rattle.model.proofs.Members.{Rest, lowest-left, others-less}
 use Rattle.prune_constraints.specs.inner.Steps.{Masks}
-use Rattle.prune_constraints.proofs.{Sixteen.Joining3, Sixteen.joining3-begin, Sixteen.joining3-turn, Sixteen.joining3-end, joined3.Statement.statement}
-use Rattle.prune_constraints.proofs.joined3.Tie as tie
+use Rattle.prune_constraints.proofs.{Sixteen.Supporting3, Sixteen.supporting3-begin, Sixteen.supporting3-turn, Sixteen.supporting3-end, supported3.Statement.statement}
+use Rattle.prune_constraints.proofs.supported3.Tie as tie
 
 abbrev Inv-loop : tie.InvT-loop
-Inv-loop supports base b masks first₀ last₀ all₀ left₀ first last all left = (e : ℕ) → Masks (b .bits) e masks → Joining3 supports base (left₀ .bits) (b .bits) e (left .bits) (first .bits) last all
+Inv-loop supports base b masks first₀ last₀ all₀ left₀ first last all left = (e : ℕ) → Masks (b .bits) e masks → Supporting3 supports base (left₀ .bits) (b .bits) e (left .bits) (first .bits) last all
 
 abbrev μ-loop : tie.MeasureT-loop
 μ-loop supports base b masks first₀ last₀ all₀ left₀ first last all left = left .bits
@@ -25,7 +25,7 @@ low : (c : tie.After-lowest Inv-loop μ-loop) → c .lowest .result < 16
 low c = lowest-left _ _ _ (left-rest (c .before .before .before)) (some (c .before)) (c .lowest .ensures) .1
 
 loop-holds : tie.Need-loop-holds Inv-loop μ-loop
-loop-holds c = λ e k. joining3-begin _ _ _ _ e (search needs)
+loop-holds c = λ e k. supporting3-begin _ _ _ _ e (search needs)
 
 cast-meet : tie.Need-cast-meet Inv-loop μ-loop
 cast-meet c = omega (arith, low c)
@@ -50,17 +50,17 @@ loop-less c =
 loop-again : tie.Need-loop-again Inv-loop μ-loop
 loop-again c = λ e k.
     let l = c .before .before .before .before .before .before in
-    joining3-turn _ _ _ _ e _ _ _ (l .before .before .before .loop .inv e k) (some (l .before)) (l .lowest .ensures) (c .without-lowest .ensures)
+    supporting3-turn _ _ _ _ e _ _ _ (l .before .before .before .loop .inv e k) (some (l .before)) (l .lowest .ensures) (c .without-lowest .ensures)
     (narrow (l .before .before .before .before)) (search needs) k (c .before .before .before .meet .ensures) (c .before .before .one-if .ensures) (c .before .union .ensures) refl
 
 returns : tie.Need-returns Inv-loop μ-loop
 returns c =
     let l = c .before .before in
-    joining3-end _ _ _ _ _ _ (eqb-true _ 0 (sym (l .before .is-empty .ensures) ∙ not-false _ (l .if1 .left))) (search needs)
+    supporting3-end _ _ _ _ _ _ (eqb-true _ 0 (sym (l .before .is-empty .ensures) ∙ not-false _ (l .if1 .left))) (search needs)
     (l .before .before .loop .inv _ (l .before .before .before .masks .ensures)) (c .full-sets .ensures)
 
-pub joined3-spec : {M : Type 1} → statement M
-joined3-spec =
+pub supported3-spec : {M : Type 1} → statement M
+supported3-spec =
     tie.close
     (tie.spec
     Inv-loop μ-loop (λ c κs. search needs) loop-holds (λ c κs. search needs) (λ c κs. search needs) cast-meet mul-meet add-meet meet-requires one-if-requires (λ c κs. search needs)

@@ -2,11 +2,11 @@
 use Rattle.model.specs.Kit.{_≡_, sym, ap, _∙_, Bool, not, ℕ, _+_, _^_, _<_, arith, eqb, bitAnd, bitOr, needs, eqb-true, eqb-false, not-true, not-false}
 use Rattle.model.specs.{Lists.at, ValueSets.oneIf}
 use Rattle.model.proofs.{Masks.union-op, Members.common-op-r, Members.lowest-left, Members.others-less}
-use Rattle.prune_constraints.proofs.{Unions.small, Unions.Joining, Unions.joining-begin, Unions.joining-turn, Unions.joining-end, joined.Statement.statement}
-use Rattle.prune_constraints.proofs.joined.Tie as tie
+use Rattle.prune_constraints.proofs.{Unions.small, Unions.Supporting2, Unions.supporting2-begin, Unions.supporting2-turn, Unions.supporting2-end, supported2.Statement.statement}
+use Rattle.prune_constraints.proofs.supported2.Tie as tie
 
 abbrev Inv-loop : tie.InvT-loop
-Inv-loop supports base b first₀ last₀ left₀ first last left = (last .bits < 2 ^ 16) × Joining supports base (left₀ .bits) (b .bits) (left .bits) (first .bits) (last .bits)
+Inv-loop supports base b first₀ last₀ left₀ first last left = (last .bits < 2 ^ 16) × Supporting2 supports base (left₀ .bits) (b .bits) (left .bits) (first .bits) (last .bits)
 
 abbrev μ-loop : tie.MeasureT-loop
 μ-loop supports base b first₀ last₀ left₀ first last left = left .bits
@@ -24,7 +24,7 @@ unfolding at
 support-is c = c .common .ensures ∙ sym (common-op-r _ _ (search needs))
 
 loop-holds : tie.Need-loop-holds Inv-loop μ-loop
-loop-holds c = (omega arith, joining-begin _ _ _ _ (search needs))
+loop-holds c = (omega arith, supporting2-begin _ _ _ _ (search needs))
 
 is-empty-requires : tie.Need-is-empty-requires Inv-loop μ-loop
 is-empty-requires c κs = search needs
@@ -72,16 +72,16 @@ loop-again c =
     let x = support-is (c .before .before .before .before .before) in
     let i = l .before .before .before .loop .inv in (
       small _ _ (c .before .union2 .ensures),
-      joining-turn _ _ _ _ 16 _ _ _ (i .1) (some (l .before)) (l .lowest .ensures) (c .without-lowest .ensures) (search needs)
+      supporting2-turn _ _ _ _ 16 _ _ _ (i .1) (some (l .before)) (l .lowest .ensures) (c .without-lowest .ensures) (search needs)
           (c .before .before .before .one-if .ensures ∙ ap (λ (z : Bool). oneIf (not z) (l .lowest .result)) (c .before .before .before .before .is-empty2 .ensures ∙ ap (λ (n : ℕ). eqb n 0) x))
           (c .before .before .union .ensures) (c .before .union2 .ensures ∙ sym (union-op _ _ (i .0) (search needs)) ∙ ap (bitOr (l .before .before .before .loop .last .bits)) x),
     )
 
 returns : tie.Need-returns Inv-loop μ-loop
-returns c = joining-end _ _ _ _ _ _ _ (eqb-true _ 0 (sym (c .before .is-empty .ensures) ∙ not-false _ (c .if1 .left))) (c .before .before .loop .inv .1)
+returns c = supporting2-end _ _ _ _ _ _ _ (eqb-true _ 0 (sym (c .before .is-empty .ensures) ∙ not-false _ (c .if1 .left))) (c .before .before .loop .inv .1)
 
-pub joined-spec : {M : Type 1} → statement M
-joined-spec =
+pub supported2-spec : {M : Type 1} → statement M
+supported2-spec =
     tie.close
     (tie.spec
     Inv-loop μ-loop loop-holds is-empty-requires lowest-requires cast-t13 add-t14 mul-t15 element-copy-out-t18 common-requires is-empty-requires-2
