@@ -1,43 +1,38 @@
 -- Look-ups: one constraint whose first two sets have one value each, and the loop over some of them. Assumes nothing.
-use Rattle.model.specs.Kit.{_≡_, refl, sym, ap, ap₂, _∙_, subst, false, not, _⊎_, inl, inr, ⊎-elim, List, [], List·Memᴰ·head, List·Memᴰ·tail, ℕ, _+_, _-_, _*_, _/_, _%_, _^_, _≤_}
+use Rattle.model.specs.Kit.{_≡_, refl, sym, ap, ap₂, _∙_, subst, false, not, _⊎_, inl, inr, ⊎-elim, List, [], _∷_, ℕ, _+_, _-_, _*_, _^_, _≤_}
 use Rattle.model.specs.Kit.{_<_, lt-of-le-of-lt, arith, T, eqb-refl, length, bitAnd, bitOr, and-le-l, trailingZeros, eq-eqb}
 use Rattle.model.specs.{Lists.at, ValueSets.has, ValueSets.anyEmpty, Problem.Problem, Problem.constraintAt, inner.Pruning.Sets}
 use Rattle.model.proofs.{Lists.not-of, Lists.of-not, Lists.T-of, Lists.T-ext, Lists.both-i, Lists.mem-at, Sets.has-none, Sets.has-lt, Sets.mask-ext, Sets.member, Masks.has-one}
 use Rattle.model.proofs.{Members.has-0, Members.low-has, Members.or-i, Members.or-e, Members.and-e, Members.rest-e, Firsts.take-full}
-use Rattle.arrays.specs.{inner.Places.SCOPES, inner.Places.OTHERS, inner.Places.DEAD, inner.Places.SUPPORTS, inner.Pruning.setsOf}
+use Rattle.arrays.specs.{inner.Places.SCOPES, inner.Places.OTHERS, inner.Places.DEAD, inner.Places.SUPPORTS, inner.Layout.variableIn, inner.Pruning.setsOf}
 use Rattle.arrays.proofs.Links.{good}
 use Rattle.prune_constraints.specs.{inner.Revised.Revision, inner.Steps.OneValue, inner.Steps.Scoped, inner.Steps.ConstraintsHeld, inner.Steps.SetCut, inner.Steps.Touched}
 use Rattle.prune_constraints.specs.inner.LookUps.{Alone, LookUp, LookUpsPending, LookedUp}
-use Rattle.prune_constraints.proofs.{Bits.without-has, Unions.single, Rows.revised-inside, Removal.fixed-take, Stores.three-last, Scopes.scope3}
-use Rattle.prune_constraints.proofs.{Scopes.scoped-3, Touching.touchedOf, Touching.touched-lt, Touching.touched-of, ConstrainLoop.without, ConstrainLoop.Chosen}
+use Rattle.prune_constraints.proofs.{Bits.without-has, Unions.single, Rows.revised-inside, Removal.fixed-take, Stores.three-last, Scopes.of-three}
+use Rattle.prune_constraints.proofs.{Scopes.read-3, Touching.touchedOf, Touching.touched-lt, Touching.touched-of, ConstrainLoop.without, ConstrainLoop.Chosen}
 use Rattle.prune_constraints.proofs.ConstrainLoop.{ConstrainedSoFar, constrained-begin, k-few, k-full, changed-lt, constrained-dead, constrained-more}
 
--- ---- one constraint
-module _ {p : Problem} {numbers supports ds work : List ℕ} {k v : ℕ} (g : ConstraintsHeld p numbers supports) (l : LookUp p ds work k v) (s : Sets 16 ds) where
-  abbrev x : ℕ
-  x = at numbers (SCOPES + k) / 256 % 256
-
+-- ---- one constraint: x and z are what is read of its scope
+module _ {p : Problem} {numbers supports ds work : List ℕ} {k v : ℕ} (g : ConstraintsHeld p numbers supports) (l : LookUp p ds work k v) (s : Sets 16 ds) {x z : ℕ}
+    (ex : x ≡ variableIn (at numbers (SCOPES + k)) 0) (ez : z ≡ variableIn (at numbers (SCOPES + k)) 2) where
   abbrev y : ℕ
-  y = at numbers (SCOPES + k) / 65536 % 256
+  y = variableIn (at numbers (SCOPES + k)) 1
 
-  look-scoped : Scoped (constraintAt p k) supports k (scope3 (at numbers (SCOPES + k)))
-  look-scoped = scoped-3 g k (l .known) (g .numbered .arity k (l .known) ∙ l .three)
+  look-scoped : Scoped (constraintAt p k) supports k (x ∷ y ∷ z ∷ [])
+  look-scoped = read-3 g k (l .known) x ex y refl z ez (g .numbered .arity k (l .known) ∙ l .three)
 
   first : Alone (at ds x) (at work x)
-  first = subst (λ (i : ℕ). Alone (at ds i) (at work i)) (sym (g .numbered .scope k 0 (l .known) (omega (arith, l .three)))) (l .first)
+  first = subst (λ (i : ℕ). Alone (at ds i) (at work i)) (sym (ex ∙ g .numbered .scope k 0 (l .known) (omega (arith, l .three)))) (l .first)
 
   second : Alone (at ds y) v
   second = subst (λ (i : ℕ). Alone (at ds i) v) (sym (g .numbered .scope k 1 (l .known) (omega (arith, l .three)))) (l .second)
 
-  -- the third variable, and the place of its values in the table
-  pub look-place : (at numbers (SCOPES + k) / 16777216 % 256 < 16) × (256 * k + 16 * at work (at numbers (SCOPES + k) / 256 % 256) + v < SUPPORTS)
-  look-place = (
-    look-scoped .inside _ (List·Memᴰ·tail (List·Memᴰ·tail (List·Memᴰ·head refl))),
-    omega (arith, has-lt 16 (at ds x) (at work x) (s .1 x) (first .1), has-lt 16 (at ds y) v (s .1 y) (second .1), look-scoped .room),
-  )
+  -- the variables, and the place of the third's values in the table
+  pub look-place : (x < 16) × (z < 16) × (256 * k + 16 * at work x + v < SUPPORTS)
+  look-place = let i = of-three refl (look-scoped .inside) in
+      (i .0, i .2, omega (arith, has-lt 16 (at ds x) (at work x) (s .1 x) (first .1), has-lt 16 (at ds y) v (s .1 y) (second .1), look-scoped .room))
 
-  pub look-made : {es : List ℕ} {r : ℕ} → SetCut ds es (at numbers (SCOPES + k) / 16777216 % 256)
-      (bitAnd (at ds (at numbers (SCOPES + k) / 16777216 % 256)) (at supports (256 * k + 16 * at work (at numbers (SCOPES + k) / 256 % 256) + v))) r → Revision (constraintAt p k) ds es r
+  pub look-made : {es : List ℕ} {r : ℕ} → SetCut ds es z (bitAnd (at ds z) (at supports (256 * k + 16 * at work x + v))) r → Revision (constraintAt p k) ds es r
   look-made {es} {r} a = three-last look-scoped ds s (first .0) (second .0) _
       (ap₂ (λ (i j : ℕ). 256 * k + 16 * i + j) (single (at ds x) (s .1 x) (first .0) (at work x) (first .1)) (single (at ds y) (s .1 y) (second .0) v (second .1))) es r a
 

@@ -1,16 +1,12 @@
 -- What the arrays of a problem say of one of its constraints: its scope and its table. Assumes nothing.
-use Rattle.model.specs.Kit.{_≡_, refl, sym, ap, _∙_, subst, List, [], _∷_, List·Memᴰ, List·Memᴰ·head, List·Memᴰ·tail, ℕ, _+_, _/_, _%_, _<_, arith, T, length}
+use Rattle.model.specs.Kit.{_≡_, refl, sym, ap, _∙_, subst, List, [], _∷_, List·Memᴰ, List·Memᴰ·head, List·Memᴰ·tail, ℕ, _+_, _<_, arith, T, length}
 use Rattle.model.specs.{Lists.at, Lists.ascending, Problem.Problem, Problem.constraintAt}
 use Rattle.model.proofs.Lists.{list-1, list-2, list-3}
 use Rattle.arrays.specs.{inner.Places.SCOPES, inner.Layout.arityIn, inner.Layout.variableIn}
 use Rattle.arrays.proofs.Links.{good}
 use Rattle.prune_constraints.specs.inner.Steps.{ConstraintsHeld, Scoped}
 
--- the scope of three variables that a number holds
-abbrev pub scope3 : ℕ → List ℕ
-scope3 w = w / 256 % 256 ∷ w / 65536 % 256 ∷ w / 16777216 % 256 ∷ []
-
--- what holds of each variable of such a scope
+-- what holds of each variable of a scope of three
 pub of-three : {P : ℕ → Type 0} {scope : List ℕ} {x y z : ℕ} → scope ≡ x ∷ y ∷ z ∷ [] → ((i : ℕ) → List·Memᴰ i scope → P i) → P x × P y × P z
 of-three {scope = scope} {x} {y} {z} e f = (f _ (here (List·Memᴰ·head refl)), f _ (here (List·Memᴰ·tail (List·Memᴰ·head refl))), f _ (here (List·Memᴰ·tail (List·Memᴰ·tail (List·Memᴰ·head refl)))))
   where
@@ -50,6 +46,3 @@ module _ {p : Problem} {numbers supports : List ℕ} (g : ConstraintsHeld p numb
           let l = sym (g .numbered .arity k h) ∙ e in
           scoped _ (list-3 (constraintAt p k .scope) x y z l (sym (g .numbered .scope k 0 h (omega (arith, l))) ∙ sym ex) (sym (g .numbered .scope k 1 h (omega (arith, l))) ∙ sym ey)
           (sym (g .numbered .scope k 2 h (omega (arith, l))) ∙ sym ez))
-
-  pub scoped-3 : word % 256 ≡ 3 → Scoped (constraintAt p k) supports k (scope3 (at numbers (SCOPES + k)))
-  scoped-3 e = read-3 _ refl _ refl _ refl e

@@ -1,51 +1,33 @@
 -- Three sets by 256 sets of a table, sixteen at once. Assumes nothing.
-use Rattle.model.specs.Kit.{_≡_, refl, sym, ap, _∙_, subst, not, _⊎_, inl, inr, ⊎-elim, List, ℕ, _+_, _*_, _^_, _≤_, _<_, lt-of-le-of-lt, arith, ℕ-discrete, T, eqb, length, set, length-set, replicate}
-use Rattle.model.specs.Kit.{bitAnd, bitOr, or-lt}
+use Rattle.model.specs.Kit.{_≡_, refl, sym, ap, _∙_, subst, Bool, true, false, not, _⊎_, inl, inr, ⊎-elim, List, ℕ, _+_, _*_, _^_, _≤_, _<_, lt-of-le-of-lt, arith, ℕ-discrete, T, eqb, ltb}
+use Rattle.model.specs.Kit.{length, set, replicate, bitAnd, bitOr, or-lt, ltb-true, ltb-false}
 use lib.Bits.{and-le-r}
-use Rattle.model.specs.{Lists.at, ValueSets.has, ValueSets.withoutMask, ValueSets.unionMask, ValueSets.lowestOf, ValueSets.oneIf, inner.Filling.Filled}
-use Rattle.model.proofs.{Lists.set-each, Lists.at-replicate, Sets.has-lt, Sets.member, Filling.filled-begin, Filling.filled-turn, Masks.union-op}
+use Rattle.model.specs.{Lists.at, Lists.choose, ValueSets.has, ValueSets.withoutMask, ValueSets.unionMask, ValueSets.lowestOf, ValueSets.oneIf, inner.Filling.Filled}
+use Rattle.model.proofs.{Lists.T-of, Lists.of-T, Lists.not-of, Lists.at-replicate, Sets.has-lt, Sets.member, Filling.filled-begin, Filling.filled-turn, Masks.union-op}
 use Rattle.model.proofs.Members.{Rest, rest-begin, has-0, Union, union-begin, union-end, lowest-left, others-left, others-union, or-i, or-e, and-i, and-e}
 use Rattle.prune_constraints.specs.inner.Steps.{Together, Together3, Supported3, Masks, Met, FullSets}
-use Rattle.prune_constraints.proofs.Unions.{full-i, full-e, one-i, one-e, one-lt, others-or, small}
+use Rattle.prune_constraints.proofs.Unions.{full-i, full-e, one-i, one-e, one-lt, small}
 
--- ---- the masks: those of the values left are still to be put
-module _ (b e : ℕ) where
-  pub record Masking (m : ℕ) (ms : List ℕ) : Type 0 where
-    pub rest : Rest 16 b m
-    pub size : length ms ≡ 16
-    pub narrow : (v : ℕ) → at ms v < 2 ^ 16
-    pub put : (v w : ℕ) → T (has b v) → T (has e w) → T (has (at ms v) w) ⊎ T (has m v)
-    pub got : (v w : ℕ) → T (has (at ms v) w) → T (has b v) × T (has e w)
+-- ---- the masks
+pub masks-end : {b e : ℕ} {ms : List ℕ} → b < 2 ^ 16 → e < 2 ^ 16 → Filled (λ v. v) (λ v x. x ≡ choose (has b v) e 0) 16 (replicate 16 0) ms → Masks b e ms
+masks-end {b} {e} {ms} h l f = record {
+  narrow = λ v. subst (λ (x : ℕ). x < 2 ^ 16) (sym (is v (ltb v 16) refl)) (below (has b v));
+  mask-i = λ v w p q. subst (λ (x : ℕ). T (has x w)) (sym (is v (ltb v 16) refl ∙ ap (λ (c : Bool). choose c e 0) (of-T (has b v) p))) q;
+  mask-e = λ v w t. got v w (has b v) refl (subst (λ (x : ℕ). T (has x w)) (is v (ltb v 16) refl) t);
+}
+  where
+    is : (v : ℕ) (c : Bool) → ltb v 16 ≡ c → at ms v ≡ choose (has b v) e 0
+    is v true q = f .here v (ltb-true v 16 q)
+    is v false q = let m = ltb-false v 16 q in
+        f .other v (λ u o s. omega arith) ∙ at-replicate 16 v ∙ sym (ap (λ (c : Bool). choose c e 0) (not-of (has b v) (λ t. let o = has-lt 16 b v h t in omega arith)))
 
-  pub masking-begin : b < 2 ^ 16 → Masking b (replicate 16 0)
-  masking-begin h = record {
-    rest = rest-begin 16 b h;
-    size = refl;
-    narrow = λ v. subst (λ (n : ℕ). n < 2 ^ 16) (sym (at-replicate 16 v)) (omega arith);
-    put = λ v w p q. inr p;
-    got = λ v w t. absurd (has-0 w (subst (λ (n : ℕ). T (has n w)) (at-replicate 16 v) t));
-  }
+    below : (c : Bool) → choose c e 0 < 2 ^ 16
+    below true = l
+    below false = omega arith
 
-  -- the lowest value u of those left
-  pub masking-turn : (m u m′ : ℕ) {ms : List ℕ} → Masking m ms → (m ≡ 0 → ⊥) → u ≡ lowestOf m → m′ ≡ withoutMask m (lowestOf m) → e < 2 ^ 16 → Masking m′ (set ms u e)
-  masking-turn m u m′ {ms} j n low less h = record {
-    rest = others-left b m u (j .rest) n low m′ less;
-    size = length-set ms u e ∙ j .size;
-    narrow = λ v. set-each (λ i x. x < 2 ^ 16) ms u e v inside h (λ d. j .narrow v);
-    put = λ v w p q. set-each (λ i x. T (has x w) ⊎ T (has m′ i)) ms u e v inside (inl q)
-        (λ d. ⊎-elim inl (λ r. ⊎-elim inr (λ o. absurd (d o)) (others-or m u m′ (j .rest .0) n low less v r)) (j .put v w p q));
-    got = λ v w. set-each (λ i x. T (has x w) → T (has b i) × T (has e w)) ms u e v inside (λ t. (lowest-left b m u (j .rest) n low .0, t)) (λ d. j .got v w);
-  }
-    where
-      inside : u < length ms
-      inside = omega (arith, j .size, lowest-left b m u (j .rest) n low .1)
-
-  pub masking-end : (m : ℕ) {ms : List ℕ} → m ≡ 0 → Masking m ms → Masks b e ms
-  masking-end m z j = record {
-    narrow = j .narrow;
-    mask-i = λ v w p q. ⊎-elim (λ t. t) (λ t. absurd (has-0 v (subst (λ (n : ℕ). T (has n v)) z t))) (j .put v w p q);
-    mask-e = j .got;
-  }
+    got : (v w : ℕ) (c : Bool) → has b v ≡ c → T (has (choose c e 0) w) → T (has b v) × T (has e w)
+    got v w true q t = (T-of (has b v) q, t)
+    got v w false q t = absurd (has-0 w t)
 
 -- ---- sixteen sets of the table, i of them met
 module _ (t : List ℕ) (base : ℕ) (ms old : List ℕ) where

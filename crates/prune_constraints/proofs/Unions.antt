@@ -27,7 +27,7 @@ pub one-e : (k s u w : ℕ) → s < 2 ^ k → T (has (oneIf (not (eqb s 0)) u) w
 one-e k s u w h t = let q = full-e s u w t in let n : s ≡ 0 → ⊥ = q .1 in (q .0, (trailingZeros k s, low-has k s (omega arith) h .0))
 
 -- a value left is the lowest or one of the others
-pub others-or : (m v m′ : ℕ) → m < 2 ^ 16 → (m ≡ 0 → ⊥) → v ≡ lowestOf m → m′ ≡ withoutMask m (lowestOf m) → (u : ℕ) → T (has m u) → T (has m′ u) ⊎ (u ≡ v)
+others-or : (m v m′ : ℕ) → m < 2 ^ 16 → (m ≡ 0 → ⊥) → v ≡ lowestOf m → m′ ≡ withoutMask m (lowestOf m) → (u : ℕ) → T (has m u) → T (has m′ u) ⊎ (u ≡ v)
 others-or m v m′ h n low less u r = ⊎-elim (λ o. inl (subst (λ (i : ℕ). T (has i u)) (without-lowest-op m h ∙ sym less) o)) (λ o. inr (o ∙ lowest-op 16 m ∙ sym low)) (rest-i 16 m (omega arith) h u r)
 
 pub one-lt : (s : ℕ) (b : Bool) (v : ℕ) → s ≡ oneIf b v → v < 16 → s < 2 ^ 16

@@ -18,8 +18,8 @@ ghost use Prim.Native.Nat.{ℕ, _+_, _*_, _%_, _≤_, _<_};
 ghost use lib.Dec.{eqb};
 ghost use lib.Bits.{bitAnd};
 ghost use lib.ListN.{length};
-ghost use Rattle.model.specs.Lists.{at};
-ghost use Rattle.model.specs.ValueSets.{oneIf};
+ghost use Rattle.model.specs.Lists.{at, choose};
+ghost use Rattle.model.specs.ValueSets.{has, oneIf};
 ghost use Rattle.model.specs.Problem.{Problem, Constraint};
 ghost use Rattle.model.specs.inner.Pruning.{Sets};
 ghost use Rattle.arrays.specs.inner.Places.{SCOPES, VALUES, NUMBERS, SUPPORTS};
@@ -90,21 +90,27 @@ fn supported2(supports: &Supports, base: usize, a: ValueSet, b: ValueSet) -> Two
     Two { first, last }
 }
 
-// Sixteen sets: e where the set b has the value, else the empty set.
+// The set e where b has the value v, else the empty set.
+fn mask(b: ValueSet, e: ValueSet, v: u16) -> u16
+    ensures { λ r. ⌜ r ≡ choose (has (b .bits) v) (e .bits) 0 ⌝ }
+{
+    if b.contains(v) { e.bits } else { 0 }
+}
+
+// Sixteen sets: e where the set b has the value, else the empty set. Every value has its turn, so that the compiler takes all sixteen at once; likewise below.
 fn masks(b: ValueSet, e: ValueSet) -> [u16; 16]
     ensures { λ r. ⌜ Masks (b .bits) (e .bits) r ⌝ }
 {
     let mut all = [0u16; 16];
-    let mut left = b;
-    while !left.is_empty() {
-        all[left.lowest() as usize] = e.bits;
-        left = left.without_lowest();
+    let mut v = 0;
+    while v < 16 {
+        all[v] = mask(b, e, v as u16);
+        v += 1;
     }
     all
 }
 
 // Adds to sixteen sets what those of the table from a base on have of the masks; the union of what they have.
-// There is no branch, so that the compiler takes all sixteen at once.
 fn meet(supports: &Supports, base: usize, masks: &[u16; 16], all: &mut [u16; 16]) -> u16
     requires { ⌜ base + 16 ≤ SUPPORTS ⌝ }
     requires { ⌜ length (now all) ≡ 16 ⌝ }
@@ -337,6 +343,38 @@ fn revise_last(
     revise_one(sets, supports, 256 * k + 16 * u + v, z)
 }
 
+// Prunes by constraint number k, whose first set has one value: the other two by the sixteen sets of the table for that value.
+fn revise_rest(
+    sets: &mut [u16; 16],
+    supports: &Supports,
+    k: usize,
+    x: usize,
+    y: usize,
+    z: usize,
+) -> u64
+    requires { ⌜ Sets 16 (now sets) ⌝ }
+    requires { ⌜ OneValue (at (now sets) x) × (at (now sets) z ≡ 0 → ⊥) ⌝ }
+    requires { ⌜ ((c : Constraint) × Scoped c (now supports) k (x ∷ y ∷ z ∷ [])) ⌝ }
+    ensures { λ r. ⌜ ((c : Constraint) → Scoped c (now (supports .entry)) k (x ∷ y ∷ z ∷ []) → Revision c (now (sets .entry)) (now (sets .exit)) r) ⌝ }
+{
+    let a = ValueSet { bits: sets[x] };
+    let b = ValueSet { bits: sets[y] };
+    let e = ValueSet { bits: sets[z] };
+    let base = 256 * k + 16 * (a.lowest() as usize);
+    if quiet16(supports, base, b, e) {
+        return 0;
+    }
+    let r = supported2(supports, base, b, e);
+    let second = r.first;
+    let last = r.last;
+    if last.is_empty() {
+        return DEAD;
+    }
+    sets[y] = second.bits;
+    sets[z] = last.bits;
+    moved(b, second, y) | moved(e, last, z)
+}
+
 // Leaves of each of three sets the values t that go together with some of the other two.
 fn leave(sets: &mut [u16; 16], x: usize, y: usize, z: usize, t: Three) -> u64
     requires { ⌜ Sets 16 (now sets) ⌝ }
@@ -412,7 +450,29 @@ fn revise_few(sets: &mut [u16; 16], numbers: &Numbers, supports: &Supports, k: u
     revise_one(sets, supports, 256 * k, x)
 }
 
-// Prunes by constraint number k: DEAD where a set would be empty, else the set of the variables whose sets changed.
+// Prunes by constraint number k: DEAD where a set would be empty, else the set of the variables whose sets changed. It has two callers, so that the compiler
+// leaves it out of the loops; for that revise8 asks it for constraints on one variable.
+fn revise_any(sets: &mut [u16; 16], numbers: &Numbers, supports: &Supports, k: usize) -> u64
+    requires { ⌜ Sets 16 (now sets) ⌝ }
+    requires { ⌜ ((p : Problem) × ConstraintsHeld p (now numbers) (now supports) × (k < length (p .constraints))) ⌝ }
+    ensures { λ r. ⌜ ((p : Problem) → ConstraintsHeld p (now (numbers .entry)) (now (supports .entry)) → k < length (p .constraints) → Revision
+        (constraintAt p k) (now (sets .entry)) (now (sets .exit)) r) ⌝ }
+{
+    let w = numbers[SCOPES + k];
+    if arity(w) != 3 {
+        return revise_few(sets, numbers, supports, k);
+    }
+    let x = scope_at(w, 0);
+    let y = scope_at(w, 1);
+    let z = scope_at(w, 2);
+    let a = ValueSet { bits: sets[x] };
+    let b = ValueSet { bits: sets[y] };
+    let e = ValueSet { bits: sets[z] };
+    let t = supported3(supports, 256 * k, a, b, e);
+    leave(sets, x, y, z, t)
+}
+
+// The same, where a first set of one value leaves less to do.
 fn revise16(sets: &mut [u16; 16], numbers: &Numbers, supports: &Supports, k: usize) -> u64
     requires { ⌜ Sets 16 (now sets) ⌝ }
     requires { ⌜ ((p : Problem) × ConstraintsHeld p (now numbers) (now supports) × (k < length (p .constraints)) × Nonempty (constraintAt p k .scope)
@@ -429,17 +489,13 @@ fn revise16(sets: &mut [u16; 16], numbers: &Numbers, supports: &Supports, k: usi
     let z = scope_at(w, 2);
     let a = ValueSet { bits: sets[x] };
     let b = ValueSet { bits: sets[y] };
-    let e = ValueSet { bits: sets[z] };
     if a.without_lowest().is_empty() {
         if b.without_lowest().is_empty() {
             return revise_last(sets, supports, k, x, y, z);
         }
-        if quiet16(supports, 256 * k + 16 * (a.lowest() as usize), b, e) {
-            return 0;
-        }
+        return revise_rest(sets, supports, k, x, y, z);
     }
-    let t = supported3(supports, 256 * k, a, b, e);
-    leave(sets, x, y, z, t)
+    revise_any(sets, numbers, supports, k)
 }
 
 // The same for sets of values below 8, by numbers of lanes: one where the first set has one value, else two; and no store where nothing is lost.
@@ -452,7 +508,10 @@ fn revise8(sets: &mut [u16; 16], numbers: &Numbers, supports: &Supports, k: usiz
 {
     let w = numbers[SCOPES + k];
     if arity(w) != 3 {
-        return revise_few(sets, numbers, supports, k);
+        if arity(w) == 2 {
+            return revise_two(sets, supports, k, scope_at(w, 0), scope_at(w, 1));
+        }
+        return revise_any(sets, numbers, supports, k);
     }
     let x = scope_at(w, 0);
     let y = scope_at(w, 1);
@@ -603,8 +662,8 @@ fn look_up(
         (now (work .entry)) k v → Revision (constraintAt p k) (now (sets .entry)) (now (sets .exit)) r) ⌝ }
 {
     let w = numbers[SCOPES + k];
-    let x = (w / 256 % 256) as usize;
-    let z = (w / 16777216 % 256) as usize;
+    let x = scope_at(w, 0);
+    let z = scope_at(w, 2);
     let first = work[x] as usize;
     revise_one(sets, supports, 256 * k + 16 * first + v, z)
 }

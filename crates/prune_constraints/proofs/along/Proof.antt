@@ -3,7 +3,7 @@ use Rattle.model.specs.Kit.{refl, sym, _∙_, List, ℕ, _+_, _*_, _<_, arith, 
 use Rattle.model.specs.Lists.{at}
 use Rattle.arrays.specs.{inner.Places.UNIONS, inner.Tables.Words}
 use Rattle.prune_constraints.specs.inner.Lanes.{Halves}
-use Rattle.prune_constraints.proofs.{Scopes.of-three, Unions.of-second, Unions.of-third, along.Statement.statement}
+use Rattle.prune_constraints.proofs.{Scopes.of-three, Unions.of-second, Unions.of-third, Unions.lane-supported2, along.Statement.statement}
 use Rattle.prune_constraints.proofs.OneWord.{one-below, along-dead, along-same, along-cut}
 use Rattle.prune_constraints.proofs.along.Tie as tie
 
@@ -45,7 +45,8 @@ unfolding at
 returns c =
     let i = c .before .before in
     let d = i .before .before .before .before .before in λ e su w q.
-    along-dead q (d .args .sets .now) (d .pre .0) (d .pre .1 .1 .0) (i .before .lowest .ensures) (i .in-lane .ensures _ (seconds d su w))
+    along-dead q (d .args .sets .now) (d .pre .0) (d .pre .1 .1 .0) (i .before .lowest .ensures)
+    (λ v u o. i .in-lane .ensures (of-second su (d .args .k)) (seconds d su w) .lane-i v u (o .0) (o .1) (o .2))
     (eqb-true _ _ (sym (c .before .is-empty .ensures) ∙ c .if1 .taken))
 
 in-lane-requires-2 : tie.Need-in-lane-requires-2
@@ -59,8 +60,9 @@ returns-2 c =
     let j = c .before .before .before .before .before .before in
     let i = j .before .before .before in
     let d = i .before .before .before .before .before in λ e su w q.
-    along-same q (d .args .sets .now) (d .pre .0) (d .pre .1 .1 .0) (i .before .lowest .ensures) (i .in-lane .ensures _ (seconds d su w))
-    (eqb-false _ _ (sym (j .before .before .is-empty .ensures) ∙ j .before .if1 .left)) (search needs) (d .pre .1 .1 .1 .1) (search needs) (j .in-lane2 .ensures _ (thirds d su w))
+    along-same q (d .args .sets .now) (d .pre .0) (d .pre .1 .1 .0) (i .before .lowest .ensures)
+    (lane-supported2 su _ (at (d .args .sets .now) (d .args .x)) _ _ (d .pre .1 .1 .1 .1) _ (i .in-lane .ensures _ (seconds d su w)) (j .in-lane2 .ensures _ (thirds d su w)))
+    (eqb-false _ _ (sym (j .before .before .is-empty .ensures) ∙ j .before .if1 .left)) (search needs) (search needs)
     (c .before .before .before .if2 .taken) (c .if3 .taken)
 
 mul-sets : tie.Need-mul-sets
@@ -87,8 +89,9 @@ returns-3 c =
     let j = c .before .before .before .before .before in
     let i = j .before .before .before in
     let d = i .before .before .before .before .before in λ e su w q.
-    along-cut q (d .args .sets .now) (d .pre .0) (d .pre .1 .1 .0) (i .before .lowest .ensures) (i .in-lane .ensures _ (seconds d su w))
-    (eqb-false _ _ (sym (j .before .before .is-empty .ensures) ∙ j .before .if1 .left)) (search needs) (d .pre .1 .1 .1 .1) (search needs) (j .in-lane2 .ensures _ (thirds d su w)) _ _
+    along-cut q (d .args .sets .now) (d .pre .0) (d .pre .1 .1 .0) (i .before .lowest .ensures)
+    (lane-supported2 su _ (at (d .args .sets .now) (d .args .x)) _ _ (d .pre .1 .1 .1 .1) _ (i .in-lane .ensures _ (seconds d su w)) (j .in-lane2 .ensures _ (thirds d su w)))
+    (eqb-false _ _ (sym (j .before .before .is-empty .ensures) ∙ j .before .if1 .left)) (search needs) (search needs) _ _
     (c .before .moved .ensures) (c .moved2 .ensures)
 
 pub along-spec : {M : Type 1} → statement M
