@@ -1,6 +1,5 @@
 -- The questions to the trades of neighbours, one by one. Assumes nothing.
-use Rattle.model.specs.Kit.{_≡_, refl, sym, ap, ap₂, _∙_, subst, Bool, true, false, List, ℕ, _+_, _*_, _≤_, _<_, mul-le-mul, ℕ-discrete, arith, T, leb, le-leb, lt-leb, length}
-use Rattle.model.specs.Kit.{getD, add-one}
+use Rattle.model.specs.Kit.{_≡_, refl, sym, ap, ap₂, _∙_, subst, Bool, true, false, List, ℕ, _+_, _*_, _≤_, _<_, mul-le-mul, ℕ-discrete, arith, T, leb, le-leb, lt-leb, length, getD, add-one}
 use Rattle.model.specs.{Lists.at, Lists.both, Lists.flat, Problem.Problem, Problem.respects, Verdict.accepted, Verdict.refused, Sheet.permutesPairs}
 use Rattle.sheet_table.specs.inner.Table.{Asked, answerOf, tableAnswer}
 use Rattle.block.specs.{Block.orderings, Block.factorial, Block.orderingTable, Block.isBlock, Block.blockVerdict, inner.Claims.TradePasses}

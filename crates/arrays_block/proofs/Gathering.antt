@@ -1,7 +1,7 @@
 -- The positions of a block in an order, gathered one by one. Assumes nothing.
 use Rattle.model.specs.Kit.{_≡_, refl, sym, ap, _∙_, subst, Bool, true, false, List, ℕ, _+_, _*_, _%_, _^_, _<_, arith, bitOr, ltb, eqb, length, getD, le-leb, lt-leb}
-use lib.Bits.{or-zero-r}
 use Rattle.model.specs.{Lists.at, Lists.both, inner.Filling.Gathered}
+use lib.Bits.{or-zero-r}
 use Rattle.block.specs.Block.{inBlock, inLent}
 use Rattle.model.proofs.{Sets.has-none, Members.one-has, Filling.gathered-more}
 use Rattle.block.proofs.BlockLent.{inside-other, inside-two}

@@ -4,8 +4,8 @@ use Rattle.model.specs.{Lists.at, Problem.Problem, Problem.pair, Problem.isPair
 use Rattle.block.specs.Block.{ordering, imageOf, orderingTable}
 use Rattle.arrays_block.specs.inner.Asked.{Row, BlockRow}
 use Rattle.model.proofs.Lists.{T-of, of-not}
-use Rattle.block.proofs.{Orderings.Few, Orderings.factorial-le, Orderings.moves, Orderings.moves-small, Orderings.moves-high, Table.table-at, Tables.moved-pair, Tables.unmoved}
-use Rattle.block.proofs.Block.{image-at, image-outside, image-variable}
+use Rattle.block.proofs.Orderings.{Few, factorial-le, moves, moves-small, moves-high}
+use Rattle.block.proofs.{Table.table-at, Tables.moved-pair, Tables.unmoved, Block.image-at, Block.image-outside, Block.image-variable}
 use Rattle.model.proofs.Pairs as P
 
 module _ (rows : List ℕ) (row m : ℕ) (r : Row rows row m) where

@@ -1,10 +1,10 @@
 -- The images of a block's tables, row by row, after the problem's own. Assumes nothing.
-use Rattle.model.specs.Kit.{_≡_, refl, sym, ap, ap₂, _∙_, subst, Bool, true, false, List, [], _∷_, _++_, append-nil, ℕ, _+_, _*_, _/_, _%_, _≤_, _<_, mul-le-mul-right, decLt}
-use Rattle.model.specs.Kit.{arith, T, length, getD, set, length-append}
+use Rattle.model.specs.Kit.{_≡_, refl, sym, ap, ap₂, _∙_, subst, Bool, true, false, List, [], _∷_, _++_, append-nil, ℕ, _+_, _*_, _/_, _%_, _≤_, _<_, mul-le-mul-right, decLt, arith, T, length, getD}
+use Rattle.model.specs.Kit.{set, length-append}
+use Rattle.model.specs.{Lists.at, Lists.flat, Problem.Problem, Problem.pair, Problem.isPair, Problem.withSymmetries, Problem.symmetryAt, inner.Filling.Filled, Verdict.accepted}
 use native.Mathlib.Nat.{div-lt-iff-lt-mul}
 use lib.ListN.{List·getD-append}
 use lib.Seq.{getD-append-add}
-use Rattle.model.specs.{Lists.at, Lists.flat, Problem.Problem, Problem.pair, Problem.isPair, Problem.withSymmetries, Problem.symmetryAt, inner.Filling.Filled, Verdict.accepted}
 use Rattle.arrays.specs.{inner.Layout.pairCode, inner.Layout.imageCode, inner.Places.WIDE}
 use Rattle.block.specs.Block.{orderings, ordering, factorial, variableTable, imageOf, orderingTable, blockTables, withBlock, isBlock, tablesLent, blockLent, withLent}
 use Rattle.arrays_block.specs.inner.Asked.{BlockRow, RowPut, Imaged, PutOn}

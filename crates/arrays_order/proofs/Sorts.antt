@@ -1,6 +1,6 @@
 -- Two or three names are sorted, and the table along with them. Assumes nothing.
-use Rattle.model.specs.Kit.{_≡_, refl, sym, _∙_, subst, Bool, _↔_, List, [], _∷_, List·Memᴰ, List·Memᴰ·head, List·Memᴰ·tail, List·Memᴰ·not-nil, ℕ, zero, suc, _+_, _*_, _/_, _%_}
-use Rattle.model.specs.Kit.{_^_, _<_, arith, length}
+use Rattle.model.specs.Kit.{_≡_, refl, sym, _∙_, subst, Bool, _↔_, List, [], _∷_, List·Memᴰ, List·Memᴰ·head, List·Memᴰ·tail, List·Memᴰ·not-nil, ℕ, zero, suc, _+_, _*_, _/_, _%_, _^_, _<_, arith}
+use Rattle.model.specs.Kit.{length}
 use Rattle.model.specs.Lists.{at}
 use Rattle.model.proofs.Lists.{Sorted}
 use Rattle.arrays_order.specs.inner.Steps.{Swapped, Transposed, Meant, Sorting, Framed}

@@ -1,7 +1,7 @@
 -- Support tables with two coordinates exchanged. Assumes nothing.
 use Rattle.model.specs.Kit.{_≡_, refl, sym, ap, _∙_, Bool, true, false, List, [], _∷_, ℕ, _+_, _*_, _/_, _%_, _^_, _≤_, _<_, decLt, arith, eqb, eqb-true}
-use mathlib.Core.Path.{fun-ext}
 use Rattle.model.specs.{Lists.at, Lists.both, ValueSets.has, ValueSets.maskOf, ValueSets.leastStep, ValueSets.least, inner.Filling.Filled}
+use mathlib.Core.Path.{fun-ext}
 use Rattle.order.specs.Reordered.{position, valueOf}
 use Rattle.model.proofs.{Sets.has-mask, Sets.mask-lt, Sets.has-none, Masks.is-mask, Members.one-has, Lists.at-small-1, Lists.at-small-2}
 use Rattle.arrays_order.specs.inner.Steps.{Cell, Swapped, Transposed, Meant, Framed}

@@ -1,13 +1,12 @@
 -- The arrays of the reordered problem, from what the parts leave. Assumes nothing.
-use Rattle.model.specs.Kit.{_≡_, refl, sym, ap, ap₂, _∙_, subst, Bool, false, List, [], _∷_, _++_, map, List·Memᴰ, List·Memᴰ·head, List·Memᴰ·tail, ℕ, zero, suc, _+_, _*_, _/_, _%_}
-use Rattle.model.specs.Kit.{_^_, _≤_, _<_, not-suc-le-zero, le-of-suc-le-suc, decLt, arith, eqb, length, getD, length-map}
+use Rattle.model.specs.Kit.{_≡_, refl, sym, ap, ap₂, _∙_, subst, Bool, false, List, [], _∷_, _++_, map, List·Memᴰ, List·Memᴰ·head, List·Memᴰ·tail, ℕ, zero, suc, _+_, _*_, _/_, _%_, _^_, _≤_, _<_}
+use Rattle.model.specs.Kit.{not-suc-le-zero, le-of-suc-le-suc, decLt, arith, eqb, length, getD, length-map}
+use Rattle.model.specs.{Lists.any, Lists.at, Lists.same, ValueSets.has, ValueSets.maskOf, ValueSets.least, ValueSets.leastStep, Problem.Problem, Problem.Constraint, Problem.pair, Problem.constraintAt}
+use Rattle.model.specs.{Problem.symmetryAt, inner.WellFormed.WellFormed, inner.WellFormed.GoodConstraint, inner.WellFormed.GoodSymmetry, inner.Filling.Filled}
 use mathlib.Core.Path.{fun-ext}
-use Rattle.model.specs.{Lists.any, Lists.at, Lists.same, ValueSets.has, ValueSets.maskOf, ValueSets.least, ValueSets.leastStep, Problem.Problem, Problem.Constraint, Problem.pair}
-use Rattle.model.specs.{Problem.constraintAt, Problem.symmetryAt, inner.WellFormed.WellFormed, inner.WellFormed.GoodConstraint, inner.WellFormed.GoodSymmetry, inner.Filling.Filled}
-use Rattle.order.specs.{Order.Ordering, Reordered.position, Reordered.valueOf, Reordered.scopeIn, Reordered.constraintIn, Reordered.renamed, Reordered.symmetryIn}
-use Rattle.order.specs.Reordered.{reordered}
-use Rattle.model.proofs.{Sets.has-mask, Lists.not-of, Lists.any-e, Lists.same-eq, Lists.among-e, Lists.mem-at, Lists.mem-getD, Lists.at-take, Lists.at-map, Lists.ascending-sorted}
-use Rattle.model.proofs.Lists.{length-snoc, at-small-2}
+use Rattle.order.specs.{Order.Ordering, Reordered.position, Reordered.valueOf, Reordered.scopeIn, Reordered.constraintIn, Reordered.renamed, Reordered.symmetryIn, Reordered.reordered}
+use Rattle.model.proofs.Sets.{has-mask}
+use Rattle.model.proofs.Lists.{not-of, any-e, same-eq, among-e, mem-at, mem-getD, at-take, at-map, ascending-sorted, length-snoc, at-small-2}
 use Rattle.arrays.specs.inner.Layout.{place, Numbers, Supports, Images}
 use Rattle.arrays.proofs.Links.{good}
 use Rattle.arrays_order.specs.{inner.Reorder.orderOf, inner.Reorder.Movable, inner.Reorder.Moved, inner.Steps.stand, inner.Steps.Small, inner.Steps.MovedSets}

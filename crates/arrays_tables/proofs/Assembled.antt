@@ -1,8 +1,8 @@
 -- All tables together. Assumes nothing.
-use Rattle.model.specs.Kit.{_≡_, refl, sym, ap, ap₂, _∙_, subst, Bool, true, false, List, ℕ, suc, _+_, _*_, _/_, _%_, _^_, _≤_, _<_, lt-of-lt-of-le, arith, T, ltb, length, set}
-use Rattle.model.specs.Kit.{length-set, ltb-true, ltb-false}
-use lib.Pow.{pow-mono}
+use Rattle.model.specs.Kit.{_≡_, refl, sym, ap, ap₂, _∙_, subst, Bool, true, false, List, ℕ, suc, _+_, _*_, _/_, _%_, _^_, _≤_, _<_, lt-of-lt-of-le, arith, T, ltb, length, set, length-set, ltb-true}
+use Rattle.model.specs.Kit.{ltb-false}
 use Rattle.model.specs.{Lists.at, Lists.either, ValueSets.has, Problem.Problem, inner.WellFormed.WellFormed, inner.Filling.Filled}
+use lib.Pow.{pow-mono}
 use Rattle.model.proofs.{Lists.at-set, Lists.at-set-other, Sets.has-lt, Sets.has-mask, Sets.has-at-lt}
 use Rattle.arrays.specs.inner.Places.{INITIAL, SCOPES, VARIABLES, VALUES, CONSTRAINTS, SYMMETRIES, LINKED, BY-ROWS, OTHERS, LOOSE, LOOKS, NUMBERS}
 use Rattle.arrays.specs.{inner.Layout.Numbers, inner.Tables.goes, inner.Tables.Rows, inner.Tables.Linked}

@@ -1,7 +1,7 @@
 -- The low bits of a sum of two parts, and the high ones. Assumes nothing.
 use Rattle.model.specs.Kit.{_≡_, sym, ap, _∙_, ℕ, zero, suc, _+_, _*_, _/_, _%_, _^_, _<_, not-suc-le-zero, le-of-suc-le-suc, arith, eqb}
-use native.Mathlib.Nat.{mul-assoc}
 use Rattle.model.specs.ValueSets.{has}
+use native.Mathlib.Nat.{mul-assoc}
 use Rattle.model.proofs.{Sets.has-zero, Sets.has-suc, Sets.pow2, Masks.has-shr}
 
 -- ---- the bits below a number, and those from it on

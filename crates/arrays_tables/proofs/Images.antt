@@ -1,11 +1,10 @@
 -- Images of pairs, and of the smaller values of a variable. Assumes nothing.
-use Rattle.model.specs.Kit.{_≡_, refl, sym, ap, ap₂, _∙_, subst, Bool, false, ⊎-elim, List, List·Memᴰ, ℕ, _+_, _*_, _/_, _%_, _^_, _≤_, _<_, not-suc-le-zero, arith, ℕ-discrete, T}
-use Rattle.model.specs.Kit.{eqb, ltb, ltb→lt, lt→ltb, eqb→eq, bitOr, or-lt, pow-lt, length, set, length-set, replicate, eq-eqb, ne-eqb}
+use Rattle.model.specs.Kit.{_≡_, refl, sym, ap, ap₂, _∙_, subst, Bool, false, ⊎-elim, List, List·Memᴰ, ℕ, _+_, _*_, _/_, _%_, _^_, _≤_, _<_, not-suc-le-zero, arith, ℕ-discrete, T, eqb, ltb, ltb→lt}
+use Rattle.model.specs.Kit.{lt→ltb, eqb→eq, bitOr, or-lt, pow-lt, length, set, length-set, replicate, eq-eqb, ne-eqb}
 use Rattle.model.specs.{Lists.any, Lists.at, Lists.keep, Lists.both, Lists.either, ValueSets.has, ValueSets.fullMask, ValueSets.onlyMask, ValueSets.unionMask, ValueSets.members}
 use Rattle.model.specs.inner.Filling.{Filled}
-use Rattle.model.proofs.Lists.{T-ext, T-of, of-T, of-not, not-of, both-i, both-l, both-r, either-l, either-r, either-e, any-i, any-e, keep-i, keep-e, at-set, at-set-other}
-use Rattle.model.proofs.{Lists.at-replicate, Lists.both-false, Sets.has-none, Sets.has-mask, Sets.mask-lt, Sets.mask-ext, Sets.members-i, Sets.members-e, Masks.has-or}
-use Rattle.model.proofs.{Masks.has-one, Masks.union-op, Members.either-no, Members.one-op}
+use Rattle.model.proofs.Lists.{T-ext, T-of, of-T, of-not, not-of, both-i, both-l, both-r, either-l, either-r, either-e, any-i, any-e, keep-i, keep-e, at-set, at-set-other, at-replicate, both-false}
+use Rattle.model.proofs.{Sets.has-none, Sets.has-mask, Sets.mask-lt, Sets.mask-ext, Sets.members-i, Sets.members-e, Masks.has-or, Masks.has-one, Masks.union-op, Members.either-no, Members.one-op}
 use Rattle.arrays.specs.inner.Places.{OWN, SMALLER, TABLES}
 use Rattle.arrays_tables.specs.inner.Steps.{initialOf, smallerOf, PairStored, VariableStored, EarlierKept, PairsStored, SymmetryStored, SymmetriesStored}
 

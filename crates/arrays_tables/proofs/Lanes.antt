@@ -1,11 +1,11 @@
 -- Numbers of eight lanes: eight sets in one number, and all of the lanes of a set. Assumes nothing.
-use Rattle.model.specs.Kit.{_≡_, refl, sym, ap, ap₂, _∙_, subst, Bool, true, false, List, ℕ, zero, suc, _+_, _-_, _*_, _/_, _%_, _^_, _≤_, _<_, arith, bitAnd, bitOr, eqb, ltb}
-use Rattle.model.specs.Kit.{lit<, length, set, or-lt, ltb-true, ltb-false, lt-ltb, le-ltb}
+use Rattle.model.specs.Kit.{_≡_, refl, sym, ap, ap₂, _∙_, subst, Bool, true, false, List, ℕ, zero, suc, _+_, _-_, _*_, _/_, _%_, _^_, _≤_, _<_, arith, bitAnd, bitOr, eqb, ltb, lit<, length, set}
+use Rattle.model.specs.Kit.{or-lt, ltb-true, ltb-false, lt-ltb, le-ltb}
+use Rattle.model.specs.{Lists.at, Lists.both, Lists.either, ValueSets.has, inner.Filling.Filled}
 use lib.Bits.{and-le-r}
 use lib.Pow.{pow-add, pow-mono, pow-pos}
-use Rattle.model.specs.{Lists.at, Lists.both, Lists.either, ValueSets.has, inner.Filling.Filled}
-use Rattle.model.proofs.{Filling.filled-begin, Filling.filled-turn, Filling.filled-end, Lists.both-true, Lists.both-false, Sets.has-zero, Sets.has-suc, Sets.has-none}
-use Rattle.model.proofs.{Sets.has-mask, Sets.pow2, Masks.has-and, Masks.has-or, Masks.has-ones, Masks.has-shr, Masks.byte-has, Masks.byte-lt, Members.either-no}
+use Rattle.model.proofs.{Filling.filled-begin, Filling.filled-turn, Filling.filled-end, Lists.both-true, Lists.both-false, Sets.has-zero, Sets.has-suc, Sets.has-none, Sets.has-mask, Sets.pow2}
+use Rattle.model.proofs.{Masks.has-and, Masks.has-or, Masks.has-ones, Masks.has-shr, Masks.byte-has, Masks.byte-lt, Members.either-no}
 use Rattle.arrays.specs.{inner.Places.SPREAD, inner.Tables.between}
 use Rattle.arrays_tables.specs.inner.Steps.{Lanes, Word, Turned, Spread}
 use Rattle.arrays_tables.proofs.Bits.{low-bits, high-bits}

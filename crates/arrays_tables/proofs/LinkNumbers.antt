@@ -1,9 +1,7 @@
 -- The numbers of the constraints that are pruned by variable. Assumes nothing.
-use Rattle.model.specs.Kit.{_≡_, sym, ap, ap₂, _∙_, subst, true, not, List, ℕ, _+_, _-_, _^_, _<_, lt-of-le-of-lt, arith, bitAnd, and-le-l, T, eqb, length, set, length-set}
-use Rattle.model.specs.Kit.{ne-eqb}
+use Rattle.model.specs.Kit.{_≡_, sym, ap, ap₂, _∙_, subst, true, not, List, ℕ, _+_, _-_, _^_, _<_, lt-of-le-of-lt, arith, bitAnd, and-le-l, T, eqb, length, set, length-set, ne-eqb}
 use Rattle.model.specs.{Lists.any, Lists.at, Lists.both, ValueSets.has, Problem.Problem, Problem.constraintAt, inner.WellFormed.WellFormed, inner.Filling.Filled, inner.Filling.Gathered}
-use Rattle.model.proofs.{Lists.T-of, Lists.among-e, Lists.at-set, Lists.at-set-other, Masks.has-and, Masks.has-not, Members.has-0, Members.and-i, Filling.gathered-is}
-use Rattle.model.proofs.Filling.{gathered-lt}
+use Rattle.model.proofs.{Lists.T-of, Lists.among-e, Lists.at-set, Lists.at-set-other, Masks.has-and, Masks.has-not, Members.has-0, Members.and-i, Filling.gathered-is, Filling.gathered-lt}
 use Rattle.arrays.specs.inner.Places.{BY-ROWS, LINKED, LOOSE, OTHERS, VARIABLES, NUMBERS}
 use Rattle.arrays.specs.{inner.Layout.Numbers, inner.Tables.byRows}
 use Rattle.arrays.proofs.Links.{good}

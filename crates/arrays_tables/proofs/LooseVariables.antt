@@ -1,8 +1,7 @@
 -- Loose variables. Assumes nothing.
 use Rattle.model.specs.Kit.{_≡_, sym, subst, Bool, true, false, not, _⊎_, inl, inr, ⊎-elim, List, ℕ, _+_, _*_, _≤_, _<_, not-suc-le-zero, arith, ℕ-discrete, bitOr, T, eqb, eqb→eq}
 use Rattle.model.specs.{Lists.at, Lists.both, Lists.either, ValueSets.has, ValueSets.unionMask, ValueSets.commonMask, ValueSets.oneIf}
-use Rattle.model.proofs.{Lists.of-T, Lists.of-not, Lists.both-i, Lists.both-l, Lists.both-r, Lists.either-l, Lists.either-r, Lists.either-e, Sets.mask-i, Masks.has-oneIf}
-use Rattle.model.proofs.Members.{has-0, or-e}
+use Rattle.model.proofs.{Lists.of-T, Lists.of-not, Lists.both-i, Lists.both-l, Lists.both-r, Lists.either-l, Lists.either-r, Lists.either-e, Sets.mask-i, Masks.has-oneIf, Members.has-0, Members.or-e}
 use Rattle.arrays.specs.inner.Places.{VARIABLES}
 use Rattle.arrays_tables.specs.inner.Steps.{initialOf, Refused, Twice, LooseTo, LooseSet}
 

@@ -1,17 +1,17 @@
 -- The rows of constraints on two variables, one constraint after another. Assumes nothing.
-use Rattle.model.specs.Kit.{_≡_, refl, sym, ap, _∙_, subst, Bool, true, false, not, List, [], _∷_, List·Memᴰ, List·Memᴰ·head, List·Memᴰ·tail, ℕ, zero, suc, _+_, _*_, _%_, _^_}
-use Rattle.model.specs.Kit.{_≤_, _<_, mod-eq-of-lt, lt-of-le-of-lt, arith, ℕ-discrete, T, eqb, ltb, leb, length, bitAnd, pow-lt, eqb-true, eq-eqb, ne-eqb, lt-ltb, le-ltb, le-leb}
-use Rattle.model.specs.Kit.{lt-leb, leb-true, leb-false, ltb-true, ltb-false}
+use Rattle.model.specs.Kit.{_≡_, refl, sym, ap, _∙_, subst, Bool, true, false, not, List, [], _∷_, List·Memᴰ, List·Memᴰ·head, List·Memᴰ·tail, ℕ, zero, suc, _+_, _*_, _%_, _^_, _≤_, _<_, mod-eq-of-lt}
+use Rattle.model.specs.Kit.{lt-of-le-of-lt, arith, ℕ-discrete, T, eqb, ltb, leb, length, bitAnd, pow-lt, eqb-true, eq-eqb, ne-eqb, lt-ltb, le-ltb, le-leb, lt-leb, leb-true, leb-false, ltb-true}
+use Rattle.model.specs.Kit.{ltb-false}
+use Rattle.model.specs.{Lists.any, Lists.at, Lists.same, Lists.both, Lists.either, ValueSets.has, ValueSets.maskOf, ValueSets.commonMask, Problem.Problem, Problem.constraintAt}
 use mathlib.Core.Path.{fun-ext}
 use lib.Dec.{leb·zero}
 use lib.Bits.{and-le-r}
 use lib.Pow.{pow-mono}
-use Rattle.model.specs.{Lists.any, Lists.at, Lists.same, Lists.both, Lists.either, ValueSets.has, ValueSets.maskOf, ValueSets.commonMask, Problem.Problem, Problem.constraintAt}
 use Rattle.model.specs.inner.Filling.{Filled, Gathered}
-use Rattle.model.proofs.{Lists.T-of, Lists.of-T, Lists.of-not, Lists.list-2, Lists.at-set-other, Lists.both-false, Sets.has-none, Sets.has-out, Sets.pow2, Sets.has-mask}
-use Rattle.model.proofs.{Sets.mask-lt, Sets.mask-ext, Masks.has-and, Masks.has-not, Masks.has-one, Masks.is-mask, Members.common-op-r, Filling.gathered-is}
-use Rattle.arrays.specs.{inner.Places.SCOPES, inner.Places.BY-ROWS, inner.Places.LOOSE, inner.Places.SMALLER, inner.Tables.linkOf, inner.Tables.byRows, inner.Tables.goes}
-use Rattle.arrays.specs.{inner.Layout.variableIn, inner.Tables.Rows}
+use Rattle.model.proofs.{Lists.T-of, Lists.of-T, Lists.of-not, Lists.list-2, Lists.at-set-other, Lists.both-false, Sets.has-none, Sets.has-out, Sets.pow2, Sets.has-mask, Sets.mask-lt, Sets.mask-ext}
+use Rattle.model.proofs.{Masks.has-and, Masks.has-not, Masks.has-one, Masks.is-mask, Members.common-op-r, Filling.gathered-is}
+use Rattle.arrays.specs.{inner.Places.SCOPES, inner.Places.BY-ROWS, inner.Places.LOOSE, inner.Places.SMALLER, inner.Tables.linkOf, inner.Tables.byRows, inner.Tables.goes, inner.Tables.Rows}
+use Rattle.arrays.specs.{inner.Layout.variableIn}
 use Rattle.arrays.proofs.Links.{good, scope-order, link-scope, by-rows-link, by-rows-two}
 use Rattle.arrays_tables.specs.inner.Steps.{RowsSource, allowedTo, goesTo, RowsTo}
 

@@ -1,6 +1,5 @@
 -- Unions of numbers of eight lanes, and what they say of the support sets. Assumes nothing.
-use Rattle.model.specs.Kit.{_≡_, refl, sym, ap, _∙_, subst, subst₂, Bool, true, false, inl, inr, ⊎-elim, List, ℕ, zero, suc, _+_, _*_, _/_, _%_, _≤_, _<_, arith, ℕ-discrete, bitOr}
-use Rattle.model.specs.Kit.{T, lit<, length}
+use Rattle.model.specs.Kit.{_≡_, refl, sym, ap, _∙_, subst, subst₂, Bool, true, false, inl, inr, ⊎-elim, List, ℕ, zero, suc, _+_, _*_, _/_, _%_, _≤_, _<_, arith, ℕ-discrete, bitOr, T, lit<, length}
 use Rattle.model.specs.{Lists.at, Lists.both, Lists.choose, ValueSets.has}
 use Rattle.model.proofs.{Lists.both-i, Lists.both-l, Lists.both-r, Sets.has-none, Members.or-i, Members.or-e}
 use Rattle.arrays.specs.{inner.Places.SCOPES, inner.Places.VALUES, inner.Places.SPREAD, inner.Places.UNIONS, inner.Tables.UnionOf, inner.Tables.Spreads, inner.Tables.Words, inner.Tables.between}

@@ -1,6 +1,6 @@
 -- Rows in reading order: the test shows it between any two rows, and as many rows as there are, in order, are all of them. Assumes nothing.
-use Rattle.model.specs.Kit.{_≡_, refl, sym, ap₂, _∙_, subst, Bool, true, false, List, [], _∷_, List·Memᴰ, List·Memᴰ·head, List·Memᴰ·tail, List·Memᴰ·not-nil, ℕ, _≤_}
-use Rattle.model.specs.Kit.{not-suc-le-zero, le-of-suc-le-suc, T, length}
+use Rattle.model.specs.Kit.{_≡_, refl, sym, ap₂, _∙_, subst, Bool, true, false, List, [], _∷_, List·Memᴰ, List·Memᴰ·head, List·Memᴰ·tail, List·Memᴰ·not-nil, ℕ, _≤_, not-suc-le-zero, le-of-suc-le-suc}
+use Rattle.model.specs.Kit.{T, length}
 use Rattle.model.specs.Lists.{earlier, rowsAscend}
 use Rattle.model.proofs.Lists.{T-of, earlier-trans, Sorted}
 

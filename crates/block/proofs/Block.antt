@@ -5,8 +5,8 @@ use Rattle.model.specs.{Lists.both, Lists.upFrom, Lists.below, Lists.at, ValueS
 use Rattle.model.specs.{Verdict.ask, Verdict.isAccepted, Sheet.permutesPairs, Sheet.symmetriesVerdict, inner.WellFormed.WellFormed, inner.WellFormed.GoodSymmetry}
 use Rattle.block.specs.Block.{ordering, factorial, composed, inBlock, imageOf, orderingTable, blockTables, withBlock, isBlock, blockVerdict}
 use Rattle.block.specs.inner.Claims.{TradePasses}
-use Rattle.model.proofs.{Asked.symmetries-i, Asked.symmetries-first, Lists.both-l, Lists.both-r, Lists.T-of, Lists.of-T, Lists.not-of, Lists.T-ext, Lists.map-append, Lists.below-i}
-use Rattle.model.proofs.{Lists.below-e, Lists.upFrom-add, Lists.length-below, Sets.mask-ext, Accepted.asked, Accepted.symmetries-e}
+use Rattle.model.proofs.Lists.{both-l, both-r, T-of, of-T, not-of, T-ext, map-append, below-i, below-e, upFrom-add, length-below}
+use Rattle.model.proofs.{Asked.symmetries-i, Asked.symmetries-first, Sets.mask-ext, Accepted.asked, Accepted.symmetries-e}
 use Rattle.block.proofs.Orderings.{Few, factorial-up, Moves, moves, moves-small, moves-high, at-composed, product-row, generated, trade-at, row-zero}
 use Rattle.block.proofs.Tables as B
 

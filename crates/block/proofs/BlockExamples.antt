@@ -1,9 +1,8 @@
 -- Small blocks, computed from the definitions. Assumes nothing.
 use Rattle.model.specs.Kit.{_≡_, refl, List, [], _∷_, ℕ}
-use Rattle.model.specs.{Lists.all, Lists.any, Lists.keep, Lists.flat, Lists.upFrom, Lists.below, Lists.at, Lists.same, Lists.earlier, ValueSets.has, ValueSets.maskBelow}
-use Rattle.model.specs.{ValueSets.members, Problem.Problem, Problem.Constraint, Problem.valuesAt, Problem.satisfies, Problem.isSolution, Problem.assignments, Problem.pair}
-use Rattle.model.specs.Problem.{isPair, pairsOf, within, takes, doubled, pairsAt, excluded, forbidden, respects}
-use Rattle.model.specs.{Verdict.accepted, Verdict.refused, Sheet.distinct, Sheet.permutesPairs, Sheet.symmetriesVerdict, Claims.leaders}
+use Rattle.model.specs.Lists.{all, any, keep, flat, upFrom, below, at, same, earlier}
+use Rattle.model.specs.Problem.{Problem, Constraint, valuesAt, satisfies, isSolution, assignments, pair, isPair, pairsOf, within, takes, doubled, pairsAt, excluded, forbidden, respects}
+use Rattle.model.specs.{ValueSets.has, ValueSets.maskBelow, ValueSets.members, Verdict.accepted, Verdict.refused, Sheet.distinct, Sheet.permutesPairs, Sheet.symmetriesVerdict, Claims.leaders}
 use Rattle.block.specs.Block.{orderings, ordering, factorial, variableTable, inBlock, imageOf, orderingTable, blockTables, withBlock, isBlock, blockVerdict}
 
 opened : ℕ

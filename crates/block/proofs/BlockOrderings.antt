@@ -1,14 +1,13 @@
 -- The orderings of a block of neighbouring variables contain every trade of two: so they only say that its variables ascend. Assumes nothing.
-use Rattle.model.specs.Kit.{_≡_, refl, sym, ap, _∙_, subst, true, false, List, _++_, map, List·Memᴰ, Memᴰ·append-left, Memᴰ·map, Memᴰ·of-map, _⊎_, inl, inr, ⊎-elim, ℕ, _+_, _-_}
-use Rattle.model.specs.Kit.{_≤_, _<_, ℕ-discrete, arith, T, eqb, leb, ltb, leb→le, ltb→lt, eq-eqb, ne-eqb, le-leb, lt-ltb}
-use mathlib.Core.List.{List·Memᴰ·append-cases, Memᴰ·append-right}
+use Rattle.model.specs.Kit.{_≡_, refl, sym, ap, _∙_, subst, true, false, List, _++_, map, List·Memᴰ, Memᴰ·append-left, Memᴰ·map, Memᴰ·of-map, _⊎_, inl, inr, ⊎-elim, ℕ, _+_, _-_, _≤_, _<_, ℕ-discrete}
+use Rattle.model.specs.Kit.{arith, T, eqb, leb, ltb, leb→le, ltb→lt, eq-eqb, ne-eqb, le-leb, lt-ltb}
 use Rattle.model.specs.{Lists.below, Lists.at, Problem.Problem, Problem.pair, Verdict.accepted, inner.WellFormed.WellFormed}
+use mathlib.Core.List.{List·Memᴰ·append-cases, Memᴰ·append-right}
 use Rattle.block.specs.{Block.ordering, Block.factorial, Block.inBlock, Block.imageOf, Block.orderingTable, Block.blockTables, Block.blockVerdict, inner.BlockSets.Reorders}
 use Rattle.block.specs.inner.BlockSets.{Trades, BlockIn}
-use Rattle.model.proofs.Lists.{T-of, T-dec, not-of, both-i, both-l, both-r, below-i, below-e, at-below, length-below}
-use Rattle.model.proofs.Counting.{distinct-below}
-use Rattle.block.proofs.{Orderings.Few, Orderings.Moves, Orderings.factorial-up, Orderings.ordering-of, Orderings.moves, Orderings.moves-row, Block.image-at}
-use Rattle.block.proofs.Block.{image-block, image-injective, image-variable, row-pair, equal-sets, block-e}
+use Rattle.model.proofs.{Lists.T-of, Lists.T-dec, Lists.not-of, Lists.both-i, Lists.both-l, Lists.both-r, Lists.below-i, Lists.below-e, Lists.at-below, Lists.length-below, Counting.distinct-below}
+use Rattle.block.proofs.Orderings.{Few, Moves, factorial-up, ordering-of, moves, moves-row}
+use Rattle.block.proofs.Block.{image-at, image-block, image-injective, image-variable, row-pair, equal-sets, block-e}
 use Rattle.block.proofs.Tables as B
 
 -- ---- the trade of two numbers

@@ -1,18 +1,18 @@
 -- What the orderings of a block say at a prefix: its variables ascend, and nothing else. So a pruner cuts the later block variables and needs no filter for the orderings. Assumes nothing.
-use Rattle.model.specs.Kit.{_≡_, refl, sym, ap, _∙_, subst, Bool, false, not, List, [], _∷_, _++_, List·Memᴰ, ⊎-elim, _↔_, ℕ, zero, suc, _/_, _%_, _^_, _≤_, _<_, not-suc-le-zero}
-use Rattle.model.specs.Kit.{le-of-suc-le-suc, ℕ-discrete, decLt, arith, T, eqb, ltb, eqb→eq, eqb-refl, ltb→lt, lt→ltb, T-not, not-T, length, getD, set, length-append}
-use native.Mathlib.Nat.{le-refl}
-use lib.Seq.{getD-set-same, getD-set-other}
+use Rattle.model.specs.Kit.{_≡_, refl, sym, ap, _∙_, subst, Bool, false, not, List, [], _∷_, _++_, List·Memᴰ, ⊎-elim, _↔_, ℕ, zero, suc, _/_, _%_, _^_, _≤_, _<_, not-suc-le-zero, le-of-suc-le-suc}
+use Rattle.model.specs.Kit.{ℕ-discrete, decLt, arith, T, eqb, ltb, eqb→eq, eqb-refl, ltb→lt, lt→ltb, T-not, not-T, length, getD, set, length-append}
 use Rattle.model.specs.{Lists.both, Lists.at, ValueSets.has, ValueSets.maskOf, ValueSets.members, ValueSets.anyEmpty, ValueSets.Inside, Problem.Problem, Problem.pair, Problem.assignments}
 use Rattle.model.specs.{Problem.withSymmetries, Nogood.Entry, Nogood.obeys, Nogood.filtered, Search.entriesAt, Search.nogoodsOf, Search.pruned, Search.narrowed, Search.setsAt, Search.isLive}
 use Rattle.model.specs.{Search.isPlan, Claims.Consistent, Claims.Drawn, inner.Pruning.Sets, inner.Pruning.closed, inner.Pruning.Way, inner.Pruning.Prunes, inner.WellFormed.WellFormed}
+use native.Mathlib.Nat.{le-refl}
+use lib.Seq.{getD-set-same, getD-set-other}
 use Rattle.block.specs.{inner.BlockSets.Reorders, inner.BlockSets.Trades, inner.BlockSets.BlockIn, inner.BlockSets.lostAfter, inner.BlockSets.cutAfter, inner.Claims.Ascends}
 use Rattle.model.proofs.Lists.{of-not, not-of, T-of, both-i, both-l, both-r, keep-i, keep-e, getD-at, at-out, at-append, at-seam, at-tabulate, length-tabulate, stable}
-use Rattle.model.proofs.{Counting.twice, Sets.members-i, Sets.members-e, Sets.mask-i, Sets.mask-e, Sets.mask-lt, Sets.inside-antisym, Sets.has-at-lt, Sets.has-lt, Sets.member}
-use Rattle.model.proofs.{Sets.empty-i, Masks.has-one, Assignments.drawn-i, Assignments.drawn-e, Assignments.drawn-through, Filter.filtered-i, Filter.filtered-e}
-use Rattle.model.proofs.{Filter.filtered-sets, Filter.filtered-inside, Obey.meetsIn, Obey.smallerIn, Obey.prefix-e, Obey.prefix-not, Prune.Kept, Prune.fixed-i, Prune.fixed-e}
-use Rattle.model.proofs.Prune.{narrowed-e, Sized, largest, Removal, way-removal, setsAt-live, value-live, live-is, live-closed}
-use Rattle.model.proofs.{Consistent.consistent-e, Consistent.consistent-inside, Consistent.live-consistent, Consistent.dead-empty, Tree.well-sized, Child.child-start}
+use Rattle.model.proofs.Sets.{members-i, members-e, mask-i, mask-e, mask-lt, inside-antisym, has-at-lt, has-lt, member, empty-i}
+use Rattle.model.proofs.Prune.{Kept, fixed-i, fixed-e, narrowed-e, Sized, largest, Removal, way-removal, setsAt-live, value-live, live-is, live-closed}
+use Rattle.model.proofs.{Counting.twice, Masks.has-one, Assignments.drawn-i, Assignments.drawn-e, Assignments.drawn-through, Filter.filtered-i, Filter.filtered-e, Filter.filtered-sets}
+use Rattle.model.proofs.{Filter.filtered-inside, Obey.meetsIn, Obey.smallerIn, Obey.prefix-e, Obey.prefix-not, Consistent.consistent-e, Consistent.consistent-inside, Consistent.live-consistent}
+use Rattle.model.proofs.{Consistent.dead-empty, Tree.well-sized, Child.child-start}
 use Rattle.model.proofs.Pairs as P
 use Rattle.model.proofs.More as M
 

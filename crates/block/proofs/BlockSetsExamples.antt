@@ -1,9 +1,8 @@
 -- Small blocks: the sets at a prefix, computed from the definitions, are those of the cut. Assumes nothing.
 use Rattle.model.specs.Kit.{_≡_, refl, [], _∷_, ℕ}
-use Rattle.model.specs.{Lists.all, Lists.any, Lists.keep, Lists.flat, Lists.upFrom, Lists.below, Lists.at, Lists.same, Lists.tabulate, ValueSets.has, ValueSets.maskBelow}
-use Rattle.model.specs.{ValueSets.least, ValueSets.members, ValueSets.anyEmpty, Problem.Problem, Problem.assignments, Problem.pair, Problem.isPair, Sheet.distinct}
-use Rattle.model.specs.{Nogood.obeysFrom, Nogood.obeying, Nogood.used, Nogood.filtered, Search.entriesAt, Search.nogoodsOf, Search.rowWith, Search.supported, Search.pruned}
-use Rattle.model.specs.Search.{narrowed, rounds, setsAt}
+use Rattle.model.specs.{Lists.all, Lists.any, Lists.keep, Lists.flat, Lists.upFrom, Lists.below, Lists.at, Lists.same, Lists.tabulate, ValueSets.has, ValueSets.maskBelow, ValueSets.least}
+use Rattle.model.specs.{ValueSets.members, ValueSets.anyEmpty, Problem.Problem, Problem.assignments, Problem.pair, Problem.isPair, Sheet.distinct, Nogood.obeysFrom, Nogood.obeying, Nogood.used}
+use Rattle.model.specs.{Nogood.filtered, Search.entriesAt, Search.nogoodsOf, Search.rowWith, Search.supported, Search.pruned, Search.narrowed, Search.rounds, Search.setsAt}
 use Rattle.block.specs.Block.{orderings, ordering, factorial, variableTable, inBlock, imageOf, orderingTable, blockTables, withBlock}
 use Rattle.block.specs.inner.BlockSets.{cutAfter}
 use Rattle.order.specs.Reordered.{position, read, valueOf, scopeIn, rowIn, renamed, symmetryIn, reordered}

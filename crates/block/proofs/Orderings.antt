@@ -1,15 +1,15 @@
 -- The orderings of five: what the rows are, that none is absent, and what one test over the whole list shows of the first m! rows. Assumes nothing.
-use Rattle.model.specs.Kit.{_≡_, refl, sym, ap, _∙_, subst, Bool, true, false, List, [], _∷_, List·Memᴰ, ⊎-elim, _↔_, ℕ, zero, suc, _+_, _-_, _*_, _≤_, _<_, not-suc-le-zero}
-use Rattle.model.specs.Kit.{le-of-suc-le-suc, mul-le-mul-right, arith, ℕ-discrete, decLt, T, leb, ltb, eqb, eqb→eq, leb→le, ltb→lt, lt→ltb, lit<, length, getD, set, take}
-use Rattle.model.specs.Kit.{replicate, length-map, length-set, getD-take, length-take-le}
-use lib.ListN.{getD-replicate}
+use Rattle.model.specs.Kit.{_≡_, refl, sym, ap, _∙_, subst, Bool, true, false, List, [], _∷_, List·Memᴰ, ⊎-elim, _↔_, ℕ, zero, suc, _+_, _-_, _*_, _≤_, _<_, not-suc-le-zero, le-of-suc-le-suc}
+use Rattle.model.specs.Kit.{mul-le-mul-right, arith, ℕ-discrete, decLt, T, leb, ltb, eqb, eqb→eq, leb→le, ltb→lt, lt→ltb, lit<, length, getD, set, take, replicate, length-map, length-set, getD-take}
+use Rattle.model.specs.Kit.{length-take-le}
 use Rattle.model.specs.Lists.{both, either, all, any, keep, flat, upFrom, below, at, same, earlier, rowsAscend}
 use Rattle.model.specs.{ValueSets.has, ValueSets.maskBelow, ValueSets.fullMask, ValueSets.members, Problem.assignments, Sheet.distinct}
+use lib.ListN.{getD-replicate}
 use Rattle.order.specs.Order.{Ordering}
 use Rattle.block.specs.Block.{orderings, ordering, factorial, composed}
-use Rattle.model.proofs.Lists.{both-l, both-r, either-e, all-e, any-e, keep-i, keep-e, T-of, of-T, upFrom-i, upFrom-e, same-eq, same-refl, at-ext, at-take, at-map, at-set}
-use Rattle.model.proofs.{Lists.at-set-other, Lists.mem-at, Lists.at-mem, Lists.mem-getD, Lists.place-of, Lists.Sorted, Lists.sorted-keep, Lists.rowsAscend-of, Counting.distinct-at}
-use Rattle.model.proofs.{Counting.onto, Sets.has-lt, Sets.mask-i, Sets.members-i, Assignments.assign-i, Assignments.drawn-e, Assignments.assignments-sorted}
+use Rattle.model.proofs.Lists.{both-l, both-r, either-e, all-e, any-e, keep-i, keep-e, T-of, of-T, upFrom-i, upFrom-e, same-eq, same-refl, at-ext, at-take, at-map, at-set, at-set-other, mem-at}
+use Rattle.model.proofs.Lists.{at-mem, mem-getD, place-of, Sorted, sorted-keep, rowsAscend-of}
+use Rattle.model.proofs.{Counting.distinct-at, Counting.onto, Sets.has-lt, Sets.mask-i, Sets.members-i, Assignments.assign-i, Assignments.drawn-e, Assignments.assignments-sorted}
 use Rattle.order.proofs.{Reordered.apart-distinct, LeadersBy.below-at, LeadersBy.ordering-below}
 
 -- ---- a test at each element of a list and its place

@@ -1,15 +1,14 @@
 -- The table of orderings: 600 numbers whose rows of five are orderings and ascend are all orderings in order. Assumes nothing.
-use Rattle.model.specs.Kit.{_≡_, refl, sym, ap, ap₂, _∙_, subst, List, [], _∷_, _++_, List·Memᴰ, List·Memᴰ·head, List·Memᴰ·tail, ℕ, zero, suc, _+_, _*_, _<_, not-suc-le-zero}
-use Rattle.model.specs.Kit.{le-of-suc-le-suc, arith, T, eqb, ltb, eqb→eq, ltb→lt, lt→ltb, length, getD, take, drop, length-drop, take-append-drop, getD-drop, eq-eqb}
-use lib.Seq.{take-at, drop-at}
+use Rattle.model.specs.Kit.{_≡_, refl, sym, ap, ap₂, _∙_, subst, List, [], _∷_, _++_, List·Memᴰ, List·Memᴰ·head, List·Memᴰ·tail, ℕ, zero, suc, _+_, _*_, _<_, not-suc-le-zero, le-of-suc-le-suc, arith}
+use Rattle.model.specs.Kit.{T, eqb, ltb, eqb→eq, ltb→lt, lt→ltb, length, getD, take, drop, length-drop, take-append-drop, getD-drop, eq-eqb}
 use Rattle.model.specs.{Lists.both, Lists.all, Lists.flat, Lists.at, Lists.earlier, Lists.rowsAscend, Sheet.distinct}
+use lib.Seq.{take-at, drop-at}
 use Rattle.order.specs.Order.{Ordering}
-use Rattle.block.specs.{Block.orderings, Block.ordering, BlockClaims.fives, BlockClaims.isOrdering, BlockClaims.isTable, BlockClaims.TableRows, BlockClaims.Table-rows}
-use Rattle.block.specs.BlockClaims.{Table-passes}
+use Rattle.block.specs.{Block.orderings, Block.ordering, BlockClaims.fives, BlockClaims.isOrdering, BlockClaims.isTable, BlockClaims.TableRows, BlockClaims.Table-rows, BlockClaims.Table-passes}
 use Rattle.model.proofs.Lists.{T-of, both-i, both-l, both-r, all-i, all-e, earlier-asym, at-take}
 use Rattle.order.proofs.Reordered.{apart-distinct}
-use Rattle.block.proofs.{Ascending.rowsAscend-sorted, Ascending.sorted-all, Orderings.ordering-of, Orderings.ordering-row, Orderings.row-ordering}
-use Rattle.block.proofs.Orderings.{orderings-sorted, orderings-ascend, count}
+use Rattle.block.proofs.Ascending.{rowsAscend-sorted, sorted-all}
+use Rattle.block.proofs.Orderings.{ordering-of, ordering-row, row-ordering, orderings-sorted, orderings-ascend, count}
 
 -- ---- rows of five
 length-fives : (k : ℕ) (l : List ℕ) → length (fives k l) ≡ k

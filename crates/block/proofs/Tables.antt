@@ -1,12 +1,11 @@
 -- Symmetry tables: two that pass questions 15 and 16 do so one after the other, and a table that moves nothing passes; tables that move variables. Assumes nothing.
-use Rattle.model.specs.Kit.{_≡_, refl, sym, ap, ap₂, _∙_, subst, Bool, true, false, List, [], _∷_, map, List·Memᴰ, List·Memᴰ·head, List·Memᴰ·tail, List·Memᴰ·not-nil}
-use Rattle.model.specs.Kit.{List·Memᴰ·cases-cons, Memᴰ·cast, Memᴰ·map, Memᴰ·of-map, _⊎_, inl, inr, ⊎-elim, ℕ, suc, _*_, _/_, _%_, _<_, arith, T, eqb, eqb-refl, length}
-use mathlib.Core.List.{List·Memᴰ·eq-of-singleton}
+use Rattle.model.specs.Kit.{_≡_, refl, sym, ap, ap₂, _∙_, subst, Bool, true, false, List, [], _∷_, map, List·Memᴰ, List·Memᴰ·head, List·Memᴰ·tail, List·Memᴰ·not-nil, List·Memᴰ·cases-cons, Memᴰ·cast}
+use Rattle.model.specs.Kit.{Memᴰ·map, Memᴰ·of-map, _⊎_, inl, inr, ⊎-elim, ℕ, suc, _*_, _/_, _%_, _<_, arith, T, eqb, eqb-refl, length}
 use Rattle.model.specs.Problem.{Problem, Constraint, pair, isPair, pairsAt, within, doubled, excluded, forbidden, respects}
 use Rattle.model.specs.{Lists.all, Lists.any, Lists.below, Lists.at, ValueSets.has, Sheet.distinct, Sheet.permutesPairs, Claims.Drawn, inner.WellFormed.WellFormed, inner.WellFormed.GoodSymmetry}
+use mathlib.Core.List.{List·Memᴰ·eq-of-singleton}
 use Rattle.block.specs.Block.{composed, variableTable}
-use Rattle.model.proofs.Lists.{both-i, T-dec, of-T, not-of, all-i, any-i, below-e, length-below, at-below, at-ext}
-use Rattle.model.proofs.Assignments.{drawn-e}
+use Rattle.model.proofs.{Lists.both-i, Lists.T-dec, Lists.of-T, Lists.not-of, Lists.all-i, Lists.any-i, Lists.below-e, Lists.length-below, Lists.at-below, Lists.at-ext, Assignments.drawn-e}
 use Rattle.order.proofs.Reordered.{apart-distinct}
 use Rattle.block.proofs.Orderings.{at-composed, length-composed}
 use Rattle.model.proofs.Pairs as P
@@ -147,8 +146,7 @@ module _ (p : Problem) where
     at-variableTable f q h = at-below (imageUnder f) size q h
 
     pub moved-pair : (f : ℕ → ℕ) (q : ℕ) → T (isPair p q) → at (variableTable p f) q ≡ pair p (f (q / p .values)) (q % p .values)
-    moved-pair f q t =
-        at-variableTable f q (P.isPair-lt p q t) ∙ choose-yes (isPair p q) (pair p (f (q / p .values)) (q % p .values)) q (of-T (isPair p q) t)
+    moved-pair f q t = at-variableTable f q (P.isPair-lt p q t) ∙ choose-yes (isPair p q) (pair p (f (q / p .values)) (q % p .values)) q (of-T (isPair p q) t)
 
     pub unmoved : (f : ℕ → ℕ) (q : ℕ) → q < size → (T (isPair p q) → ⊥) → at (variableTable p f) q ≡ q
     unmoved f q h t = at-variableTable f q h ∙ choose-no (isPair p q) (pair p (f (q / p .values)) (q % p .values)) q (not-of (isPair p q) t)

@@ -1,7 +1,7 @@
 -- A block of neighbouring variables that may be put in any order (paper 02, #111): the orderings of five, the symmetries that a block adds, and its questions.
 use Rattle.model.specs.Kit.{Bool, true, false, List, [], _∷_, _++_, map, ℕ, zero, suc, _+_, _-_, _*_, _/_, _%_, length, getD, replicate, leb, ltb}
-use Rattle.model.specs.{Lists.keep, Lists.below, Lists.at, Lists.both, ValueSets.fullMask, Problem.Problem, Problem.pair, Problem.isPair, Problem.assignments, Problem.withSymmetries}
-use Rattle.model.specs.{Verdict.Verdict, Verdict.accepted, Verdict.refused, Verdict.ask, Sheet.distinct, Sheet.symmetriesVerdict}
+use Rattle.model.specs.Problem.{Problem, pair, isPair, assignments, withSymmetries}
+use Rattle.model.specs.{Lists.keep, Lists.below, Lists.at, Lists.both, ValueSets.fullMask, Verdict.Verdict, Verdict.accepted, Verdict.refused, Verdict.ask, Sheet.distinct, Sheet.symmetriesVerdict}
 
 -- ---- orderings
 -- the orderings of 0 to 4, in reading order: five numbers below five, no two of them equal
@@ -23,8 +23,7 @@ composed g h = map (at h) g
 
 -- the table that takes each pair (x, v) to (f x, v); other numbers stay put
 unfoldable pub variableTable : Problem → (ℕ → ℕ) → List ℕ
-variableTable p f =
-    map (λ q. elim (isPair p q) [ true ↦ pair p (f (q / p .values)) (q % p .values) | false ↦ q ]) (below (p .variables * p .values))
+variableTable p f = map (λ q. elim (isPair p q) [ true ↦ pair p (f (q / p .values)) (q % p .values) | false ↦ q ]) (below (p .variables * p .values))
 
 -- x is one of m neighbouring variables, of which first is the first
 unfoldable pub inBlock : ℕ → ℕ → ℕ → Bool

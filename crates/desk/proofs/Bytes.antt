@@ -1,6 +1,6 @@
 -- Parts of a buffer, numbers read back, and lists of bytes. Assumes nothing.
-use Rattle.model.specs.Kit.{_≡_, refl, sym, ap, ap₂, _∙_, subst, Bool, true, false, _⊎_, inl, inr, List, [], _∷_, _++_, ℕ, zero, suc, _+_, _-_, _*_, _/_, _%_, _^_, _≤_, _<_, arith}
-use Rattle.model.specs.Kit.{length, take, drop, set, replicate, length-take, length-drop, ltb, getD-drop, length-take-le, ltb-true, ltb-false}
+use Rattle.model.specs.Kit.{_≡_, refl, sym, ap, ap₂, _∙_, subst, Bool, true, false, _⊎_, inl, inr, List, [], _∷_, _++_, ℕ, zero, suc, _+_, _-_, _*_, _/_, _%_, _^_, _≤_, _<_, arith, length, take, drop}
+use Rattle.model.specs.Kit.{set, replicate, length-take, length-drop, ltb, getD-drop, length-take-le, ltb-true, ltb-false}
 use Rattle.model.specs.{Lists.at, Sheet.«word», Bytes.twoBytes, Bytes.fourBytes, Written.placed}
 use Rattle.model.proofs.{Lists.at-take, Lists.at-ext, Written.length-placed, Written.placed-before, Written.placed-in, Written.placed-after}
 use Rattle.desk.specs.inner.Layout.{long}

@@ -4,12 +4,12 @@ use Rattle.model.specs.Lists.{at, below}
 use Rattle.model.proofs.Lists.{at-set, at-set-other}
 use Rattle.desk.specs.Queue.{Job, jobTurned, Slot, waits, slotTurned, Queue, slotAt, Found, none-found, slot, roundFrom, toServe, QueueCall, submit, turn, release, QueueReply, turnQueue}
 use Rattle.desk.specs.Queue.{queueAfter, queueEnd, queueReplies}
-use Rattle.desk.specs.{inner.Places.NEXT, inner.Layout.slotPlace, inner.Layout.jobAt, inner.Layout.slotOf, inner.Layout.queueOf, inner.Layout.withRun, inner.Layout.turnBytes}
-use Rattle.desk.specs.{inner.Layout.callBytes, inner.Layout.bytesAfter, Claims.QueueBytes, Claims.ByteCall, Claims.Each-call, Claims.Other-size, inner.Claims.bytesEnd}
+use Rattle.desk.specs.inner.Layout.{slotPlace, jobAt, slotOf, queueOf, withRun, turnBytes, callBytes, bytesAfter}
+use Rattle.desk.specs.{inner.Places.NEXT, Claims.QueueBytes, Claims.ByteCall, Claims.Each-call, Claims.Other-size, inner.Claims.bytesEnd}
 use Rattle.desk.specs.inner.Claims.{repliesOn, All-calls}
-use Rattle.desk.proofs.{Queue.first-in, Bytes.small-set, Slots.slot-in, Slots.free-at, Slots.taken-at, Slots.reply-whole, Slots.reply-wrong, Slots.bytes-whole, Slots.bytes-wrong}
-use Rattle.desk.proofs.{Meaning.slot-same, Meaning.slots-set, Refines.queue-is, Refines.submit-call, Refines.release-call, Turning.Fits, Turning.at-fits, Turning.turned-fits, Turned.run-whole}
-use Rattle.desk.proofs.Turned.{run-slot, run-others, run-bytes}
+use Rattle.desk.proofs.Slots.{slot-in, free-at, taken-at, reply-whole, reply-wrong, bytes-whole, bytes-wrong}
+use Rattle.desk.proofs.{Queue.first-in, Bytes.small-set, Meaning.slot-same, Meaning.slots-set, Refines.queue-is, Refines.submit-call, Refines.release-call, Turning.Fits, Turning.at-fits}
+use Rattle.desk.proofs.{Turning.turned-fits, Turned.run-whole, Turned.run-slot, Turned.run-others, Turned.run-bytes}
 
 -- ---- where to look
 module _ (b : List ℕ) (v : ℕ) (d : QueueBytes b) where

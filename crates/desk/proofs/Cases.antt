@@ -1,13 +1,12 @@
 -- Worked cases of the queue, by computation. Assumes nothing.
 use Rattle.model.specs.Kit.{_≡_, refl, [], _∷_, ℕ, replicate}
 use Rattle.model.specs.Lists.{all, any, keep, flat, tabulate, upFrom, below, at, total, same, earlier, ascending, rowsAscend}
-use Rattle.model.specs.{ValueSets.has, ValueSets.maskBelow, ValueSets.least, ValueSets.members, ValueSets.anyEmpty, Problem.valuesAt, Problem.satisfies, Problem.isSolution}
-use Rattle.model.specs.Problem.{assignments, pair, isPair, pairsOf, within, takes, doubled, pairsAt, excluded, forbidden, respects}
-use Rattle.model.specs.Sheet.{word, words, headerOf, scopeAt, rowsAt, afterAt, constraintsFrom, tableAt, problemOf, setsVerdict, constraintVerdict, constraintsVerdict, distinct}
-use Rattle.model.specs.{Sheet.permutesPairs, Sheet.symmetriesVerdict, Sheet.headerVerdict, Sheet.formVerdict, Sheet.verdictOf, Nogood.obeysFrom, Nogood.obeying, Nogood.used}
-use Rattle.model.specs.{Nogood.filtered, Search.entriesAt, Search.nogoodsOf, Search.rowWith, Search.supported, Search.pruned, Search.narrowed, Search.rounds, Search.setsAt}
-use Rattle.model.specs.{Search.isLive, Search.nodesBelow, Search.nodes, Search.isPlan, Run.finished, Run.spent, Run.search, Run.resultOf, Run.written, Run.countsBy}
-use Rattle.model.specs.Examples.{sheetA}
+use Rattle.model.specs.Problem.{valuesAt, satisfies, isSolution, assignments, pair, isPair, pairsOf, within, takes, doubled, pairsAt, excluded, forbidden, respects}
+use Rattle.model.specs.Sheet.{word, words, headerOf, scopeAt, rowsAt, afterAt, constraintsFrom, tableAt, problemOf, setsVerdict, constraintVerdict, constraintsVerdict, distinct, permutesPairs}
+use Rattle.model.specs.Sheet.{symmetriesVerdict, headerVerdict, formVerdict, verdictOf}
+use Rattle.model.specs.Search.{entriesAt, nogoodsOf, rowWith, supported, pruned, narrowed, rounds, setsAt, isLive, nodesBelow, nodes, isPlan}
+use Rattle.model.specs.Run.{finished, spent, search, resultOf, written, countsBy}
+use Rattle.model.specs.{ValueSets.has, ValueSets.maskBelow, ValueSets.least, ValueSets.members, ValueSets.anyEmpty, Nogood.obeysFrom, Nogood.obeying, Nogood.used, Nogood.filtered, Examples.sheetA}
 use Rattle.run_cut.specs.{Parts.after, Parts.nodesAfter, Parts.lastOf, Parts.goOn, Parts.added, Between.nodesBetween, inner.Paths.nodesOf}
 use Rattle.desk.specs.Queue.{over, jobTurned, firstOf, emptyQueue, Queue, submit, turn, release, refusal, answered, queued, idle, served, released, queueEnd, queueReplies}
 use Rattle.desk.specs.{Rounds.due, Rounds.roundsQueue, Rounds.turnsGiven, Rounds.endedIn, Rounds.goingOn, Status.statusReply, inner.Examples.Stay}

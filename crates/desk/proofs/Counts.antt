@@ -1,6 +1,5 @@
 -- Twelve counts in a slot's bytes, and that none of them is more than all that is counted. Assumes nothing.
-use Rattle.model.specs.Kit.{_≡_, refl, sym, ap, _∙_, Bool, true, false, List, [], _∷_, ℕ, zero, suc, _+_, _-_, _*_, _^_, _≤_, _<_, min, arith, ltb, length, replicate, ltb-true}
-use Rattle.model.specs.Kit.{ltb-false}
+use Rattle.model.specs.Kit.{_≡_, refl, sym, ap, _∙_, Bool, true, false, List, [], _∷_, ℕ, zero, suc, _+_, _-_, _*_, _^_, _≤_, _<_, min, arith, ltb, length, replicate, ltb-true, ltb-false}
 use Rattle.model.specs.{Lists.at, Lists.flat, Bytes.fourBytes}
 use Rattle.model.proofs.Lists.{at-ext, at-out, at-append, at-skip, at-replicate, length-tabulate, at-tabulate}
 use Rattle.run_cut.specs.Parts.{added}

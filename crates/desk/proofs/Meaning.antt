@@ -1,17 +1,16 @@
 -- What the queue's bytes mean after a job was submitted or released: its slot, and that the others mean what they did. Assumes nothing.
-use Rattle.model.specs.Kit.{_≡_, refl, sym, ap, ap₂, _∙_, subst, Bool, true, false, List, [], ℕ, _+_, _-_, _*_, _^_, _≤_, _<_, min, arith, T, eqb, ltb, length, take, drop, set}
-use Rattle.model.specs.Kit.{getD, length-set, ltb-true, ltb-false, eqb-true, eqb-false}
+use Rattle.model.specs.Kit.{_≡_, refl, sym, ap, ap₂, _∙_, subst, Bool, true, false, List, [], ℕ, _+_, _-_, _*_, _^_, _≤_, _<_, min, arith, T, eqb, ltb, length, take, drop, set, getD, length-set}
+use Rattle.model.specs.Kit.{ltb-true, ltb-false, eqb-true, eqb-false}
+use Rattle.model.specs.{Lists.at, Lists.choose, Lists.below, Verdict.Verdict, Verdict.accepted, Verdict.isAccepted, Sheet.«word», Sheet.verdictOf, Bytes.fourBytes, Written.placed, Run.listedPlans}
 use lib.Seq.{take-length, getD-set-same, getD-set-other, ext-getD}
-use Rattle.model.specs.{Lists.at, Lists.choose, Lists.below, Verdict.Verdict, Verdict.accepted, Verdict.isAccepted, Sheet.«word», Sheet.verdictOf, Bytes.fourBytes, Written.placed}
-use Rattle.model.specs.Run.{listedPlans}
 use Rattle.model.proofs.{Lists.of-T, Lists.at-append, Lists.at-skip, Written.length-placed, Written.placed-before, Written.placed-in, Written.placed-after}
 use Rattle.desk.specs.inner.Places.{LENGTH, LIMIT, STANDING, NODES, PLANS, DEPTH, LAST, COUNTS, SHEET, SHEET-BYTES, LIST, LIST-BYTES, SLOT, NEXT}
 use Rattle.desk.specs.inner.Layout.{slotPlace, long, standingAt, sheetLength, nodesAt, countsAt, plansAt, widthAt, rowsAt, lastAt, sheetAt, jobAt, slotOf, queueOf, headBytes, slotBytes}
 use Rattle.desk.specs.Queue.{Standing, Job, newJob, Slot, free, taken, slotAt, size, standingBy}
 use Rattle.sheet.specs.Meaning.{compilable}
 use Rattle.sheet.proofs.Compilable.{accepted-compilable}
-use Rattle.desk.proofs.{Sheets.answered-length, Bytes.part-is, Bytes.word-of, Bytes.long-of, Counts.counts-length, Counts.counts-is, Counts.counts-zero, Counts.counts-as}
-use Rattle.desk.proofs.Slots.{slot-in, row-length, taken-at}
+use Rattle.desk.proofs.Counts.{counts-length, counts-is, counts-zero, counts-as}
+use Rattle.desk.proofs.{Sheets.answered-length, Bytes.part-is, Bytes.word-of, Bytes.long-of, Slots.slot-in, Slots.row-length, Slots.taken-at}
 
 -- ---- a job by its parts
 abbrev pub jobOf : List ℕ → ℕ → ℕ → List ℕ → List (List ℕ) → List ℕ → Standing → Job

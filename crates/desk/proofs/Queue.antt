@@ -1,24 +1,23 @@
 -- The queue of eight slots (specs/Queue): each job's run is the run alone, every job is served in time, and no slot touches another. Assumes nothing.
-use Rattle.model.specs.Kit.{_≡_, refl, sym, ap, ap₂, _∙_, subst, Bool, true, false, not, _⊎_, inl, inr, ⊎-elim, List, [], _∷_, map, List·Memᴰ, List·Memᴰ·head, List·Memᴰ·tail}
-use Rattle.model.specs.Kit.{List·Memᴰ·not-nil, Memᴰ·map, Memᴰ·of-map, ℕ, zero, suc, _+_, _-_, _*_, _%_, _≤_, _<_, _^_, arith, T, leb, ltb, eqb, eqb→eq, length, take, set, getD}
-use Rattle.model.specs.Kit.{replicate, length-set, ltb-true, ltb-false, leb-false, eqb-true, eqb-false}
+use Rattle.model.specs.Kit.{_≡_, refl, sym, ap, ap₂, _∙_, subst, Bool, true, false, not, _⊎_, inl, inr, ⊎-elim, List, [], _∷_, map, List·Memᴰ, List·Memᴰ·head, List·Memᴰ·tail, List·Memᴰ·not-nil}
+use Rattle.model.specs.Kit.{Memᴰ·map, Memᴰ·of-map, ℕ, zero, suc, _+_, _-_, _*_, _%_, _≤_, _<_, _^_, arith, T, leb, ltb, eqb, eqb→eq, length, take, set, getD, replicate, length-set, ltb-true}
+use Rattle.model.specs.Kit.{ltb-false, leb-false, eqb-true, eqb-false}
+use Rattle.model.specs.Lists.{both, all, ascending, rowsAscend, either, any, keep, flat, below, upFrom, tabulate}
+use Rattle.model.specs.Sheet.{word, Header, headerOf, scopeAt, rowsAt, afterAt, permutesPairs, problemOf, setsVerdict, constraintVerdict, constraintsVerdict, symmetriesVerdict, headerVerdict}
+use Rattle.model.specs.Sheet.{formVerdict, verdictOf}
+use Rattle.model.specs.Run.{Ending, finished, spent, full, plansIn, nodesIn, Result, search, resultOf, Answer, ended, answerOf, written, listOf, Tally, settledBy, countsBy, tallyAt, tallyFor, tallyOf}
+use Rattle.model.specs.{Problem.Problem, Problem.respects, Search.nodes, Search.isPlan, Verdict.Verdict, Verdict.accepted, Verdict.refused, Verdict.ask, Verdict.reply, Verdict.kept}
 use lib.ListN.{List·getD-eq-default}
 use lib.Seq.{getD-set-same, getD-set-other, set-getD}
-use Rattle.model.specs.Lists.{both, all, ascending, rowsAscend, either, any, keep, flat, below, upFrom, tabulate}
-use Rattle.model.specs.{Problem.Problem, Problem.respects, Search.nodes, Search.isPlan, Verdict.Verdict, Verdict.accepted, Verdict.refused, Verdict.ask, Verdict.reply}
-use Rattle.model.specs.{Verdict.kept, Sheet.word, Sheet.Header, Sheet.headerOf, Sheet.scopeAt, Sheet.rowsAt, Sheet.afterAt, Sheet.permutesPairs, Sheet.problemOf, Sheet.setsVerdict}
-use Rattle.model.specs.{Sheet.constraintVerdict, Sheet.constraintsVerdict, Sheet.symmetriesVerdict, Sheet.headerVerdict, Sheet.formVerdict, Sheet.verdictOf, Run.Ending}
-use Rattle.model.specs.Run.{finished, spent, full, plansIn, nodesIn, Result, search, resultOf, Answer, ended, answerOf, written, listOf, Tally, settledBy, countsBy, tallyAt}
-use Rattle.model.specs.Run.{tallyFor, tallyOf}
 use Rattle.run_cut.specs.{Parts.nodesAfter, Parts.lastOf, Parts.Progress, Parts.start, Parts.progressAt, Parts.goOn, Parts.added, Parts.countsAfter, Between.resumed}
 use Rattle.desk.specs.Queue.{Standing, running, over, goesOn, Job, newJob, listRoom, turnLimit, standingAfter, jobAfter, jobTurned, Slot, free, taken, isFree, waits, slotTurned, Queue}
 use Rattle.desk.specs.Queue.{emptyQueue, slotAt, Found, none-found, slot, firstOf, lowestFree, toServe, QueueCall, submit, turn, release, refusal, answered, queued, idle, served, released}
 use Rattle.desk.specs.Queue.{servedAs, submitReply, submitQueue, turnReply, turnQueue, fits, releaseFor, releaseReply, releaseSlot, queueReply, queueAfter, queueEnd, queueReplies}
+use Rattle.desk.specs.{Rounds.turned, Claims.serves, Claims.turnsIn, Claims.WaitsOn, Claims.Fair, Claims.alone, Claims.Going-on, Claims.Same-as-run}
 use Rattle.desk.specs.inner.Claims.{timesServed, Throughout, Remains, HoldsRunAs, HoldsRun, As-alone, Turn-of-64, Sixty-four-each, Turn-answers, Refused-same, Idle-exactly, Past-eighth}
 use Rattle.desk.specs.inner.Claims.{By-own-turns, Others-nothing, Releases, Lowest-slot, Slots-taken, Keeps-slot}
-use Rattle.desk.specs.{Rounds.turned, Claims.serves, Claims.turnsIn, Claims.WaitsOn, Claims.Fair, Claims.alone, Claims.Going-on, Claims.Same-as-run}
-use Rattle.model.proofs.{Lists.T-of, Lists.of-T, Lists.of-not, Lists.any-cons, Lists.either-l, Lists.either-r, Lists.below-i, Lists.below-e, Room.length-flat, Runs.Ended, Lists.never}
-use Rattle.model.proofs.Runs.{walk, rows-counted, rows-fit, rows-sized}
+use Rattle.model.proofs.Lists.{T-of, of-T, of-not, any-cons, either-l, either-r, below-i, below-e, never}
+use Rattle.model.proofs.{Room.length-flat, Runs.Ended, Runs.walk, Runs.rows-counted, Runs.rows-fit, Runs.rows-sized}
 use Rattle.run_cut.proofs.{Resume.stands, Resume.from-start, Resume.from-cut, Resume.in-parts, Resume.last-moves, Anywhere.no-fewer, Anywhere.counts-move}
 
 -- ---- the first that passes a test

@@ -1,15 +1,14 @@
 -- Each call on bytes is the call on the queue that they mean (specs/Claims). Assumes nothing.
-use Rattle.model.specs.Kit.{_≡_, refl, sym, ap, ap₂, _∙_, subst, Bool, true, false, List, _∷_, _++_, ℕ, _+_, _^_, _<_, arith, T, ltb, length, set, getD, replicate, length-set}
-use Rattle.model.specs.Kit.{ltb-true, ltb-false}
-use lib.Seq.{set-getD, ext-getD}
+use Rattle.model.specs.Kit.{_≡_, refl, sym, ap, ap₂, _∙_, subst, Bool, true, false, List, _∷_, _++_, ℕ, _+_, _^_, _<_, arith, T, ltb, length, set, getD, replicate, length-set, ltb-true, ltb-false}
 use Rattle.model.specs.{Lists.choose, Lists.below, Verdict.Verdict, Verdict.accepted, Verdict.refused, Sheet.verdictOf, Bytes.twoBytes, Bytes.fourBytes, Written.placed}
+use lib.Seq.{set-getD, ext-getD}
 use Rattle.model.proofs.Lists.{below-e, at-set, at-set-other}
 use Rattle.desk.specs.Queue.{newJob, Job, Slot, free, taken, isFree, Queue, slotAt, Found, none-found, slot, lowestFree, submit, release, submitQueue, fits, releaseSlot, queueAfter}
-use Rattle.desk.specs.inner.Layout.{slotPlace, slotOf, queueOf, headBytes, slotBytes, submitBytes, releaseBytes, callBytes}
 use Rattle.desk.specs.{inner.Places.NEXT, Claims.QueueBytes, Claims.Zeros-empty}
-use Rattle.desk.proofs.{Queue.first-in, Queue.no-slots, Sheets.answered-length, Bytes.Small, Bytes.small-cons, Bytes.small-append, Bytes.small-replicate, Bytes.small-placed}
-use Rattle.desk.proofs.{Bytes.small-set, Bytes.small-four, Bytes.small-two, Slots.row-length, Slots.slot-in, Slots.slot-out, Slots.free-at, Meaning.slot-same}
-use Rattle.desk.proofs.Meaning.{slots-set, submitted-length, submitted-slot, submitted-others, submitted-next}
+use Rattle.desk.specs.inner.Layout.{slotPlace, slotOf, queueOf, headBytes, slotBytes, submitBytes, releaseBytes, callBytes}
+use Rattle.desk.proofs.Bytes.{Small, small-cons, small-append, small-replicate, small-placed, small-set, small-four, small-two}
+use Rattle.desk.proofs.Meaning.{slot-same, slots-set, submitted-length, submitted-slot, submitted-others, submitted-next}
+use Rattle.desk.proofs.{Queue.first-in, Queue.no-slots, Sheets.answered-length, Slots.row-length, Slots.slot-in, Slots.slot-out, Slots.free-at}
 
 -- a queue by its slots and where to look
 pub queue-is : {l m : List Slot} {i j : ℕ} → l ≡ m → i ≡ j → _≡_ {A = Queue} (record { slots = l; next = i }) (record { slots = m; next = j })

@@ -1,16 +1,16 @@
 -- Rounds on bytes are rounds on the queue that they mean (specs/RoundsClaims). Assumes nothing.
-use Rattle.model.specs.Kit.{_≡_, refl, sym, ap, _∙_, subst, Bool, true, false, List, [], _∷_, map, List·Memᴰ, List·Memᴰ·head, List·Memᴰ·tail, List·Memᴰ·not-nil, ℕ, zero, suc, _+_}
-use Rattle.model.specs.Kit.{_%_, _<_, arith, eqb, ltb, leb, length, set, getD, length-set, length-map, eqb-true, eqb-false, eq-eqb, ne-eqb}
+use Rattle.model.specs.Kit.{_≡_, refl, sym, ap, _∙_, subst, Bool, true, false, List, [], _∷_, map, List·Memᴰ, List·Memᴰ·head, List·Memᴰ·tail, List·Memᴰ·not-nil, ℕ, zero, suc, _+_, _%_, _<_, arith}
+use Rattle.model.specs.Kit.{eqb, ltb, leb, length, set, getD, length-set, length-map, eqb-true, eqb-false, eq-eqb, ne-eqb}
+use Rattle.model.specs.Lists.{at, both, choose, below}
 use lib.ListN.{List·getD-map}
 use lib.Seq.{ext-getD}
-use Rattle.model.specs.Lists.{at, both, choose, below}
-use Rattle.desk.specs.{Queue.Job, Queue.jobTurned, Queue.Slot, Queue.free, Queue.taken, Queue.Queue, Queue.slotAt, Queue.roundFrom, Rounds.turned, Rounds.due, Rounds.dueAt, Rounds.given}
-use Rattle.desk.specs.{Rounds.roundsQueue, inner.Rounds.slotGiven, inner.Rounds.behindLast, inner.Rounds.roundsAtOnce, inner.Places.NEXT, inner.Layout.slotPlace, inner.Layout.jobAt}
-use Rattle.desk.specs.{inner.Layout.slotOf, inner.Layout.queueOf, inner.Layout.withRun, inner.Layout.roundBytes, inner.Layout.roundsBytes, inner.Layout.roundsOn}
-use Rattle.desk.specs.{inner.Layout.roundsAfter, Queue.refusal, Queue.size, Rounds.roundsReply, Claims.QueueBytes, RoundsClaims.Rounds-call, RoundsClaims.Rounds-other-size}
-use Rattle.desk.proofs.{Rounds.Once, Rounds.pos-e, Rounds.pos-once, Rounds.round-is, Rounds.round-all, Rounds.at-once, Bytes.small-set, Slots.row-length, Slots.slot-in, Slots.free-at}
-use Rattle.desk.proofs.{Slots.taken-at, Refines.queue-is, Turning.Fits, Turning.at-fits, Turning.turned-fits, Turned.run-whole, Turned.run-slot, Turned.run-others}
-use Rattle.desk.proofs.{Turned.run-next, Turned.run-bytes, Calls.next-slot, Calls.next-read}
+use Rattle.desk.specs.Queue.{Job, jobTurned, Slot, free, taken, Queue, slotAt, roundFrom, refusal, size}
+use Rattle.desk.specs.Rounds.{turned, due, dueAt, given, roundsQueue, roundsReply}
+use Rattle.desk.specs.inner.Layout.{slotPlace, jobAt, slotOf, queueOf, withRun, roundBytes, roundsBytes, roundsOn, roundsAfter}
+use Rattle.desk.specs.{inner.Rounds.slotGiven, inner.Rounds.behindLast, inner.Rounds.roundsAtOnce, inner.Places.NEXT, Claims.QueueBytes, RoundsClaims.Rounds-call, RoundsClaims.Rounds-other-size}
+use Rattle.desk.proofs.Rounds.{Once, pos-e, pos-once, round-is, round-all, at-once}
+use Rattle.desk.proofs.{Bytes.small-set, Slots.row-length, Slots.slot-in, Slots.free-at, Slots.taken-at, Refines.queue-is, Turning.Fits, Turning.at-fits, Turning.turned-fits, Turned.run-whole}
+use Rattle.desk.proofs.{Turned.run-slot, Turned.run-others, Turned.run-next, Turned.run-bytes, Calls.next-slot, Calls.next-read}
 
 pub turns-fit : (b : List ℕ) (p m : ℕ) (h : Job) → Fits b p h → Fits b p (turned m h)
 turns-fit b p zero h f = f

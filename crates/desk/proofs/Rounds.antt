@@ -1,12 +1,11 @@
 -- Rounds (specs/Rounds): each slot whose run hasn't ended gets up to r turns, and the queue is that of the same turns one by one. The turns go round
 -- and round: a round goes by the eight slots, and gives a turn to each that waits. Assumes nothing.
-use Rattle.model.specs.Kit.{_≡_, refl, sym, ap, ap₂, _∙_, subst, Bool, true, false, _⊎_, inl, inr, List, [], _∷_, _++_, map, List·Memᴰ, List·Memᴰ·head, List·Memᴰ·tail}
-use Rattle.model.specs.Kit.{List·Memᴰ·not-nil, ℕ, zero, suc, _+_, _-_, _%_, _≤_, _<_, arith, T, leb, ltb, eqb, lt→ltb, leb→le, length, replicate, length-set, length-map, ltb-true}
-use Rattle.model.specs.Kit.{ltb-false, leb-true, leb-false, eqb-true, eqb-false}
+use Rattle.model.specs.Kit.{_≡_, refl, sym, ap, ap₂, _∙_, subst, Bool, true, false, _⊎_, inl, inr, List, [], _∷_, _++_, map, List·Memᴰ, List·Memᴰ·head, List·Memᴰ·tail, List·Memᴰ·not-nil, ℕ, zero, suc}
+use Rattle.model.specs.Kit.{_+_, _-_, _%_, _≤_, _<_, arith, T, leb, ltb, eqb, lt→ltb, leb→le, length, replicate, length-set, length-map, ltb-true, ltb-false, leb-true, leb-false, eqb-true, eqb-false}
+use Rattle.model.specs.Lists.{both, choose, below, upFrom, total}
 use lib.Dec.{le→leb}
 use lib.ListN.{List·getD-map, replicate-append-replicate}
 use lib.Seq.{getD-set-same, getD-set-other, ext-getD}
-use Rattle.model.specs.Lists.{both, choose, below, upFrom, total}
 use Rattle.model.proofs.Lists.{T-of, of-T, not-of, of-not, both-r, map-ext}
 use Rattle.desk.specs.Queue.{goesOn, Job, jobTurned, Slot, free, taken, waits, slotTurned, Queue, emptyQueue, slotAt, Found, slot, roundFrom, toServe, QueueCall, turn, queueAfter, turnQueue}
 use Rattle.desk.specs.Queue.{queueEnd}

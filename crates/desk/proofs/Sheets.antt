@@ -1,7 +1,6 @@
 -- An accepted sheet has at most 55,656 bytes. Assumes nothing.
 use Rattle.model.specs.Kit.{_≡_, subst, List, ℕ, zero, suc, _+_, _*_, _≤_, mul-le-mul, arith, T, leb, eqb, leb→le, eqb→eq, length}
-use Rattle.model.specs.{Lists.both, Verdict.Verdict, Verdict.accepted, Verdict.isAccepted, Sheet.Header, Sheet.«word», Sheet.headerOf, Sheet.afterAt, Sheet.constraintsVerdict}
-use Rattle.model.specs.Sheet.{verdictOf}
+use Rattle.model.specs.{Lists.both, Verdict.Verdict, Verdict.accepted, Verdict.isAccepted, Sheet.Header, Sheet.«word», Sheet.headerOf, Sheet.afterAt, Sheet.constraintsVerdict, Sheet.verdictOf}
 use Rattle.model.proofs.{Lists.both-l, Lists.both-r, Accepted.asked, Accepted.constraint-asked, Accepted.passed}
 use Rattle.desk.specs.inner.Places.{SHEET-BYTES}
 

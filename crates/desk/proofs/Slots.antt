@@ -1,18 +1,18 @@
 -- What the queue's bytes mean (specs/inner/Layout), slot by slot, and what the answers come to. Assumes nothing.
-use Rattle.model.specs.Kit.{_≡_, refl, sym, ap, ap₂, _∙_, subst, Bool, true, false, List, _++_, map, ℕ, zero, suc, _+_, _*_, _^_, _≤_, _<_, suc-mul, arith, eqb, length, take, drop}
-use Rattle.model.specs.Kit.{set, getD, length-drop, length-take-le, lt-ltb, le-ltb, le-leb, lt-leb, eq-eqb, ne-eqb, eqb-true, eqb-false}
+use Rattle.model.specs.Kit.{_≡_, refl, sym, ap, ap₂, _∙_, subst, Bool, true, false, List, _++_, map, ℕ, zero, suc, _+_, _*_, _^_, _≤_, _<_, suc-mul, arith, eqb, length, take, drop, set, getD}
+use Rattle.model.specs.Kit.{length-drop, length-take-le, lt-ltb, le-ltb, le-leb, lt-leb, eq-eqb, ne-eqb, eqb-true, eqb-false}
+use Rattle.model.specs.Lists.{at, choose, flat, below, upFrom}
+use Rattle.model.specs.{Verdict.Verdict, Verdict.accepted, Verdict.refused, Sheet.«word», Sheet.verdictOf, Written.placed, Run.listedPlans, Run.written}
 use native.Mathlib.Nat.{zero-add, zero-mul}
 use lib.ListN.{List·getD-eq-default}
 use lib.Seq.{take-add, take-take}
-use Rattle.model.specs.{Lists.at, Lists.choose, Lists.flat, Lists.below, Lists.upFrom, Verdict.Verdict, Verdict.accepted, Verdict.refused, Sheet.«word», Sheet.verdictOf}
-use Rattle.model.specs.{Written.placed, Run.listedPlans, Run.written}
 use Rattle.model.proofs.{Lists.below-e, Room.length-listed}
 use Rattle.desk.specs.Queue.{Job, Slot, free, taken, isFree, slotAt, Found, none-found, slot, firstOf, lowestFree, QueueCall, submit, release, QueueReply, refusal, answered, queued, served}
 use Rattle.desk.specs.Queue.{released, submitReply, fits, releaseFor, releaseReply, queueReply, jobIn, size, standingBy}
+use Rattle.desk.specs.Status.{statusFor, statusReply, noCounts, statusCounts}
+use Rattle.desk.specs.{inner.Places.LIST, inner.Places.LIST-BYTES, Meaning.roomAfter, inner.Finding.found, StatusCalls.Status-call, StatusCalls.Status-other-size}
 use Rattle.desk.specs.inner.Layout.{slotPlace, long, plansAt, widthAt, nodesAt, standingAt, rowsAt, jobAt, slotOf, queueOf, slotBytes, submitBytes, releaseBytes, callBytes, replyOn, statusOn}
 use Rattle.desk.specs.inner.Layout.{bytesAfter, countsAt, countsOn}
-use Rattle.desk.specs.{Status.statusFor, Status.statusReply, Status.noCounts, Status.statusCounts, inner.Places.LIST, inner.Places.LIST-BYTES, Meaning.roomAfter, inner.Finding.found}
-use Rattle.desk.specs.StatusCalls.{Status-call, Status-other-size}
 use Rattle.desk.proofs.Queue.{none-first}
 
 -- a word of bytes

@@ -1,7 +1,6 @@
 -- Turns at a stretch: up to r turns of a job are one walk with the limit of the last of them, and how many of them it takes is told by its nodes.
 -- Assumes nothing.
-use Rattle.model.specs.Kit.{_≡_, refl, sym, ap, ap₂, _∙_, subst, Bool, true, false, ℕ, zero, suc, _+_, _-_, _*_, _/_, _≤_, _<_, min, arith, ltb, length, length-drop, ltb-true}
-use Rattle.model.specs.Kit.{ltb-false}
+use Rattle.model.specs.Kit.{_≡_, refl, sym, ap, ap₂, _∙_, subst, Bool, true, false, ℕ, zero, suc, _+_, _-_, _*_, _/_, _≤_, _<_, min, arith, ltb, length, length-drop, ltb-true, ltb-false}
 use Rattle.model.specs.{Lists.choose, Problem.Problem, Sheet.problemOf, Run.Ending, Run.finished, Run.spent, Run.full, Run.nodesIn, Run.Result}
 use Rattle.model.proofs.Runs.{Ended, Walk, walk}
 use Rattle.run_cut.specs.{Parts.nodesAfter, Parts.Progress, Parts.goOn, Parts.progressAfter, Between.andNext}

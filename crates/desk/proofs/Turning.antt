@@ -1,13 +1,12 @@
 -- A job that a slot's bytes can hold, and that a turn makes such a job of it (specs/inner/Layout). Assumes nothing.
-use Rattle.model.specs.Kit.{_≡_, refl, sym, ap, ap₂, _∙_, subst, Bool, true, false, _⊎_, inl, inr, ⊎-elim, List, [], _∷_, _++_, List·Memᴰ, List·Memᴰ·head, List·Memᴰ·tail}
-use Rattle.model.specs.Kit.{append-nil, ℕ, zero, suc, _+_, _-_, _*_, _≤_, _<_, min, mul-le-mul, arith, T, ltb, eqb, eqb→eq, length, take, drop, length-take}
-use Rattle.model.specs.Kit.{length-drop, getD-drop, length-take-le, ltb-true, ltb-false}
+use Rattle.model.specs.Kit.{_≡_, refl, sym, ap, ap₂, _∙_, subst, Bool, true, false, _⊎_, inl, inr, ⊎-elim, List, [], _∷_, _++_, List·Memᴰ, List·Memᴰ·head, List·Memᴰ·tail, append-nil, ℕ, zero, suc}
+use Rattle.model.specs.Kit.{_+_, _-_, _*_, _≤_, _<_, min, mul-le-mul, arith, T, ltb, eqb, eqb→eq, length, take, drop, length-take, length-drop, getD-drop, length-take-le, ltb-true, ltb-false}
+use Rattle.model.specs.Run.{Ending, finished, spent, full, plansIn, nodesIn, search, settledBy, countsBy, listedPlans}
+use Rattle.model.specs.{Lists.at, Lists.choose, Lists.flat, Lists.keep, Problem.Problem, Search.nodes, Search.isPlan, Sheet.«word», Sheet.headerOf, Sheet.problemOf}
 use native.Mathlib.Nat.{le-of-mul-le-mul-right}
 use lib.Seq.{take-nil}
-use Rattle.model.specs.{Lists.at, Lists.choose, Lists.flat, Lists.keep, Problem.Problem, Search.nodes, Search.isPlan, Sheet.«word», Sheet.headerOf, Sheet.problemOf, Run.Ending}
-use Rattle.model.specs.Run.{finished, spent, full, plansIn, nodesIn, search, settledBy, countsBy, listedPlans}
-use Rattle.model.proofs.{Lists.T-of, Lists.at-take, Lists.both-l, Lists.keep-e, Lists.flat-append, Lists.at-out, Room.Wide, Room.length-listed, Room.listed-wide, Runs.walk}
-use Rattle.model.proofs.{Tally.count-most, Accepted.no-nodes as empty-nodes}
+use Rattle.model.proofs.Lists.{T-of, at-take, both-l, keep-e, flat-append, at-out}
+use Rattle.model.proofs.{Room.Wide, Room.length-listed, Room.listed-wide, Runs.walk, Tally.count-most, Accepted.no-nodes as empty-nodes}
 use Rattle.run_cut.specs.Parts.{after, nodesAfter, lastOf, goOn, madeIn}
 use Rattle.run_cut.proofs.{Resume.node-values, Resume.last-in, Resume.taken, Counts.length-added, Anywhere.no-fewer}
 use Rattle.sheet.specs.Meaning.{compilable}
@@ -15,8 +14,7 @@ use Rattle.sheet.proofs.Compilable.{compilable-fits}
 use Rattle.desk.specs.Queue.{Standing, running, over, Job, listRoom, turnLimit, standingAfter, jobTurned, standingBy}
 use Rattle.desk.specs.inner.Layout.{long, standingAt, sheetLength, nodesAt, plansAt, widthAt, rowsAt, lastAt, sheetAt, jobAt, standingByte}
 use Rattle.desk.specs.inner.Places.{LIMIT, DEPTH, LAST, SHEET, LIST, LIST-BYTES, SLOT}
-use Rattle.desk.proofs.{Bytes.Small, Bytes.small-nil, Bytes.small-append, Bytes.small-take, Bytes.small-drop, Counts.added-most, Counts.counts-length, Counts.counts-most}
-use Rattle.desk.proofs.Slots.{flat-listed}
+use Rattle.desk.proofs.{Bytes.Small, Bytes.small-nil, Bytes.small-append, Bytes.small-take, Bytes.small-drop, Counts.added-most, Counts.counts-length, Counts.counts-most, Slots.flat-listed}
 
 -- how a run stands, told by its number and its figures
 abbrev pub Figured : Standing → ℕ → ℕ → Type 0
@@ -210,5 +208,4 @@ module _ (b : List ℕ) (p : ℕ) (h : Job) (f : Fits b p h) where
       last-short k (inl s) =
           ⊎-elim {C = length (lastOf (h .progress .last) (take k ts)) ≤ 12} (λ e. subst (λ (l : List ℕ). length l ≤ 12) (sym e) (f .short))
           (λ m. let z = node-small q _ (of-nodes _ (taken q k ts _ m)) .1 in let y = s .2 in omega arith) (last-in q (h .progress .last) (take k ts))
-      last-short k (inr s) =
-          subst (λ (l : List (List ℕ)). length (lastOf (h .progress .last) l) ≤ 12) (sym (ap (take k) (no-nodes s) ∙ take-nil k)) (f .short)
+      last-short k (inr s) = subst (λ (l : List (List ℕ)). length (lastOf (h .progress .last) l) ≤ 12) (sym (ap (take k) (no-nodes s) ∙ take-nil k)) (f .short)

@@ -1,12 +1,11 @@
 -- What paper 02, #113, asks of the queue, as statements; they can be read without the proofs. Jobs come and go, and turns are given, one call after
 -- another on one queue.
 use Rattle.model.specs.Kit.{_≡_, _⊎_, Bool, false, List, [], _∷_, ℕ, suc, _+_, _*_, _^_, _≤_, _<_, length, T, eqb}
-use Rattle.model.specs.{Lists.any, Lists.at, Search.nodes, Sheet.problemOf, Run.Ending, Run.spent, Run.plansIn}
-use Rattle.model.specs.Run.{Result, resultOf, ended, answerOf, listOf, Tally, tallyOf}
+use Rattle.model.specs.{Lists.any, Lists.at, Search.nodes, Sheet.problemOf, Run.Ending, Run.spent, Run.plansIn, Run.Result, Run.resultOf, Run.ended, Run.answerOf, Run.listOf, Run.Tally, Run.tallyOf}
 use Rattle.run_cut.specs.Parts.{progressAt}
-use Rattle.desk.specs.Queue.{running, over, Job, listRoom, jobTurned, taken, waits, Queue, emptyQueue, slotAt, QueueCall}
-use Rattle.desk.specs.Queue.{submit, turn, release, QueueReply, refusal, answered, queued, idle, served, released, queueReply, queueAfter, queueEnd, queueReplies}
-use Rattle.desk.specs.{Queue.size, inner.Layout.queueOf, inner.Layout.replyOn, inner.Layout.bytesAfter}
+use Rattle.desk.specs.Queue.{running, over, Job, listRoom, jobTurned, taken, waits, Queue, emptyQueue, slotAt, QueueCall, submit, turn, release, QueueReply, refusal, answered, queued, idle}
+use Rattle.desk.specs.Queue.{served, released, queueReply, queueAfter, queueEnd, queueReplies, size}
+use Rattle.desk.specs.inner.Layout.{queueOf, replyOn, bytesAfter}
 
 -- ---- words
 -- the run alone: the job's sheet, a limit, and room for 4,096 plans

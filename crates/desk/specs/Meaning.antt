@@ -1,8 +1,8 @@
 -- What the answers mean.
 use Rattle.model.specs.Kit.{List, ℕ}
-use Rattle.desk.specs.{Queue.QueueReply, Queue.refusal, Queue.answered, Queue.queued, Queue.idle, Queue.served, Queue.released, Queue.standingBy, declared.Answer.Answer}
-use Rattle.desk.specs.{declared.Answer.the-variants.Queued, declared.Answer.the-variants.Idle, declared.Answer.the-variants.Stands, declared.Answer.the-variants.Released}
-use Rattle.desk.specs.declared.Answer.the-variants.{Refused}
+use Rattle.desk.specs.Queue.{QueueReply, refusal, answered, queued, idle, served, released, standingBy}
+use Rattle.desk.specs.declared.Answer.{Answer}
+use Rattle.desk.specs.declared.Answer.the-variants.{Queued, Idle, Stands, Released, Refused}
 
 -- the reply, given the room afterwards
 abbrev pub means : Answer → List ℕ → QueueReply

@@ -1,8 +1,8 @@
 -- A queue of jobs in eight slots (paper 02, #113: a desk, its halls and seats): a sheet, a limit (the allowance) and the run so far each; a turn makes 64 nodes (trials)
 -- of one of the runs.
 use Rattle.model.specs.Kit.{Bool, true, false, List, [], _∷_, map, ℕ, zero, suc, _+_, _*_, _%_, min, length, set, getD, replicate, leb, ltb}
-use Rattle.model.specs.{Lists.flat, Lists.below, Problem.Problem, Verdict.Verdict, Verdict.accepted, Verdict.refused, Sheet.verdictOf, Sheet.problemOf, Run.Ending, Run.finished}
-use Rattle.model.specs.Run.{spent, full, Result, written}
+use Rattle.model.specs.Run.{Ending, finished, spent, full, Result, written}
+use Rattle.model.specs.{Lists.flat, Lists.below, Problem.Problem, Verdict.Verdict, Verdict.accepted, Verdict.refused, Sheet.verdictOf, Sheet.problemOf}
 pub use Rattle.model.specs.Verdict.{Reply, refusal, answered}
 use Rattle.run_cut.specs.Parts.{Progress, start, goOn, progressAfter}
 

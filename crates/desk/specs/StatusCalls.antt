@@ -1,7 +1,7 @@
 -- What callers of `status` hold: the contract, and what it says of the bytes. b are the queue's bytes, r came back.
 use Rattle.model.specs.Kit.{_≡_, List, [], ℕ, length}
-use Rattle.desk.specs.{Queue.refusal, Queue.size, Status.statusReply, Status.noCounts, Status.statusCounts, inner.Layout.queueOf, inner.Layout.statusOn, inner.Layout.countsOn}
-use Rattle.desk.specs.{Meaning.means, declared.SlotStatus.SlotStatus}
+use Rattle.desk.specs.{Queue.refusal, Queue.size, Status.statusReply, Status.noCounts, Status.statusCounts, inner.Layout.queueOf, inner.Layout.statusOn, inner.Layout.countsOn, Meaning.means}
+use Rattle.desk.specs.{declared.SlotStatus.SlotStatus}
 
 pub record StatusDone (b : List ℕ) (slot : ℕ) (r : SlotStatus) : Type 0 where
   pub answers : means (r .answer) [] ≡ statusOn b slot

@@ -1,7 +1,7 @@
 -- The counts put into a slot's bytes, one after the other. Assumes nothing.
 use Rattle.model.specs.Kit.{_≡_, sym, ap, ap₂, _∙_, List, [], _∷_, _++_, map, append-nil, ℕ, _+_, _*_, _≤_, _<_, add-one, arith, length, take, take-all, length-take-le}
-use lib.Seq.{take-suc}
 use Rattle.model.specs.{Lists.at, Lists.flat, Bytes.fourBytes, Written.placed}
+use lib.Seq.{take-suc}
 use Rattle.model.proofs.{Lists.flat-append, Lists.map-append, Written.placed-then, Written.placed-none}
 use Rattle.desk.specs.inner.Layout.{countBytes}
 use Rattle.desk.proofs.Counts.{count-length}

@@ -1,9 +1,9 @@
 -- Going on with a slot's run: what is lent to it stands as the slot's bytes say, and what it leaves is put back. Assumes nothing.
-use Rattle.model.specs.Kit.{_≡_, refl, sym, ap, ap₂, _∙_, subst, List, [], _++_, List·Memᴰ, append-assoc, ℕ, _+_, _-_, _*_, _≤_, min, mul-le-mul, arith, T, length, take, drop}
-use Rattle.model.specs.Kit.{length-append, length-drop, take-append-drop, length-take-le}
+use Rattle.model.specs.Kit.{_≡_, refl, sym, ap, ap₂, _∙_, subst, List, [], _++_, List·Memᴰ, append-assoc, ℕ, _+_, _-_, _*_, _≤_, min, mul-le-mul, arith, T, length, take, drop, length-append}
+use Rattle.model.specs.Kit.{length-drop, take-append-drop, length-take-le}
+use Rattle.model.specs.{Lists.at, Lists.flat, Lists.choose, Problem.Problem, Sheet.problemOf, Written.placed, Run.written, Run.Tally}
 use lib.Seq.{take-take, drop-drop, drop-append-le}
 use borrow.Rule.Slice.PartMut.{putMid}
-use Rattle.model.specs.{Lists.at, Lists.flat, Lists.choose, Problem.Problem, Sheet.problemOf, Written.placed, Run.written, Run.Tally}
 use Rattle.model.proofs.{Lists.of-T, Room.length-listed}
 use Rattle.run_cut.specs.Parts.{Progress}
 use Rattle.sheet.specs.Meaning.{compilable}

@@ -1,12 +1,12 @@
 -- Rounds: going by the slots, each is given the turns due to it, and where the turn after them begins to look is kept. Assumes nothing.
-use Rattle.model.specs.Kit.{_≡_, refl, sym, ap, ap₂, _∙_, subst, Bool, true, false, not, _⊎_, inl, inr, List, [], _∷_, map, ℕ, suc, _+_, _-_, _%_, _^_, _≤_, _<_, arith, bitAnd}
-use Rattle.model.specs.Kit.{eqb, ltb, leb, length, set, eq-eqb, ne-eqb, lt-ltb, le-leb, lt-leb, ltb-true}
-use lib.Bits.{and-lt}
+use Rattle.model.specs.Kit.{_≡_, refl, sym, ap, ap₂, _∙_, subst, Bool, true, false, not, _⊎_, inl, inr, List, [], _∷_, map, ℕ, suc, _+_, _-_, _%_, _^_, _≤_, _<_, arith, bitAnd, eqb, ltb, leb, length}
+use Rattle.model.specs.Kit.{set, eq-eqb, ne-eqb, lt-ltb, le-leb, lt-leb, ltb-true}
 use Rattle.model.specs.{Lists.at, Lists.both, Lists.choose, Lists.below, Lists.upFrom, ValueSets.has, ValueSets.maskOf}
+use lib.Bits.{and-lt}
 use Rattle.model.proofs.{Lists.both-false, Masks.is-mask, Masks.has-and, Masks.has-not, Sets.has-mask, Sets.mask-lt}
 use Rattle.desk.specs.inner.Layout.{slotPlace, jobAt, slotOf, queueOf, withRun, roundBytes, roundsBytes, roundsOn, roundsAfter}
-use Rattle.desk.specs.{Queue.Slot, Queue.free, Queue.taken, Queue.waits, Queue.Queue, Queue.slotAt, Queue.roundFrom, Queue.refusal, Queue.answered, Queue.size, Rounds.due, Rounds.dueAt, Rounds.given}
-use Rattle.desk.specs.{Rounds.roundsQueue, Rounds.RoundsReply, Rounds.roundsReply, inner.Rounds.behindLast, inner.Places.NEXT, Claims.QueueBytes}
+use Rattle.desk.specs.Queue.{Slot, free, taken, waits, Queue, slotAt, roundFrom, refusal, answered, size}
+use Rattle.desk.specs.{Rounds.due, Rounds.dueAt, Rounds.given, Rounds.roundsQueue, Rounds.RoundsReply, Rounds.roundsReply, inner.Rounds.behindLast, inner.Places.NEXT, Claims.QueueBytes}
 use Rattle.desk.proofs.{Slots.slot-in, Slots.row-length, Rounds.due-over, Rounds.due-none, Rounds.at-once, RoundCalls.Served, RoundCalls.serve, RoundCalls.rounds-bytes}
 use Rattle.desk_turns.specs.{inner.Served.ServedAt, inner.Served.GivenAt, declared.serve.Served.Served as Result}
 use Rattle.desk_waits.proofs.Finding.{place}

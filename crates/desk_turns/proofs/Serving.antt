@@ -1,19 +1,17 @@
 -- A slot that was given turns, and a turn. Assumes nothing.
-use Rattle.model.specs.Kit.{_≡_, refl, sym, ap, ap₂, _∙_, subst, Bool, true, List, ℕ, zero, suc, _+_, _-_, _*_, _/_, _%_, _^_, _≤_, _<_, min, arith, T, length, set, length-take}
-use Rattle.model.specs.Kit.{lt-ltb, le-ltb}
-use Rattle.model.specs.{Lists.at, Lists.flat, Lists.choose, Written.placed, Run.Ending, Run.finished, Run.spent, Run.full, Run.nodesIn, Run.Result, Run.Tally, Run.settledBy}
-use Rattle.model.specs.Run.{countsBy}
+use Rattle.model.specs.Kit.{_≡_, refl, sym, ap, ap₂, _∙_, subst, Bool, true, List, ℕ, zero, suc, _+_, _-_, _*_, _/_, _%_, _^_, _≤_, _<_, min, arith, T, length, set, length-take, lt-ltb, le-ltb}
+use Rattle.model.specs.{Lists.at, Lists.flat, Lists.choose, Written.placed, Run.Ending, Run.finished, Run.spent, Run.full, Run.nodesIn, Run.Result, Run.Tally, Run.settledBy, Run.countsBy}
 use Rattle.model.proofs.{Lists.T-of, Lists.of-T, Written.length-placed, Written.placed-then, Tally.length-counts, Tally.count-most}
 use Rattle.run_state.specs.{inner.Pair.prefixOf, inner.Walk.stopIn}
 use Rattle.run_cut.specs.Parts.{nodesAfter, goOn, madeIn, added}
 use Rattle.desk.specs.Queue.{Standing, running, over, goesOn, Job, listRoom, standingAfter, jobAfter, jobTurned, Slot, taken, waits, slotTurned, slotAt, Found, none-found, slot, roundFrom, toServe}
 use Rattle.desk.specs.Queue.{turn, QueueReply, idle, served, servedAs, turnReply, refusal, answered, size, standingBy}
-use Rattle.desk.specs.inner.Layout.{slotPlace, long, nodesAt, countsAt, jobAt, slotOf, queueOf, standingByte, stateBytes, countBytes, runBytes, withRun, turnBytes, replyOn, bytesAfter}
 use Rattle.desk.specs.{Rounds.turned, Rounds.due, Rounds.given, inner.Places.LIMIT, inner.Places.STANDING, inner.Places.COUNTS, inner.Places.LIST, inner.Places.NEXT, Claims.QueueBytes}
+use Rattle.desk.specs.inner.Layout.{slotPlace, long, nodesAt, countsAt, jobAt, slotOf, queueOf, standingByte, stateBytes, countBytes, runBytes, withRun, turnBytes, replyOn, bytesAfter}
 use Rattle.desk.specs.inner.Finding.{found}
-use Rattle.desk.proofs.{Queue.first-in, Bytes.placed-apart, Slots.long-small, Slots.slot-in, Slots.free-at, Slots.taken-at, Slots.reply-whole, Slots.reply-wrong, Slots.bytes-whole}
-use Rattle.desk.proofs.{Slots.bytes-wrong, Turning.Fits, Turning.at-fits, Turned.state-length, Turned.run-length, Turned.text-length, Counts.counts-most, RoundCalls.turns-fit}
+use Rattle.desk.proofs.Slots.{long-small, slot-in, free-at, taken-at, reply-whole, reply-wrong, bytes-whole, bytes-wrong}
 use Rattle.desk.proofs.Stretch.{stretchLimit, stretch, turnsFor, Stretched, stretched}
+use Rattle.desk.proofs.{Queue.first-in, Bytes.placed-apart, Turning.Fits, Turning.at-fits, Turned.state-length, Turned.run-length, Turned.text-length, Counts.counts-most, RoundCalls.turns-fit}
 use Rattle.arrays.specs.inner.Places.{PLANS, LAST}
 use Rattle.desk_turns.specs.{inner.Served.problemAt, inner.Served.goneOn, inner.Served.PartDone, inner.Served.Shows, inner.Served.ServedAt, declared.serve.Served.Served}
 

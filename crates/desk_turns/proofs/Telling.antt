@@ -1,6 +1,6 @@
 -- The bytes of a slot that say where its run stands. Assumes nothing.
-use Rattle.model.specs.Kit.{_≡_, refl, sym, ap, ap₂, _∙_, Bool, true, false, List, _∷_, _++_, append-assoc, ℕ, _+_, _-_, _/_, _%_, _≤_, _<_, arith, ltb, length, set, replicate}
-use Rattle.model.specs.Kit.{length-append, length-replicate, ltb-true, ltb-false}
+use Rattle.model.specs.Kit.{_≡_, refl, sym, ap, ap₂, _∙_, Bool, true, false, List, _∷_, _++_, append-assoc, ℕ, _+_, _-_, _/_, _%_, _≤_, _<_, arith, ltb, length, set, replicate, length-append}
+use Rattle.model.specs.Kit.{length-replicate, ltb-true, ltb-false}
 use Rattle.model.specs.{Lists.at, Bytes.fourBytes, Written.placed, inner.Filling.Filled}
 use Rattle.model.proofs.Lists.{at-ext, at-append, at-skip, at-replicate}
 use Rattle.arrays.specs.inner.Places.{PLANS, LAST}

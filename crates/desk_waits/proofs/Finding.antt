@@ -1,6 +1,6 @@
 -- The slot that a turn serves: the first in the round whose run hasn't ended; all such slots. Assumes nothing.
-use Rattle.model.specs.Kit.{_≡_, refl, sym, ap, _∙_, subst, Bool, true, false, List, map, Memᴰ·of-map, ℕ, zero, suc, _+_, _%_, _^_, _≤_, _<_, min, arith, eqb, ltb, pow-lt}
-use Rattle.model.specs.Kit.{eqb-true, eqb-false, lt-ltb, le-ltb, ltb-true, ltb-false, eq-eqb, ne-eqb}
+use Rattle.model.specs.Kit.{_≡_, refl, sym, ap, _∙_, subst, Bool, true, false, List, map, Memᴰ·of-map, ℕ, zero, suc, _+_, _%_, _^_, _≤_, _<_, min, arith, eqb, ltb, pow-lt, eqb-true, eqb-false, lt-ltb}
+use Rattle.model.specs.Kit.{le-ltb, ltb-true, ltb-false, eq-eqb, ne-eqb}
 use Rattle.model.specs.{Lists.at, Lists.both, Lists.choose, Lists.below, ValueSets.has, ValueSets.maskOf, ValueSets.oneIf, inner.Filling.Gathered}
 use Rattle.model.proofs.{Lists.below-e, Filling.gathered-is, Masks.is-mask}
 use Rattle.desk.specs.{Queue.goesOn, Queue.waits, Queue.slotAt, Queue.none-found, Queue.slot, Queue.toServe, Queue.standingBy, inner.Places.STANDING, inner.Places.NEXT, inner.Layout.slotPlace}

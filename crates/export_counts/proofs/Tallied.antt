@@ -1,7 +1,7 @@
 -- Twelve counts as bytes. Assumes nothing.
 use Rattle.model.specs.Kit.{_≡_, refl, sym, ap, _∙_, subst, List, [], _∷_, _++_, ℕ, _+_, _*_, _≤_, _<_, add-one, arith, length, take, getD, length-append, take-all}
-use lib.Seq.{take-suc}
 use Rattle.model.specs.{Lists.at, Bytes.fourBytes, Written.Written}
+use lib.Seq.{take-suc}
 use Rattle.model.proofs.Written.{written-then, written-none}
 use Rattle.wire.specs.Wire.{threeNumbers}
 use Rattle.export_counts.specs.Tallied.{numbersOf}

@@ -1,15 +1,15 @@
 -- What the queue's exported calls answer: a reply's numbers fit the code and the answer; answers of the length asked and of another. Assumes nothing.
-use Rattle.model.specs.Kit.{_≡_, refl, sym, ap, ap₂, _∙_, subst, Bool, true, false, List, [], _++_, Memᴰ·of-map, ℕ, zero, suc, _+_, _*_, _%_, _≤_, _<_, min, mul-le-mul, arith, eqb}
-use Rattle.model.specs.Kit.{ltb, length, length-append, eq-eqb, ne-eqb, eqb-true, eqb-false, ltb-true, ltb-false}
+use Rattle.model.specs.Kit.{_≡_, refl, sym, ap, ap₂, _∙_, subst, Bool, true, false, List, [], _++_, Memᴰ·of-map, ℕ, zero, suc, _+_, _*_, _%_, _≤_, _<_, min, mul-le-mul, arith, eqb, ltb, length}
+use Rattle.model.specs.Kit.{length-append, eq-eqb, ne-eqb, eqb-true, eqb-false, ltb-true, ltb-false}
 use Rattle.model.specs.{Lists.at, Lists.choose, Lists.below, Verdict.Verdict, Verdict.accepted, Verdict.refused, Sheet.verdictOf, Bytes.fourBytes, Written.Written}
-use Rattle.model.proofs.{Lists.below-e, Lists.at-replicate, Room.length-flat, Written.written-then, Lists.never}
+use Rattle.model.proofs.{Lists.below-e, Lists.at-replicate, Lists.never, Room.length-flat, Written.written-then}
 use Rattle.wire.specs.Wire.{wrongLength, threeNumbers}
 use Rattle.wire.proofs.{Codes.Small, Codes.verdict-small, Numbers.whole}
 use Rattle.desk.specs.Queue.{Job, jobTurned, Slot, free, taken, isFree, waits, slotTurned, slotAt, Found, none-found, slot, lowestFree, roundFrom, toServe, QueueCall, submit, turn, release}
 use Rattle.desk.specs.Queue.{QueueReply, refusal, servedAs, submitReply, turnReply, fits, releaseFor, releaseReply, jobIn, size, standingBy}
-use Rattle.desk.specs.inner.Layout.{slotPlace, widthAt, jobAt, queueOf, replyOn, statusOn, countsOn, bytesAfter, roundsOn, roundsAfter}
-use Rattle.desk.specs.{Status.statusFor, Status.noCounts, Rounds.RoundsReply, Rounds.roundsReply, inner.Places.LIMIT, Meaning.means, Meaning.roomAfter, declared.Answer.Answer}
 use Rattle.desk.specs.declared.Answer.the-variants.{Queued, Idle, Stands, Released, Refused}
+use Rattle.desk.specs.{Status.statusFor, Status.noCounts, Rounds.RoundsReply, Rounds.roundsReply, inner.Places.LIMIT, Meaning.means, Meaning.roomAfter, declared.Answer.Answer}
+use Rattle.desk.specs.inner.Layout.{slotPlace, widthAt, jobAt, queueOf, replyOn, statusOn, countsOn, bytesAfter, roundsOn, roundsAfter}
 use Rattle.desk.proofs.{Queue.first-in, Slots.long-small, Slots.slot-in, Slots.slot-out, Slots.free-at, Slots.taken-at, Turning.Fits, Turning.at-fits, Turning.turned-fits}
 use Rattle.export_counts.specs.{Tallied.numbersOf, inner.Inner.Twelve}
 use Rattle.export_counts.proofs.Tallied.{length-numbers}

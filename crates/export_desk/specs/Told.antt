@@ -4,8 +4,8 @@ use Rattle.model.specs.Kit.{_≡_, List, _++_, ℕ, _+_, _*_, eqb, length}
 use Rattle.model.specs.{Lists.choose, Bytes.fourBytes, Run.finished, Run.spent, Run.full}
 use Rattle.wire.specs.Wire.{wrongLength, threeNumbers}
 use Rattle.desk.specs.Queue.{Standing, running, over, QueueCall, submit, turn, release, QueueReply, Reply, refusal, answered, queued, idle, served, released}
-use Rattle.desk.specs.{Rounds.RoundsReply, inner.Layout.replyOn, inner.Layout.statusOn, inner.Layout.countsOn, inner.Layout.bytesAfter, inner.Layout.roundsOn, inner.Layout.roundsAfter}
-use Rattle.desk.specs.Meaning.{roomAfter}
+use Rattle.desk.specs.inner.Layout.{replyOn, statusOn, countsOn, bytesAfter, roundsOn, roundsAfter}
+use Rattle.desk.specs.{Rounds.RoundsReply, Meaning.roomAfter}
 use Rattle.export_counts.specs.Tallied.{numbersOf}
 
 -- four numbers of four bytes

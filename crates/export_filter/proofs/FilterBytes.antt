@@ -1,11 +1,10 @@
 -- What a caller of the filter holds in bytes (specs/FilterBytes). Assumes nothing.
-use Rattle.model.specs.Kit.{_≡_, refl, sym, ap, ap₂, _∙_, Bool, true, false, inl, inr, List, [], _∷_, ℕ, zero, suc, _+_, _*_, _/_, _%_, _^_, _<_, arith, length, ltb, ltb-true}
-use Rattle.model.specs.Kit.{ltb-false}
-use Rattle.model.specs.{Lists.at, Verdict.Verdict, Nogood.failed, Nogood.entailed, Nogood.consistent, Nogood.FilterAnswer, Nogood.refusal, Nogood.answered, Nogood.entries}
-use Rattle.model.specs.Nogood.{filterEnding, filterVerdict, filterAnswer, setsAfter}
-use Rattle.model.proofs.{Lists.at-out, Demands.reply-refused, Lists.never}
-use Rattle.filter.specs.{Meaning.means, FilterCalls.CallFilter, FilterCalls.EntryRight, FilterCalls.ListsRight, declared.Answer.Answer, declared.Answer.the-variants.Failed}
-use Rattle.filter.specs.declared.Answer.the-variants.{Entailed, Consistent, Refused}
+use Rattle.model.specs.Kit.{_≡_, refl, sym, ap, ap₂, _∙_, Bool, true, false, inl, inr, List, [], _∷_, ℕ, zero, suc, _+_, _*_, _/_, _%_, _^_, _<_, arith, length, ltb, ltb-true, ltb-false}
+use Rattle.model.specs.Nogood.{failed, entailed, consistent, FilterAnswer, refusal, answered, entries, filterEnding, filterVerdict, filterAnswer, setsAfter}
+use Rattle.model.specs.{Lists.at, Verdict.Verdict}
+use Rattle.model.proofs.{Lists.at-out, Lists.never, Demands.reply-refused}
+use Rattle.filter.specs.declared.Answer.the-variants.{Failed, Entailed, Consistent, Refused}
+use Rattle.filter.specs.{Meaning.means, FilterCalls.CallFilter, FilterCalls.EntryRight, FilterCalls.ListsRight, declared.Answer.Answer}
 use Rattle.filter.proofs.FilterCalls.{filter-calls}
 use Rattle.export_filter.specs.{Filter.filterAnswerCode, Filter.setsIn, Filter.bytesOf, Filter.filteredBytes, FilterBytes.codeOf, FilterBytes.Bytes-held}
 use Rattle.export_filter.proofs.{SetBytes.length-sets, SetBytes.at-sets, SetBytes.bytes-back, Filtered.odd-code, Filtered.odd-bytes, Filtered.even-code, Filtered.even-bytes}

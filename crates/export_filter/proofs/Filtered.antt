@@ -1,8 +1,7 @@
 -- The filter's code and bytes: the item of a refusal is below 256; an odd number of bytes, too many sets, and a refusal. Assumes nothing.
-use Rattle.model.specs.Kit.{_≡_, refl, sym, ap, _∙_, Bool, true, false, not, List, ℕ, zero, suc, _*_, _%_, _≤_, _<_, arith, eqb, leb, length, getD, eq-eqb, ne-eqb, lt-leb}
-use Rattle.model.specs.Kit.{leb-true}
-use Rattle.model.specs.{Lists.both, Lists.at, ValueSets.least, ValueSets.leastStep, Verdict.Verdict, Verdict.accepted, Verdict.refused, Verdict.ask, Verdict.reply, Nogood.refusal}
-use Rattle.model.specs.Nogood.{entryOk, entries, firstWrong, filterVerdict, filterAnswer, filterEnding, setsAfter}
+use Rattle.model.specs.Kit.{_≡_, refl, sym, ap, _∙_, Bool, true, false, not, List, ℕ, zero, suc, _*_, _%_, _≤_, _<_, arith, eqb, leb, length, getD, eq-eqb, ne-eqb, lt-leb, leb-true}
+use Rattle.model.specs.Nogood.{refusal, entryOk, entries, firstWrong, filterVerdict, filterAnswer, filterEnding, setsAfter}
+use Rattle.model.specs.{Lists.both, Lists.at, ValueSets.least, ValueSets.leastStep, Verdict.Verdict, Verdict.accepted, Verdict.refused, Verdict.ask, Verdict.reply}
 use Rattle.wire.specs.Wire.{wrongLength}
 use Rattle.wire.proofs.Codes.{Small, ask-small}
 use Rattle.export_filter.specs.Filter.{filterAnswerCode, setsIn, bytesOf, filteredBytes, filterCode, filterBytes, SmallAnswer}
@@ -62,8 +61,7 @@ module _ (sets xs es us : List ℕ) where
   -- a refusal leaves the bytes as they came
   pub refused-bytes : (n number item : ℕ) → length sets ≡ 2 * n → ((i : ℕ) → getD sets i 0 < 256) → filterVerdict (setsIn sets) xs es us ≡ refused number item → sets ≡ filteredBytes sets xs es us
   unfolding filteredBytes setsAfter
-  refused-bytes n number item h bytes e =
-      sym (ap (λ (v : Verdict). bytesOf (setsAfter v (setsIn sets) (entries xs es us))) e ∙ bytes-back sets n h bytes)
+  refused-bytes n number item h bytes e = sym (ap (λ (v : Verdict). bytesOf (setsAfter v (setsIn sets) (entries xs es us))) e ∙ bytes-back sets n h bytes)
 
   -- more than twelve sets
   pub many : (n : ℕ) → length sets ≡ 2 * n → 12 < n → filterVerdict (setsIn sets) xs es us ≡ refused 17 0

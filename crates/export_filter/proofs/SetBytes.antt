@@ -1,8 +1,7 @@
 -- Sets as pairs of bytes: reading, writing, and back again. Assumes nothing.
-use Rattle.model.specs.Kit.{_≡_, refl, sym, ap, ap₂, _∙_, subst, List, [], _∷_, _++_, ℕ, zero, suc, _+_, _*_, _-_, _/_, _%_, _≤_, _<_, add-one, arith, length, take, getD, set}
-use Rattle.model.specs.Kit.{below-more}
-use lib.Seq.{take-suc, ext-getD, getD-set-same, getD-set-other}
+use Rattle.model.specs.Kit.{_≡_, refl, sym, ap, ap₂, _∙_, subst, List, [], _∷_, _++_, ℕ, zero, suc, _+_, _*_, _-_, _/_, _%_, _≤_, _<_, add-one, arith, length, take, getD, set, below-more}
 use Rattle.model.specs.Written.{Written}
+use lib.Seq.{take-suc, ext-getD, getD-set-same, getD-set-other}
 use Rattle.model.proofs.Written.{written-then}
 use Rattle.export_filter.specs.Filter.{setsIn, bytesOf}
 

@@ -1,7 +1,7 @@
 -- planner_filter (paper 02, #102): what it answers, and the bytes of the sets afterwards.
 use Rattle.model.specs.Kit.{true, false, List, [], _∷_, _++_, ℕ, _+_, _*_, _%_, _<_, eqb, length}
-use Rattle.model.specs.{Bytes.twoBytes, Nogood.FilterEnding, Nogood.failed, Nogood.entailed, Nogood.consistent, Nogood.FilterAnswer, Nogood.refusal, Nogood.answered}
-use Rattle.model.specs.Nogood.{entries, filterVerdict, filterAnswer, setsAfter}
+use Rattle.model.specs.Bytes.{twoBytes}
+use Rattle.model.specs.Nogood.{FilterEnding, failed, entailed, consistent, FilterAnswer, refusal, answered, entries, filterVerdict, filterAnswer, setsAfter}
 use Rattle.wire.specs.Wire.{wrongLength}
 
 -- sets of values as pairs of bytes, low byte first

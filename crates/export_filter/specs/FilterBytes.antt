@@ -2,8 +2,8 @@
 -- `FilterHeld` says of sets and answer. proofs/FilterBytes has the theorem.
 use Rattle.model.specs.Kit.{_≡_, List, ℕ, _+_, _*_, _%_, _<_, length}
 use Rattle.model.specs.Lists.{at}
-use Rattle.filter.specs.{FilterCalls.FilterHeld, declared.Answer.Answer, declared.Answer.the-variants.Failed, declared.Answer.the-variants.Entailed}
-use Rattle.filter.specs.declared.Answer.the-variants.{Consistent, Refused}
+use Rattle.filter.specs.declared.Answer.the-variants.{Failed, Entailed, Consistent, Refused}
+use Rattle.filter.specs.{FilterCalls.FilterHeld, declared.Answer.Answer}
 use Rattle.wire.specs.Wire.{wrongLength}
 use Rattle.export_filter.specs.Filter.{setsIn, filterCode, filterBytes}
 

@@ -1,14 +1,13 @@
 -- The pieces of the answer as they are made, and the whole. Assumes nothing.
-use Rattle.model.specs.Kit.{_≡_, refl, sym, ap, ap₂, _∙_, subst, Bool, true, false, List, [], _∷_, _++_, ℕ, zero, suc, _+_, _-_, _*_, _/_, _%_, _≤_, add-one, arith, eqb, length}
-use Rattle.model.specs.Kit.{set, replicate, length-set, eq-eqb, ne-eqb}
+use Rattle.model.specs.Kit.{_≡_, refl, sym, ap, ap₂, _∙_, subst, Bool, true, false, List, [], _∷_, _++_, ℕ, zero, suc, _+_, _-_, _*_, _/_, _%_, _≤_, add-one, arith, eqb, length, set, replicate}
+use Rattle.model.specs.Kit.{length-set, eq-eqb, ne-eqb}
 use Rattle.model.specs.{Bytes.fourBytes, Lists.at, Lists.choose, Lists.tabulate, Written.Written, Verdict.Verdict, Verdict.accepted, Verdict.refused}
 use Rattle.model.proofs.{Written.written-byte, Written.written-then, Written.written-none, Lists.tabulate-snoc}
 use Rattle.wire.specs.Wire.{wrongLength}
 use Rattle.wire.proofs.Numbers.{whole}
 use Rattle.run_join.proofs.{Orders.tabulate-same, Turns.startBytes, Turns.endBytes}
-use Rattle.run_join.specs.{Join.joinVerdict, Join.kindAt, Join.reachPlace, Join.plansOf, Join.nodesOf, Join.countOf, Calls.answerFor, Calls.figureFor, Calls.CallJoin}
-use Rattle.run_join.specs.{declared.Joining.Joining, declared.Answer.Answer, declared.Answer.the-variants.Refused, declared.Answer.the-variants.Joined}
-use Rattle.run_join.specs.declared.Answer.the-variants.{Missing}
+use Rattle.run_join.specs.{Join.joinVerdict, Join.kindAt, Join.reachPlace, Join.plansOf, Join.nodesOf, Join.countOf, Calls.answerFor, Calls.figureFor, Calls.CallJoin, declared.Joining.Joining}
+use Rattle.run_join.specs.{declared.Answer.Answer, declared.Answer.the-variants.Refused, declared.Answer.the-variants.Joined, declared.Answer.the-variants.Missing}
 use Rattle.export_join.specs.Joined.{eightBytes, widesOf, pathBytesAt, standBytes, beginBytes, joinBytes, joinCodeFor, joinAnswerFor, joinCode, joinAnswer, CallJoinBytes}
 
 -- ---- a number in eight bytes

@@ -2,8 +2,8 @@
 use Rattle.model.specs.Kit.{_≡_, List, [], _∷_, _++_, ℕ, zero, suc, _+_, _*_, _/_, _%_, eqb, length, replicate}
 use Rattle.model.specs.{Bytes.fourBytes, Lists.at, Lists.choose, Lists.tabulate}
 use Rattle.wire.specs.Wire.{wrongLength}
-use Rattle.run_join.specs.{Join.joinVerdict, Join.reachPlace, Join.plansOf, Join.nodesOf, Join.countOf, Calls.answerFor, declared.Answer.Answer}
-use Rattle.run_join.specs.declared.Answer.the-variants.{Refused, Joined, Missing}
+use Rattle.run_join.specs.Join.{joinVerdict, reachPlace, plansOf, nodesOf, countOf}
+use Rattle.run_join.specs.{Calls.answerFor, declared.Answer.Answer, declared.Answer.the-variants.Refused, declared.Answer.the-variants.Joined, declared.Answer.the-variants.Missing}
 
 -- a number in eight bytes, low byte first; numbers one after another
 unfoldable pub eightBytes : ℕ → List ℕ

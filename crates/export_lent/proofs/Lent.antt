@@ -1,8 +1,8 @@
 -- What `planner_question_lent` and `planner_run_lent` answer, by what they called; the item of a refusal of pairs or a block is below 256 too.
 -- Assumes nothing.
 use Rattle.model.specs.Kit.{_≡_, refl, sym, ap, _∙_, subst, Bool, List, [], _∷_, ℕ, _%_, _^_, _<_, _≤_, arith, leb, ltb, eqb, length, eq-eqb, ne-eqb}
-use Rattle.model.specs.{Lists.all, Lists.at, Lists.both, Lists.choose, Problem.Problem, Verdict.Verdict, Verdict.accepted, Verdict.refused, Verdict.ask, Sheet.problemOf}
-use Rattle.model.specs.{Sheet.verdictOf, Sheet.symmetriesVerdict, Run.Answer, Run.refusal, Run.ended, Run.Ending, Run.nodesIn, Run.Tally}
+use Rattle.model.specs.{Lists.all, Lists.at, Lists.both, Lists.choose, Problem.Problem, Verdict.Verdict, Verdict.accepted, Verdict.refused, Verdict.ask, Sheet.problemOf, Sheet.verdictOf}
+use Rattle.model.specs.{Sheet.symmetriesVerdict, Run.Answer, Run.refusal, Run.ended, Run.Ending, Run.nodesIn, Run.Tally}
 use Rattle.model.proofs.{Tally.at-total, Demands.reply-refused, Lists.T-of, Lists.length-below, Accepted.symmetries-are, Accepted.passed, Accepted.is-accepted}
 use Rattle.order.specs.{Order.settlesAll, Order.orderVerdict, RunBy.resultBy, RunBy.placeCounts, RunBy.answerBy}
 use Rattle.order.proofs.Demanded.{ran-by}

@@ -1,7 +1,7 @@
 -- What `run_part` answers, by what it called: the figures fit, and the pieces fill the head. Assumes nothing.
 use Rattle.model.specs.Kit.{_≡_, sym, ap, ap₂, _∙_, subst, Bool, List, [], _++_, ℕ, _^_, _≤_, _<_, arith, length, take, length-take, eq-eqb, ne-eqb}
-use Rattle.model.specs.{Lists.at, Lists.choose, Lists.keep, Problem.Problem, Verdict.refused, Search.isPlan, Run.Ending, Run.finished, Run.spent, Run.full, Run.plansIn}
-use Rattle.model.specs.{Run.nodesIn, Run.search, Run.Answer, Run.refusal, Run.ended, Run.settledBy, Run.countsBy, Written.Written}
+use Rattle.model.specs.Run.{Ending, finished, spent, full, plansIn, nodesIn, search, Answer, refusal, ended, settledBy, countsBy}
+use Rattle.model.specs.{Lists.at, Lists.choose, Lists.keep, Problem.Problem, Verdict.refused, Search.isPlan, Written.Written}
 use Rattle.model.proofs.{Runs.Ended, Runs.walk, Tally.length-counts, Tally.count-most, Written.written-then, Demands.reply-so, Demands.reply-refused}
 use Rattle.families.proofs.FamilyCount.{keep-length}
 use Rattle.run_input.specs.Lent.{verdictLent, problemLent, orderLent}

@@ -1,8 +1,7 @@
 -- The pieces of a head as they are made: a digest byte by byte, a path value by value, texts one behind the other. Assumes nothing.
-use Rattle.model.specs.Kit.{_≡_, refl, sym, ap, ap₂, _∙_, subst, List, [], _∷_, _++_, ℕ, suc, _+_, _*_, _%_, _≤_, _<_, min, add-one, arith, length, take, getD, set, length-take}
-use Rattle.model.specs.Kit.{take-all, getD-take}
-use lib.Seq.{take-suc}
+use Rattle.model.specs.Kit.{_≡_, refl, sym, ap, ap₂, _∙_, subst, List, [], _∷_, _++_, ℕ, suc, _+_, _*_, _%_, _≤_, _<_, min, add-one, arith, length, take, getD, set, length-take, take-all, getD-take}
 use Rattle.model.specs.{Lists.at, Lists.tabulate, Bytes.fourBytes, Written.Written}
+use lib.Seq.{take-suc}
 use Rattle.model.proofs.{Lists.length-tabulate, Lists.at-out, Written.written-byte, Written.written-then}
 use Rattle.wire.specs.Wire.{threeNumbers}
 use Rattle.export_counts.specs.Tallied.{numbersOf}

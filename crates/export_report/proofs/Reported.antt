@@ -1,10 +1,8 @@
 -- What a run's answer says of the report. Assumes nothing.
-use Rattle.model.specs.Kit.{_≡_, refl, sym, ap, ap₂, _∙_, subst, Bool, true, false, List, [], _∷_, ℕ, _*_, _≤_, _<_, arith, eqb, leb, length, take, drop, length-append, le-leb}
-use Rattle.model.specs.Kit.{lt-leb}
+use Rattle.model.specs.Kit.{_≡_, refl, sym, ap, ap₂, _∙_, subst, Bool, true, false, List, [], _∷_, ℕ, _*_, _≤_, _<_, arith, eqb, leb, length, take, drop, length-append, le-leb, lt-leb}
+use Rattle.model.specs.{Lists.at, Lists.choose, Bytes.fourBytes, Verdict.Verdict, Verdict.accepted, Verdict.refused, Verdict.ask, Verdict.kept, Room.Outcome, Room.wrote, Room.refusal, Room.outcomeOf}
+use Rattle.model.specs.{Room.roomAfter, Sheet.headerOf, Sheet.problemOf, Sheet.verdictOf, Run.Ending, Run.plansIn, Run.resultOf, Run.ended, Run.answerOf, Run.written, Run.listOf, Run.listedPlans}
 use native.Mathlib.Nat.{le-of-mul-le-mul-right}
-use Rattle.model.specs.{Lists.at, Lists.choose, Bytes.fourBytes, Verdict.Verdict, Verdict.accepted, Verdict.refused, Verdict.ask, Verdict.kept, Room.Outcome, Room.wrote}
-use Rattle.model.specs.{Room.refusal, Room.outcomeOf, Room.roomAfter, Sheet.headerOf, Sheet.problemOf, Sheet.verdictOf, Run.Ending, Run.plansIn, Run.resultOf, Run.ended}
-use Rattle.model.specs.Run.{answerOf, written, listOf, listedPlans}
 use Rattle.report.specs.{Report.line, Report.refusedWord, Report.resultText, Report.reportFor, Report.reportOf, Report.REPORT-LIMIT, inner.Text.endedText, inner.Text.Fitted}
 use Rattle.families_figure.specs.Figure.{reportFigure}
 use Rattle.families_count.specs.inner.Held.{Sized}

@@ -1,7 +1,7 @@
 -- What a run's answer says of its counts, and `run`'s code and bytes. Assumes nothing.
 use Rattle.model.specs.Kit.{_≡_, sym, ap, _∙_, subst, Bool, List, ℕ, _^_, _≤_, _<_, arith, length, take, length-take, eq-eqb, ne-eqb}
-use Rattle.model.specs.{Lists.choose, Problem.Problem, Verdict.refused, Sheet.problemOf, Sheet.verdictOf, Search.nodes, Search.isPlan, Run.Ending, Run.finished, Run.spent}
-use Rattle.model.specs.{Run.full, Run.plansIn, Run.nodesIn, Run.resultOf, Run.Answer, Run.refusal, Run.ended, Run.answerOf, Run.listOf, Claims.plansAmong, Claims.CountsAt}
+use Rattle.model.specs.Run.{Ending, finished, spent, full, plansIn, nodesIn, resultOf, Answer, refusal, ended, answerOf, listOf}
+use Rattle.model.specs.{Lists.choose, Problem.Problem, Verdict.refused, Sheet.problemOf, Sheet.verdictOf, Search.nodes, Search.isPlan, Claims.plansAmong, Claims.CountsAt}
 use Rattle.model.proofs.{Demands.reply-so, Demands.reply-refused, Runs.nodes-allowed, Runs.counts, Lists.keep-most}
 use Rattle.wire.specs.Wire.{wrongLength}
 use Rattle.export_run.specs.{Run.answerCode, Run.answerBytes, Run.runCode, Run.runList, Run.runAnswer, inner.Inner.Counted, Calls.CallExported}

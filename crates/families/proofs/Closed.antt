@@ -1,14 +1,13 @@
 -- Closed symmetries: what is joined is joined by one of them, so the leaders are the earliest of their families (specs/Families). Assumes nothing.
-use Rattle.model.specs.Kit.{_≡_, refl, sym, ap, _∙_, subst, _⊎_, inl, inr, ⊎-elim, List, map, List·Memᴰ, Memᴰ·cast, Memᴰ·map, Memᴰ·of-map, ℕ, _*_, _<_, T, eqb, eqb→eq, length}
-use Rattle.model.specs.Kit.{eq-eqb}
-use Rattle.model.specs.{Lists.both, Lists.below, Lists.at, Lists.earlier, Problem.Problem, Problem.pair, Problem.pairsOf, Problem.within, Problem.takes, Problem.isSolution}
-use Rattle.model.specs.{Problem.assignments, Claims.Leader, Claims.isLeader, Claims.leaders, inner.WellFormed.WellFormed, inner.WellFormed.Respected}
+use Rattle.model.specs.Kit.{_≡_, refl, sym, ap, _∙_, subst, _⊎_, inl, inr, ⊎-elim, List, map, List·Memᴰ, Memᴰ·cast, Memᴰ·map, Memᴰ·of-map, ℕ, _*_, _<_, T, eqb, eqb→eq, length, eq-eqb}
+use Rattle.model.specs.Problem.{Problem, pair, pairsOf, within, takes, isSolution, assignments}
+use Rattle.model.specs.{Lists.both, Lists.below, Lists.at, Lists.earlier, Claims.Leader, Claims.isLeader, Claims.leaders, inner.WellFormed.WellFormed, inner.WellFormed.Respected}
 use Rattle.families.specs.Families.{Joined, alone, further, solutionsOf, isEarliest, earliestOf, familiesOf, Makes, MovesNothing, Closed, makes, movesNothing}
 use Rattle.families.specs.inner.FamilyClaims.{One-leader-each, OneLeaderEach}
 use Rattle.model.proofs.Lists.{earlier-asym, T-of, T-ext, both-i, both-l, both-r, all-i, all-e, keep-ext, below-i, below-e, at-ext}
 use Rattle.model.proofs.{Tree.solution-e, Leaders.takes-in, Leaders.takes-on, Leaders.leader-i, Leaders.leader-e}
-use Rattle.families.proofs.{Joined.joined-from, Joined.joined-to, Joined.joined-one, Joined.joined-trans, Joined.joined-sym, FamilyCount.row-order, FamilyCount.keep-keep}
-use Rattle.families.proofs.FamilyCount.{earliest-i, earliest-e, earliest-of}
+use Rattle.families.proofs.Joined.{joined-from, joined-to, joined-one, joined-trans, joined-sym}
+use Rattle.families.proofs.FamilyCount.{row-order, keep-keep, earliest-i, earliest-e, earliest-of}
 use Rattle.model.proofs.Pairs as P
 
 -- ---- the tests of two symmetries

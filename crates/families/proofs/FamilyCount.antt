@@ -1,13 +1,13 @@
 -- The family of a solution holds exactly those joined to it, and the number of families is that of any list with one solution of each
 -- (specs/Families). Assumes nothing.
-use Rattle.model.specs.Kit.{_≡_, refl, sym, ap, ap₂, _∙_, subst, Bool, true, false, _⊎_, inl, inr, ⊎-elim, List, [], _∷_, List·Memᴰ, List·Memᴰ·head, List·Memᴰ·tail}
-use Rattle.model.specs.Kit.{List·Memᴰ·not-nil, List·Memᴰ·cases-cons, ℕ, zero, suc, _≤_, _<_, ℕ-discrete, decLt, arith, T, T-not, not-T, length}
+use Rattle.model.specs.Kit.{_≡_, refl, sym, ap, ap₂, _∙_, subst, Bool, true, false, _⊎_, inl, inr, ⊎-elim, List, [], _∷_, List·Memᴰ, List·Memᴰ·head, List·Memᴰ·tail, List·Memᴰ·not-nil}
+use Rattle.model.specs.Kit.{List·Memᴰ·cases-cons, ℕ, zero, suc, _≤_, _<_, ℕ-discrete, decLt, arith, T, T-not, not-T, length}
 use Rattle.model.specs.{Lists.both, Lists.either, Lists.any, Lists.keep, Lists.same, Lists.earlier, Problem.Problem, Problem.isSolution, Problem.assignments, Problem.takes}
 use Rattle.model.specs.inner.WellFormed.{WellFormed, Respected}
 use Rattle.families.specs.Families.{Joined, alone, further, solutionsOf, widened, reachedIn, familyOf, isEarliest, earliestOf, familiesOf, Apart, OneOfEach, FamilyCount}
 use Rattle.families.specs.inner.FamilyClaims.{Families-counted}
-use Rattle.model.proofs.Lists.{earlier-asym, T-of, of-not, either-l, either-r, either-e, any-i, any-e, keep-yes, keep-no, keep-i, keep-e, same-eq, same-refl, earlier-lt}
-use Rattle.model.proofs.{Lists.earlier-eq, Lists.Sorted, Lists.sorted-keep, Assignments.assignments-sorted, Leaders.sol-drawn}
+use Rattle.model.proofs.{Lists.earlier-asym, Lists.T-of, Lists.of-not, Lists.either-l, Lists.either-r, Lists.either-e, Lists.any-i, Lists.any-e, Lists.keep-yes, Lists.keep-no, Lists.keep-i}
+use Rattle.model.proofs.{Lists.keep-e, Lists.same-eq, Lists.same-refl, Lists.earlier-lt, Lists.earlier-eq, Lists.Sorted, Lists.sorted-keep, Assignments.assignments-sorted, Leaders.sol-drawn}
 use Rattle.families.proofs.Joined.{joined-to, joined-trans, joined-sym}
 
 -- ---- rows and lists of rows

@@ -1,9 +1,8 @@
 -- The families of paper 01's examples, by computation. Assumes nothing.
 use Rattle.model.specs.Kit.{_≡_, refl, ℕ}
-use Rattle.model.specs.{Lists.all, Lists.any, Lists.keep, Lists.flat, Lists.tabulate, Lists.upFrom, Lists.below, Lists.at, Lists.same, Lists.earlier, ValueSets.has}
-use Rattle.model.specs.{ValueSets.members, ValueSets.least, Problem.valuesAt, Problem.satisfies, Problem.isSolution, Problem.assignments, Problem.pair, Problem.pairsOf}
-use Rattle.model.specs.{Problem.within, Problem.takes, Sheet.word, Sheet.words, Sheet.headerOf, Sheet.scopeAt, Sheet.rowsAt, Sheet.afterAt, Sheet.constraintsFrom, Sheet.tableAt}
-use Rattle.model.specs.{Sheet.problemOf, Examples.sheetA, Examples.sheetA0, Examples.sheetR}
+use Rattle.model.specs.{Lists.all, Lists.any, Lists.keep, Lists.flat, Lists.tabulate, Lists.upFrom, Lists.below, Lists.at, Lists.same, Lists.earlier, ValueSets.has, ValueSets.members, ValueSets.least}
+use Rattle.model.specs.{Problem.valuesAt, Problem.satisfies, Problem.isSolution, Problem.assignments, Problem.pair, Problem.pairsOf, Problem.within, Problem.takes, Sheet.word, Sheet.words}
+use Rattle.model.specs.{Sheet.headerOf, Sheet.scopeAt, Sheet.rowsAt, Sheet.afterAt, Sheet.constraintsFrom, Sheet.tableAt, Sheet.problemOf, Examples.sheetA, Examples.sheetA0, Examples.sheetR}
 use Rattle.families.specs.Families.{solutionsOf, widened, reachedIn, familyOf, isEarliest, earliestOf, familiesOf}
 use Rattle.families.specs.inner.Walk.{solutionAt, imageAt}
 

@@ -1,13 +1,11 @@
 -- Families and other symmetries: more symmetries never make more families, those that join nothing new don't matter, nor does their order, and
 -- without any each solution is a family. Assumes nothing.
 use Rattle.model.specs.Kit.{_≡_, refl, sym, ap, _∙_, subst, not, List, [], List·Memᴰ, List·Memᴰ·not-nil, ℕ, _≤_, arith, T, length}
-use Rattle.model.specs.{Lists.both, Lists.any, Lists.keep, Lists.earlier, Problem.Problem, Problem.pair, Problem.pairsOf, Problem.takes, Problem.isSolution}
-use Rattle.model.specs.{Problem.assignments, Problem.withSymmetries, Verdict.isAccepted, Verdict.accepted, Verdict.Verdict, Sheet.problemOf, Sheet.verdictOf}
-use Rattle.model.specs.{Claims.isLeader, Claims.leaders, Claims.OneMore, inner.WellFormed.WellFormed, inner.WellFormed.Respected}
+use Rattle.model.specs.Problem.{Problem, pair, pairsOf, takes, isSolution, assignments, withSymmetries}
+use Rattle.model.specs.{Lists.both, Lists.any, Lists.keep, Lists.earlier, Claims.isLeader, Claims.leaders, inner.WellFormed.WellFormed, inner.WellFormed.Respected}
 use Rattle.families.specs.Families.{Joined, alone, further, solutionsOf, isEarliest, earliestOf, familiesOf}
-use Rattle.model.proofs.{Lists.earlier-asym, Lists.keep-all, Lists.keep-ext, Lists.both-true, Asked.well-formed-with, OneMore.one-more, Demands.of-accepted}
-use Rattle.families.proofs.{Joined.joined-to, Joined.joined-trans, Joined.joined-one, FamilyCount.in-solution, FamilyCount.earliest-i, FamilyCount.earliest-e}
-use Rattle.families.proofs.FamilyCount.{keep-fewer}
+use Rattle.model.proofs.{Lists.earlier-asym, Lists.keep-all, Lists.keep-ext, Lists.both-true, Asked.well-formed-with}
+use Rattle.families.proofs.{Joined.joined-to, Joined.joined-trans, Joined.joined-one, FamilyCount.in-solution, FamilyCount.earliest-i, FamilyCount.earliest-e, FamilyCount.keep-fewer}
 
 module _ (p : Problem) (gs : List (List ℕ)) where
   abbrev q : Problem
@@ -93,10 +91,3 @@ leaders-none p e = keep-ext (isLeader earlier p) (isSolution p) (assignments (p 
 
 pub leaders-without : (p : Problem) → leaders (withSymmetries p []) ≡ solutionsOf p
 leaders-without p = leaders-none (withSymmetries p []) refl ∙ solutions-same p []
-
--- one exchange more never raises the number of families
-pub one-more-families : (b c t : List ℕ) (k : ℕ) → OneMore b c k t → verdictOf b ≡ accepted → verdictOf c ≡ accepted → familiesOf (problemOf c) ≤ familiesOf (problemOf b)
-one-more-families b c t k more ab ac =
-    let r = one-more b c t k more (subst (λ (v : Verdict). T (isAccepted v)) (sym ab) tt) in
-    subst (λ (q : Problem). familiesOf q ≤ familiesOf (problemOf b)) (sym (r .2)) (families-more (problemOf b) (r .0) (of-accepted b ab .well) (of-accepted b ab .respected)
-    (subst WellFormed (r .2) (of-accepted c ac .well)) (subst Respected (r .2) (of-accepted c ac .respected)) (r .1))

@@ -1,7 +1,7 @@
 -- Joined solutions: none is apart from itself, one can go back and on. Assumes nothing.
 use Rattle.model.specs.Kit.{List, List·Memᴰ, ℕ, T}
 use Rattle.model.specs.{Problem.Problem, Problem.isSolution, Problem.takes, inner.WellFormed.WellFormed, inner.WellFormed.Respected}
-use Rattle.families.specs.{Families.Joined, Families.alone, Families.further}
+use Rattle.families.specs.Families.{Joined, alone, further}
 use Rattle.families.specs.inner.FamilyClaims.{Joined-equivalence}
 use Rattle.model.proofs.Image as I
 

@@ -6,8 +6,8 @@ use Rattle.model.specs.inner.WellFormed.{Respected}
 use Rattle.order.specs.{Order.Ordering, Reordered.read, Reordered.write, Reordered.earlierBy, Reordered.symmetryIn, Reordered.reordered, RunBy.leadersBy}
 use Rattle.families.specs.Families.{Joined, alone, further, OneOfEach, Apart, familiesOf, earliestOf, Closed}
 use Rattle.model.proofs.{Lists.earlier-asym, Lists.Sorted, Lists.sorted-keep, Assignments.assignments-sorted, Assignments.assign-e, Tree.solution-e}
-use Rattle.families.proofs.{Joined.joined-to, Joined.joined-one, Joined.joined-trans, Joined.joined-sym, FamilyCount.row-order, FamilyCount.earliest-e}
-use Rattle.families.proofs.{FamilyCount.earliest-of, FamilyCount.earliest-each, FamilyCount.as-many-families, FamilyCount.sorted-weaker, Closed.one-step}
+use Rattle.families.proofs.FamilyCount.{row-order, earliest-e, earliest-of, earliest-each, as-many-families, sorted-weaker}
+use Rattle.families.proofs.{Joined.joined-to, Joined.joined-one, Joined.joined-trans, Joined.joined-sym, Closed.one-step}
 use Rattle.order.proofs.RunBy.{leadersBy-hold}
 use Rattle.order.proofs.Reordered as R
 use Rattle.order.proofs.LeadersBy as L

@@ -1,11 +1,11 @@
 -- Solutions by their number: the number of an image, and the row that a symmetry makes. Assumes nothing.
-use Rattle.model.specs.Kit.{_≡_, refl, sym, ap, ap₂, _∙_, subst, Bool, List, [], _∷_, _++_, List·Memᴰ, List·Memᴰ·head, List·Memᴰ·tail, Memᴰ·cast, append-assoc, ℕ, zero, suc, _+_}
-use Rattle.model.specs.Kit.{_-_, _*_, _/_, _%_, _<_, not-suc-le-zero, le-of-suc-le-suc, ℕ-discrete, decLt, arith, T, length, getD, length-append}
+use Rattle.model.specs.Kit.{_≡_, refl, sym, ap, ap₂, _∙_, subst, Bool, List, [], _∷_, _++_, List·Memᴰ, List·Memᴰ·head, List·Memᴰ·tail, Memᴰ·cast, append-assoc, ℕ, zero, suc, _+_, _-_, _*_, _/_, _%_}
+use Rattle.model.specs.Kit.{_<_, not-suc-le-zero, le-of-suc-le-suc, ℕ-discrete, decLt, arith, T, length, getD, length-append}
 use Rattle.model.specs.{Lists.flat, Lists.at, Lists.earlier, Problem.Problem, Problem.pair, Problem.takes, Problem.isSolution, Problem.symmetryAt, inner.WellFormed.WellFormed}
 use Rattle.model.specs.inner.WellFormed.{Respected}
 use Rattle.families.specs.{Families.solutionsOf, inner.Walk.solutionAt, inner.Walk.imageAt}
-use Rattle.model.proofs.{Lists.earlier-asym, Lists.at-append, Lists.at-skip, Lists.of-T, Lists.not-of, Lists.mem-getD, Lists.place-of, Lists.Sorted, Masks.least-at}
-use Rattle.model.proofs.{Tree.solution-e, Leaders.takes-in, Leaders.takes-on}
+use Rattle.model.proofs.Lists.{earlier-asym, at-append, at-skip, of-T, not-of, mem-getD, place-of, Sorted}
+use Rattle.model.proofs.{Masks.least-at, Tree.solution-e, Leaders.takes-in, Leaders.takes-on}
 use Rattle.families.proofs.FamilyCount.{ReadsEarlier, solution-in, in-solution, solutions-sorted}
 use Rattle.model.proofs.Pairs as P
 use Rattle.model.proofs.Image as I

@@ -1,12 +1,12 @@
 -- The rows' keys, and the key of an image made pair by pair. Assumes nothing.
-use Rattle.model.specs.Kit.{_≡_, refl, sym, ap, ap₂, _∙_, subst, List, _++_, ℕ, suc, _+_, _-_, _*_, _/_, _%_, _^_, _≤_, _<_, mul-le-mul-right, ℕ-discrete, arith, length, set}
-use Rattle.model.specs.Kit.{length-set, length-append, replicate, length-replicate}
+use Rattle.model.specs.Kit.{_≡_, refl, sym, ap, ap₂, _∙_, subst, List, _++_, ℕ, suc, _+_, _-_, _*_, _/_, _%_, _^_, _≤_, _<_, mul-le-mul-right, ℕ-discrete, arith, length, set, length-set}
+use Rattle.model.specs.Kit.{length-append, replicate, length-replicate}
 use Rattle.model.specs.{Lists.at, Lists.flat, Problem.Problem, Problem.pair, Problem.symmetryAt, inner.WellFormed.WellFormed, inner.WellFormed.Respected}
 use Rattle.model.proofs.{Lists.at-set, Lists.at-set-other, Lists.at-replicate, Lists.set-each, Tree.solution-e}
 use Rattle.families.specs.{Families.solutionsOf, inner.Walk.solutionAt, inner.Walk.imageAt, inner.Numbered.keyOf, inner.Numbered.Listed, inner.Numbered.Imaging}
 use Rattle.families.specs.inner.Numbered.{Finding, Numbering}
-use Rattle.families.proofs.{FamilyCount.in-solution, Numbers.rows-length, Numbers.at-solution, Numbers.at-solutions, Numbers.same-number, Numbers.symmetry-among}
-use Rattle.families.proofs.{Numbers.image-good, Numbers.image-pair, Numbers.image-onto, Keys.Digits, Keys.key-ext, Keys.key-none, Keys.key-small, Keys.key-put}
+use Rattle.families.proofs.Numbers.{rows-length, at-solution, at-solutions, same-number, symmetry-among, image-good, image-pair, image-onto}
+use Rattle.families.proofs.{FamilyCount.in-solution, Keys.Digits, Keys.key-ext, Keys.key-none, Keys.key-small, Keys.key-put}
 use Rattle.model.proofs.Pairs as P
 use Rattle.model.proofs.Symmetry as S
 

@@ -4,8 +4,8 @@ use Rattle.model.specs.{Lists.at, Problem.Problem, inner.WellFormed.WellFormed,
 use Rattle.families.specs.{Families.solutionsOf, Families.familiesOf, inner.Walk.imageAt, inner.Walk.Walk, inner.Numbered.Imaged, inner.Numbered.Chained}
 use Rattle.families.specs.inner.Numbered.{Weighed, Finder, Counted, Numbering, Spreading, Flooding}
 use Rattle.model.proofs.Lists.{at-set-other, at-replicate}
-use Rattle.families.proofs.{Numbers.image-good, Walk.walk-begin, Walk.walk-tail, Walk.walk-room, Walk.walk-count, Walk.walk-push, Walk.walk-known, Walk.walk-pop}
-use Rattle.families.proofs.Walk.{walk-start, walk-skip, walk-end}
+use Rattle.families.proofs.Numbers.{image-good}
+use Rattle.families.proofs.Walk.{walk-begin, walk-tail, walk-room, walk-count, walk-push, walk-known, walk-pop, walk-start, walk-skip, walk-end}
 
 -- ---- the images of the solution at the head of the queue
 pub record Turning (p : Problem) (rows images keys heads weights : List ℕ) (variables symmetries i : ℕ) (seen queue : List ℕ) (starts count head k end : ℕ) : Type 0 where

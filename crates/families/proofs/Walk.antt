@@ -1,16 +1,16 @@
 -- Counting families by breadth-first search over the numbers of the solutions: each step keeps the walk (specs/Walk), and at its end the count
 -- is that of the families. Assumes nothing.
-use Rattle.model.specs.Kit.{_≡_, refl, sym, ap, _∙_, subst, _⊎_, inl, inr, ⊎-elim, List, [], _∷_, map, List·Memᴰ, List·Memᴰ·cases-cons, Memᴰ·map, Memᴰ·of-map, ℕ, suc, _+_, _≤_}
-use Rattle.model.specs.Kit.{_<_, ℕ-discrete, arith, T, length, take, set, length-set, length-append, length-take-le}
-use lib.Seq.{take-suc, take-length}
+use Rattle.model.specs.Kit.{_≡_, refl, sym, ap, _∙_, subst, _⊎_, inl, inr, ⊎-elim, List, [], _∷_, map, List·Memᴰ, List·Memᴰ·cases-cons, Memᴰ·map, Memᴰ·of-map, ℕ, suc, _+_, _≤_, _<_, ℕ-discrete, arith}
+use Rattle.model.specs.Kit.{T, length, take, set, length-set, length-append, length-take-le}
 use Rattle.model.specs.{Lists.keep, Lists.below, Lists.at, Lists.earlier, Problem.Problem, Problem.takes, Problem.symmetryAt, Sheet.distinct, inner.WellFormed.WellFormed}
+use lib.Seq.{take-suc, take-length}
 use Rattle.model.specs.inner.WellFormed.{Respected}
 use Rattle.families.specs.Families.{Joined, alone, further, solutionsOf, isEarliest, earliestOf, familiesOf}
 use Rattle.families.specs.inner.Walk.{solutionAt, imageAt, Walk}
 use Rattle.model.proofs.Lists.{of-T, not-of, keep-yes, keep-no, keep-append, place-of, below-i, below-e, length-below, at-set, at-set-other}
 use Rattle.model.proofs.Counting.{distinct-i, distinct-below, no-more}
-use Rattle.families.proofs.{Joined.joined-to, Joined.joined-sym, Numbers.at-solution, Numbers.number-of, Numbers.number-earlier, Numbers.earlier-number, Numbers.same-number}
-use Rattle.families.proofs.{Numbers.symmetry-among, Numbers.only-image, Numbers.image-good, FamilyCount.keep-length, FamilyCount.earliest-i, FamilyCount.earliest-e}
+use Rattle.families.proofs.Numbers.{at-solution, number-of, number-earlier, earlier-number, same-number, symmetry-among, only-image, image-good}
+use Rattle.families.proofs.{Joined.joined-to, Joined.joined-sym, FamilyCount.keep-length, FamilyCount.earliest-i, FamilyCount.earliest-e}
 
 module _ (p : Problem) (w : WellFormed p) (respected : Respected p) where
   abbrev N : ℕ

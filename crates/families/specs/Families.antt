@@ -1,7 +1,6 @@
 -- Families of solutions, and one solution of each (paper 02, #104 and #112). The proofs are in proofs/Joined, FamilyCount and Closed.
 use Rattle.model.specs.Kit.{_≡_, _⊎_, Bool, not, List, [], _∷_, List·Memᴰ, ℕ, zero, suc, _*_, _<_, length, T, eqb}
-use Rattle.model.specs.{Lists.either, Lists.all, Lists.any, Lists.keep, Lists.below, Lists.at, Lists.same, Lists.earlier, Problem.Problem, Problem.isSolution, Problem.assignments}
-use Rattle.model.specs.{Problem.takes}
+use Rattle.model.specs.{Lists.either, Lists.all, Lists.any, Lists.keep, Lists.below, Lists.at, Lists.same, Lists.earlier, Problem.Problem, Problem.isSolution, Problem.assignments, Problem.takes}
 
 -- from the solution a to b by none, one or more symmetries, one after another, through solutions only
 pub data Joined (p : Problem) (a : List ℕ) : List ℕ → Type 0 where

@@ -4,8 +4,8 @@ use Rattle.model.specs.{Problem.Problem, Verdict.Verdict, Verdict.accepted, Ver
 use Rattle.model.proofs.Lists.{of-not, never}
 use Rattle.run_input.specs.Lent.{verdictLent, problemWith}
 use Rattle.families.specs.Families.{Closed}
-use Rattle.families_closed.specs.{Open.Open, Open.none, Open.two, Open.made, Open.firstOpen, Open.FirstOpen, Lent.means, Lent.refusal, Lent.told, Lent.closedLent}
-use Rattle.families_closed.specs.{declared.Answer.Answer, Calls.CallClosed, Calls.ClosedHeld, Calls.Closed-calls}
+use Rattle.families_closed.specs.Open.{Open, none, two, made, firstOpen, FirstOpen}
+use Rattle.families_closed.specs.{Lent.means, Lent.refusal, Lent.told, Lent.closedLent, declared.Answer.Answer, Calls.CallClosed, Calls.ClosedHeld, Calls.Closed-calls}
 use Rattle.families_closed.proofs.Open.{all-made, open-none, open-first}
 use Rattle.families_closed.specs.declared.Answer.the-variants as A
 

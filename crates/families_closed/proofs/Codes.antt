@@ -1,7 +1,7 @@
 -- The codes of pairs in the images, and what a product that is missing or not is read from. Assumes nothing.
 use Rattle.model.specs.Kit.{_≡_, sym, ap, ap₂, _∙_, subst, true, false, ⊎-elim, List, [], ℕ, _+_, _*_, _/_, _%_, _≤_, _<_, mul-le-mul-right, decLt, arith, T, length}
-use native.Mathlib.Nat.{div-lt-iff-lt-mul, mod-lt, div-add-mod'}
 use Rattle.model.specs.{Lists.any, Lists.at, Problem.Problem, Problem.pair, Problem.symmetryAt}
+use native.Mathlib.Nat.{div-lt-iff-lt-mul, mod-lt, div-add-mod'}
 use Rattle.model.proofs.Lists.{of-T, not-of, either-e, either-l, either-r, any-e, any-i, mem-getD, place-of}
 use Rattle.arrays.specs.inner.Layout.{pairCode}
 use Rattle.families.specs.Families.{makes, movesNothing}

@@ -1,12 +1,12 @@
 -- The first two that aren't closed (specs/Open). Assumes nothing.
-use Rattle.model.specs.Kit.{_≡_, refl, sym, ap, _∙_, subst, subst₂, Bool, true, false, not, _⊎_, inl, inr, ⊎-elim, List, [], List·Memᴰ, ℕ, zero, suc, _+_, _*_, _/_, _%_, _≤_, _<_}
-use Rattle.model.specs.Kit.{mod-eq-of-lt, mul-le-mul-right, arith, length, T, ltb, ltb-true, ltb-false, le-ltb}
-use native.Mathlib.Nat.{mul-add-div-right, mul-add-mod-self-right, div-eq-of-lt, div-add-mod', div-lt-iff-lt-mul, mod-lt, add-zero}
+use Rattle.model.specs.Kit.{_≡_, refl, sym, ap, _∙_, subst, subst₂, Bool, true, false, not, _⊎_, inl, inr, ⊎-elim, List, [], List·Memᴰ, ℕ, zero, suc, _+_, _*_, _/_, _%_, _≤_, _<_, mod-eq-of-lt}
+use Rattle.model.specs.Kit.{mul-le-mul-right, arith, length, T, ltb, ltb-true, ltb-false, le-ltb}
 use Rattle.model.specs.{Lists.any, Problem.Problem, Problem.symmetryAt}
+use native.Mathlib.Nat.{mul-add-div-right, mul-add-mod-self-right, div-eq-of-lt, div-add-mod', div-lt-iff-lt-mul, mod-lt, add-zero}
 use Rattle.families.specs.Families.{Makes, MovesNothing, Closed, makes, movesNothing}
 use Rattle.families.proofs.Closed.{makes-i, makes-e, nothing-i, nothing-e}
-use Rattle.model.proofs.{Lists.of-T, Lists.T-of, Lists.either-e, Lists.either-l, Lists.either-r, Lists.any-e, Lists.any-i, Lists.mem-getD, Lists.place-of, Masks.least-none, Lists.never}
-use Rattle.model.proofs.Masks.{least-at, least-below, least-is}
+use Rattle.model.proofs.Lists.{of-T, T-of, either-e, either-l, either-r, any-e, any-i, mem-getD, place-of, never}
+use Rattle.model.proofs.Masks.{least-none, least-at, least-below, least-is}
 use Rattle.families_closed.specs.Open.{made, firstMissing, none, two, firstOpen, FirstOpen}
 use Rattle.families_closed.specs.inner.Claims.{Open-none, Open-first}
 

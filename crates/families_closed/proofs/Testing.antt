@@ -1,8 +1,7 @@
 -- The test of a run that is lent a sheet, pairs and a block: its arrays, and its answer. Assumes nothing.
-use Rattle.model.specs.Kit.{_≡_, refl, sym, ap, ap₂, _∙_, subst₂, Bool, true, false, List, [], _∷_, ℕ, _+_, _*_, _/_, _%_, _≤_, _<_, arith, T, length, getD, length-append, lt-ltb}
-use Rattle.model.specs.Kit.{le-ltb}
+use Rattle.model.specs.Kit.{_≡_, refl, sym, ap, ap₂, _∙_, subst₂, Bool, true, false, List, [], _∷_, ℕ, _+_, _*_, _/_, _%_, _≤_, _<_, arith, T, length, getD, length-append, lt-ltb, le-ltb}
 use Rattle.model.specs.{Lists.at, Problem.Problem, Verdict.Verdict, Verdict.accepted, Verdict.refused, Verdict.isAccepted, Verdict.reply, Sheet.problemOf, inner.WellFormed.WellFormed}
-use Rattle.model.proofs.{Lists.length-below, Accepted.stated, Accepted.symmetries-are, Accepted.accepted-is, Accepted.is-accepted, Lists.never}
+use Rattle.model.proofs.{Lists.length-below, Lists.never, Accepted.stated, Accepted.symmetries-are, Accepted.accepted-is, Accepted.is-accepted}
 use Rattle.sheet.specs.{declared.Answer.Answer, declared.Answer.the-variants.Accepted}
 use Rattle.block.specs.Block.{factorial, orderingTable, blockTables, tablesLent, blockLent, withLent}
 use Rattle.block.proofs.{Orderings.factorial-le, Block.block-e}

@@ -2,8 +2,8 @@
 use Rattle.model.specs.Kit.{List, ℕ}
 use Rattle.model.specs.Verdict.{reply}
 use Rattle.run_input.specs.Lent.{verdictLent, problemWith}
-use Rattle.families_closed.specs.{Open.Open, Open.none, Open.two, Open.firstOpen, declared.Answer.Answer, declared.Answer.the-variants.Closed}
-use Rattle.families_closed.specs.declared.Answer.the-variants.{Missing, Refused}
+use Rattle.families_closed.specs.Open.{Open, none, two, firstOpen}
+use Rattle.families_closed.specs.{declared.Answer.Answer, declared.Answer.the-variants.Closed, declared.Answer.the-variants.Missing, declared.Answer.the-variants.Refused}
 pub use Rattle.model.specs.Verdict.{Reply, refusal, answered}
 
 -- the refusal of such a run, or the first two exchanges whose product is missing

@@ -1,21 +1,18 @@
 -- The figure from a bare run on the arrays (specs/Held). Assumes nothing.
-use Rattle.model.specs.Kit.{_≡_, refl, sym, ap, _∙_, subst, inl, ⊎-elim, List, [], _∷_, List·Memᴰ·not-nil, ℕ, _*_, _≤_, arith, T, length, set, replicate, length-set}
-use Rattle.model.specs.Kit.{length-replicate}
+use Rattle.model.specs.Kit.{_≡_, refl, sym, ap, _∙_, subst, inl, ⊎-elim, List, [], _∷_, List·Memᴰ·not-nil, ℕ, _*_, _≤_, arith, T, length, set, replicate, length-set, length-replicate}
+use Rattle.model.specs.Run.{Ending, finished, spent, full, plansIn, nodesIn, resultOf, Tally}
+use Rattle.model.specs.{Lists.at, Problem.Problem, inner.WellFormed.WellFormed, Verdict.Verdict, Verdict.accepted, Verdict.refused, Verdict.isAccepted, Verdict.reply, Sheet.problemOf, Sheet.verdictOf}
 use types.Run.{OneOf}
 use denote.Enum.Declared.{tagOf}
-use Rattle.model.specs.{Lists.at, Problem.Problem, inner.WellFormed.WellFormed, Verdict.Verdict, Verdict.accepted, Verdict.refused, Verdict.isAccepted, Verdict.reply, Sheet.problemOf}
-use Rattle.model.specs.{Sheet.verdictOf, Run.Ending, Run.finished, Run.spent, Run.full, Run.plansIn, Run.nodesIn, Run.resultOf, Run.Tally}
 use Rattle.model.proofs.{Accepted.passed, Accepted.symmetries-are, Accepted.is-accepted, Asked.well-formed-with, Lists.at-set, Lists.never}
-use Rattle.order.specs.{RunBy.Input, RunBy.resultBy}
+use Rattle.order.specs.RunBy.{Input, resultBy}
 use Rattle.order.proofs.Reordered.{well-reordered}
-use Rattle.arrays.specs.inner.Places.{VARIABLES, SYMMETRIES, PLANS, ALL, SPENT, FULL, STACK, TABLES, WORK}
-use Rattle.arrays.specs.inner.Layout.{Compiled}
+use Rattle.arrays.specs.inner.{Places.VARIABLES, Places.SYMMETRIES, Places.PLANS, Places.ALL, Places.SPENT, Places.FULL, Places.STACK, Places.TABLES, Places.WORK, Layout.Compiled}
 use Rattle.run_input.specs.Lent.{verdictLent, problemWith, orderLent, problemLent}
 use Rattle.run_input.proofs.Lent.{well-lent, ordering-lent, nothing-lent}
 use Rattle.families.specs.{Families.familiesOf, inner.Numbered.Counted}
 use Rattle.families_figure.specs.Figure.{number, dash, familiesLent, reportFigure}
-use Rattle.families_figure.proofs.{FamiliesLent.families-lent, Counting.bareLent, Counting.figure-counted, Counting.figure-number, Counting.figure-none, Counting.figure-dash}
-use Rattle.families_figure.proofs.Counting.{figure-few}
+use Rattle.families_figure.proofs.{FamiliesLent.families-lent, Counting.bareLent, Counting.figure-counted, Counting.figure-number, Counting.figure-none, Counting.figure-dash, Counting.figure-few}
 use Rattle.sheet.proofs.Whole.{zeros}
 use Rattle.run_state.specs.{inner.Walk.stopIn, Meaning.endingOf, declared.Ending.the-variants.Finished, declared.Ending.the-variants.Spent, declared.Ending.the-variants.Full}
 use Rattle.run_state.proofs.Ending.{the-type}

@@ -2,8 +2,7 @@
 use Rattle.model.specs.Kit.{_≡_, refl, sym, ap, _∙_, subst, List, [], _∷_, ℕ, suc, _+_, _/_, _%_, _^_, _≤_, _<_, arith, T, eqb, length, set, length-map, length-set}
 use Rattle.model.specs.{Lists.any, Lists.at, ValueSets.has, Problem.Problem, Problem.withSymmetries, Problem.constraintAt, Verdict.accepted, Verdict.isAccepted, Sheet.problemOf}
 use Rattle.model.proofs.{Lists.at-set, Lists.at-set-other, Accepted.is-accepted}
-use Rattle.arrays.specs.inner.Places.{INITIAL, SCOPES, VARIABLES, VALUES, CONSTRAINTS, SYMMETRIES, NUMBERS, WIDE}
-use Rattle.arrays.specs.inner.Layout.{Numbers, Compiled}
+use Rattle.arrays.specs.inner.{Places.INITIAL, Places.SCOPES, Places.VARIABLES, Places.VALUES, Places.CONSTRAINTS, Places.SYMMETRIES, Places.NUMBERS, Places.WIDE, Layout.Numbers, Layout.Compiled}
 use Rattle.order.specs.{Order.Ordering, Order.settlingOrder, Reordered.reordered, Reordered.symmetryIn}
 use Rattle.order.proofs.{Order.no-pairs, LeadersBy.reordered-below}
 use Rattle.arrays_order.specs.inner.Reorder.{Movable, Moved}

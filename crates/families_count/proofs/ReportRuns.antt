@@ -1,10 +1,9 @@
 -- The run of a report on the arrays of its sheet (specs/Held). Assumes nothing.
 use Rattle.model.specs.Kit.{_≡_, refl, sym, ap, _∙_, subst, subst₂, List, _++_, ℕ, _*_, _≤_, arith, T, length, take, drop, replicate}
+use Rattle.model.specs.Run.{Ending, ended, plansIn, resultOf, answerOf, written, listOf, Tally}
+use Rattle.model.specs.{Lists.at, Verdict.Verdict, Verdict.accepted, Verdict.refused, Verdict.isAccepted, Verdict.reply, Verdict.kept, Sheet.verdictOf, Sheet.problemOf}
 use lib.Seq.{take-at}
-use Rattle.model.specs.{Lists.at, Verdict.Verdict, Verdict.accepted, Verdict.refused, Verdict.isAccepted, Verdict.reply, Verdict.kept, Sheet.verdictOf, Sheet.problemOf, Run.Ending}
-use Rattle.model.specs.Run.{ended, plansIn, resultOf, answerOf, written, listOf, Tally}
-use Rattle.model.proofs.Accepted.{passed, well-formed, symmetries-are}
-use Rattle.model.proofs.Lists.{never}
+use Rattle.model.proofs.{Accepted.passed, Accepted.well-formed, Accepted.symmetries-are, Lists.never}
 use Rattle.arrays.specs.inner.Places.{VARIABLES, PLANS, STACK, TABLES, WORK}
 use Rattle.families_figure.specs.Figure.{reportFigure}
 use Rattle.sheet.specs.{inner.Form.Compilation, declared.Answer.the-variants.Accepted}

@@ -1,12 +1,10 @@
 -- A sheet without its exchanges is accepted where the sheet is, and states the same problem without symmetries (specs/FigureClaims). Assumes nothing.
-use Rattle.model.specs.Kit.{_≡_, refl, sym, ap, ap₂, _∙_, subst, Bool, true, List, [], _++_, map, ℕ, suc, _+_, _-_, _*_, _^_, _≤_, _<_, arith, length, take, drop, length-append}
-use Rattle.model.specs.Kit.{length-take, length-drop, getD-take, getD-drop, eq-eqb}
-use Rattle.model.specs.{Lists.at, Lists.below, Lists.upFrom, Bytes.twoBytes, Problem.Problem, Problem.Constraint, Verdict.Verdict, Verdict.accepted, Verdict.ask, Sheet.Header}
-use Rattle.model.specs.Sheet.{word, words, headerOf, headerVerdict, constraintsFrom, tableAt, problemOf, setsVerdict, constraintsVerdict, tablesFit, formVerdict, symmetriesVerdict}
-use Rattle.model.specs.Sheet.{verdictOf}
-use Rattle.model.proofs.{Lists.at-skip, Lists.below-e, Accepted.HeaderPassed, Accepted.Passed, Accepted.at-words, OneMore.word-of, OneMore.at-left, OneMore.Agree}
-use Rattle.model.proofs.{OneMore.word-agree, OneMore.words-agree, OneMore.constraints-agree, Asked.tablesHeader, Asked.header-passes, Asked.sets-pass, Asked.constraints-pass}
-use Rattle.model.proofs.Demands.{of-accepted}
+use Rattle.model.specs.Kit.{_≡_, refl, sym, ap, ap₂, _∙_, subst, Bool, true, List, [], _++_, map, ℕ, suc, _+_, _-_, _*_, _^_, _≤_, _<_, arith, length, take, drop, length-append, length-take}
+use Rattle.model.specs.Kit.{length-drop, getD-take, getD-drop, eq-eqb}
+use Rattle.model.specs.Sheet.{Header, word, words, headerOf, headerVerdict, constraintsFrom, tableAt, problemOf, setsVerdict, constraintsVerdict, tablesFit, formVerdict, symmetriesVerdict, verdictOf}
+use Rattle.model.specs.{Lists.at, Lists.below, Lists.upFrom, Bytes.twoBytes, Problem.Problem, Problem.Constraint, Verdict.Verdict, Verdict.accepted, Verdict.ask}
+use Rattle.model.proofs.{Lists.at-skip, Lists.below-e, Accepted.HeaderPassed, Accepted.Passed, Accepted.at-words, OneMore.word-of, OneMore.at-left, OneMore.Agree, OneMore.word-agree}
+use Rattle.model.proofs.{OneMore.words-agree, OneMore.constraints-agree, Asked.tablesHeader, Asked.header-passes, Asked.sets-pass, Asked.constraints-pass, Demands.of-accepted}
 use Rattle.families_figure.specs.{Figure.problemBare, Figure.bareSheet, FigureClaims.Bare-sheet}
 
 -- the header without exchanges

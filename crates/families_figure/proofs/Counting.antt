@@ -1,8 +1,8 @@
 -- How the figure is got: a bare run in the settling order, and the count over its rows. Assumes nothing.
 use Rattle.model.specs.Kit.{_≡_, refl, sym, ap, _∙_, subst, inr, List, [], _++_, map, List·Memᴰ·not-nil, ℕ, _*_, _≤_, arith, T, length, drop}
-use native.Mathlib.Nat.{le-of-mul-le-mul-right}
-use Rattle.model.specs.{Lists.flat, Problem.Problem, Problem.withSymmetries, Verdict.accepted, Verdict.isAccepted, Sheet.problemOf, inner.WellFormed.WellFormed, inner.WellFormed.Respected}
 use Rattle.model.specs.Run.{Ending, finished, spent, full, resultOf, written}
+use Rattle.model.specs.{Lists.flat, Problem.Problem, Problem.withSymmetries, Verdict.accepted, Verdict.isAccepted, Sheet.problemOf, inner.WellFormed.WellFormed, inner.WellFormed.Respected}
+use native.Mathlib.Nat.{le-of-mul-le-mul-right}
 use Rattle.model.proofs.{Tree.plans-of-tree, Runs.finished-rows, Runs.finished-fits, Demands.same-test, Accepted.is-accepted, Asked.well-formed-with, Lists.never}
 use Rattle.arrays.specs.inner.Layout.{Images}
 use Rattle.order.specs.{Order.Ordering, Reordered.symmetryIn, RunBy.resultBy}
@@ -10,8 +10,7 @@ use Rattle.order.proofs.Reordered.{well-reordered, respected-reordered}
 use Rattle.run_input.specs.Lent.{verdictLent, problemWith, orderLent, problemLent}
 use Rattle.run_input.proofs.Lent.{well-lent, respected-lent, ordering-lent}
 use Rattle.families.specs.{Families.solutionsOf, Families.familiesOf, inner.Numbered.Listed, inner.Numbered.Counted}
-use Rattle.families.proofs.FewerFamilies.{solutions-same, families-more, families-none, leaders-without}
-use Rattle.families.proofs.{JoinedBy.families-reordered, Rows.listed-solutions}
+use Rattle.families.proofs.{FewerFamilies.solutions-same, FewerFamilies.families-more, FewerFamilies.families-none, FewerFamilies.leaders-without, JoinedBy.families-reordered, Rows.listed-solutions}
 use Rattle.families_figure.specs.{Figure.problemBare, Figure.number, Figure.dash, Figure.figureFor, Figure.familiesLent, inner.FigureClaims.ranWith, inner.FigureClaims.ranBare}
 use Rattle.families_figure.specs.inner.FigureClaims.{Finished}
 use Rattle.families_figure.proofs.FamiliesLent.{families-lent}

@@ -1,8 +1,8 @@
 -- The figure of a run that is lent a sheet, pairs and a block, and one of each family (specs/inner/FigureClaims). Assumes nothing.
 use Rattle.model.specs.Kit.{_≡_, refl, sym, ap, ap₂, _∙_, subst, _↔_, _⊎_, inl, ⊎-elim, List, [], _∷_, _++_, map, append-nil, List·Memᴰ, List·Memᴰ·not-nil, ℕ, T, length}
-use Rattle.model.specs.{Problem.Problem, Problem.isSolution, Problem.withSymmetries, Verdict.Verdict, Verdict.accepted, Verdict.isAccepted, Verdict.reply, Verdict.kept}
-use Rattle.model.specs.{Claims.Leader, Lists.upFrom, Lists.below, Sheet.headerOf, Sheet.problemOf, Sheet.tableAt, inner.WellFormed.WellFormed, inner.WellFormed.Respected, Run.Ending}
-use Rattle.model.specs.Run.{finished, spent, full, plansIn, written}
+use Rattle.model.specs.Run.{Ending, finished, spent, full, plansIn, written}
+use Rattle.model.specs.{Problem.Problem, Problem.isSolution, Problem.withSymmetries, Verdict.Verdict, Verdict.accepted, Verdict.isAccepted, Verdict.reply, Verdict.kept, Claims.Leader, Lists.upFrom}
+use Rattle.model.specs.{Lists.below, Sheet.headerOf, Sheet.problemOf, Sheet.tableAt, inner.WellFormed.WellFormed, inner.WellFormed.Respected}
 use Rattle.order.specs.{Order.Ordering, Order.settlingOrder, Order.orderVerdict, Reordered.earlierBy, RunBy.Input, RunBy.resultBy, RunBy.leadersBy, RunBy.answerBy, RunBy.listBy}
 use Rattle.order.proofs.{Order.no-circle-passes, Demanded.ran-by, RunBy.leadersBy-hold, RunBy.finished-lists, RunBy.rows-counted-by, RunBy.fewer-by}
 use Rattle.sheet.specs.Meaning.{andThen}
@@ -11,10 +11,9 @@ use Rattle.block.proofs.Claimed.{alone-closed}
 use Rattle.run_input.specs.Lent.{verdictLent, problemWith, orderLent, lentInput}
 use Rattle.run_input.proofs.Lent.{lent-passed, well-sheet, well-lent, respected-lent, ordering-lent, lent-good, demanded-lent, nothing-lent}
 use Rattle.families.specs.Families.{Closed, familiesOf}
-use Rattle.families.proofs.{FamilyCount.families, JoinedBy.leader-earliest-by, JoinedBy.earliest-leader-by, JoinedBy.each-by}
-use Rattle.families.proofs.JoinedBy.{leaders-each-by}
-use Rattle.families_figure.specs.{Figure.problemBare, Figure.bareSheet, Figure.number, Figure.dash, Figure.figureFor, Figure.familiesLent, inner.FigureClaims.ranWith}
-use Rattle.families_figure.specs.{inner.FigureClaims.ranBare, inner.FigureClaims.Finished, inner.FigureClaims.Families-lent, inner.FigureClaims.Bare-run, FigureClaims.OneListedEach}
+use Rattle.families.proofs.{FamilyCount.families, JoinedBy.leader-earliest-by, JoinedBy.earliest-leader-by, JoinedBy.each-by, JoinedBy.leaders-each-by}
+use Rattle.families_figure.specs.{Figure.problemBare, Figure.bareSheet, Figure.number, Figure.dash, Figure.figureFor, Figure.familiesLent, inner.FigureClaims.ranWith, inner.FigureClaims.ranBare}
+use Rattle.families_figure.specs.{inner.FigureClaims.Finished, inner.FigureClaims.Families-lent, inner.FigureClaims.Bare-run, FigureClaims.OneListedEach}
 use Rattle.families_figure.specs.inner.FigureClaims.{One-of-each-lent, Block-alone-closed, Block-alone-one-each}
 use Rattle.families_figure.proofs.BareSheet.{bare-passed}
 use Rattle.model.proofs.{Accepted.accepted-is, Accepted.is-accepted, Asked.well-formed-with}

@@ -2,8 +2,8 @@
 use Rattle.model.specs.Kit.{refl}
 use Rattle.model.specs.Examples.{Each}
 use Rattle.model.proofs.Examples.{opened}
-use Rattle.order.specs.{Order.pairsIn, Order.forerunners, Order.canFollow, Order.settledFirst, Order.settlingOrder, Reordered.position, Reordered.read, Reordered.write}
-use Rattle.order.specs.{Reordered.valueOf, Reordered.scopeIn, Reordered.rowIn, Reordered.renamed, Reordered.symmetryIn, RunBy.resultBy}
+use Rattle.order.specs.Reordered.{position, read, write, valueOf, scopeIn, rowIn, renamed, symmetryIn}
+use Rattle.order.specs.{Order.pairsIn, Order.forerunners, Order.canFollow, Order.settledFirst, Order.settlingOrder, RunBy.resultBy}
 use Rattle.block.specs.Block.{tablesLent}
 use Rattle.families.specs.Families.{solutionsOf, widened, reachedIn, familyOf, isEarliest, earliestOf, familiesOf}
 use Rattle.families_figure.specs.{Figure.bareSheet, Figure.familiesLent, FigureExamples.testsFigure}

@@ -1,13 +1,12 @@
 -- How the filter ends, for code that scans: at the end of a list, at an empty set, and at an equality that some assignments keep and some break.
 -- Assumes nothing.
 use Rattle.model.specs.Kit.{_≡_, refl, sym, ap, _∙_, subst, Bool, true, false, not, List, [], _∷_, List·Memᴰ, ℕ, _≤_, _<_, decLt, arith, T, eqb, length, set, take}
+use Rattle.model.specs.Nogood.{Entry, equality, is, obeysFrom, obeys, filtered, failed, entailed, consistent, endingBy, everyObeys, filterEnding}
+use Rattle.model.specs.{Lists.at, Lists.same, ValueSets.has, ValueSets.onlyMask, ValueSets.withoutMask, ValueSets.anyEmpty, Problem.assignments, NogoodClaims.Entails, inner.Endings.Fails}
 use lib.Seq.{take-set-lt}
-use Rattle.model.specs.{Lists.at, Lists.same, ValueSets.has, ValueSets.onlyMask, ValueSets.withoutMask, ValueSets.anyEmpty, Problem.assignments, Nogood.Entry, Nogood.equality}
-use Rattle.model.specs.Nogood.{is, obeysFrom, obeys, filtered, failed, entailed, consistent, endingBy, everyObeys, filterEnding}
-use Rattle.model.specs.{NogoodClaims.Entails, inner.Endings.Fails}
 use Rattle.model.proofs.Lists.{T-of, of-T, not-of, of-not, T-ext, all-i, all-e, same-eq, same-refl, at-ext, at-set, at-take}
-use Rattle.model.proofs.{Sets.members-i, Sets.members-e, Sets.empty-e, Sets.inside-antisym, Filter.filtered-inside, Obey.obeys-unheld, Assignments.assign-i, Assignments.assign-e, Endings.SameModels}
-use Rattle.model.proofs.Endings.{every-i, every-no, failed-i, entailed-i, ending-by, entailed-exactly, consistent-exactly, entailed-left, same-ending}
+use Rattle.model.proofs.Endings.{SameModels, every-i, every-no, failed-i, entailed-i, ending-by, entailed-exactly, consistent-exactly, entailed-left, same-ending}
+use Rattle.model.proofs.{Sets.members-i, Sets.members-e, Sets.empty-e, Sets.inside-antisym, Filter.filtered-inside, Obey.obeys-unheld, Assignments.assign-i, Assignments.assign-e}
 use Rattle.filter.specs.inner.Scan.{stepOf, models, None, Some, Live, Passed, Remainder, Right, Changed}
 use Rattle.filter.specs.{inner.Lists.forced, declared.entry.Step.the-variants.Split}
 use Rattle.filter.proofs.Marks.{for-good-equality}

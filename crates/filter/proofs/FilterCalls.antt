@@ -1,18 +1,16 @@
 -- What a caller of `filter` holds (specs/FilterCalls), from its contract and model's theorems. Assumes nothing.
-use Rattle.model.specs.Kit.{_≡_, refl, sym, ap, ap₂, _∙_, subst, _⊎_, inl, inr, ⊎-elim, _↔_, Bool, true, not, List, [], _∷_, ℕ, zero, suc, _^_, _<_, arith, T, T-not, not-T, eqb}
-use Rattle.model.specs.Kit.{leb, ltb, eqb→eq, leb→le, ltb→lt, eqb-refl, length, getD, replicate, eq-eqb, ne-eqb, lt-ltb, le-leb}
+use Rattle.model.specs.Kit.{_≡_, refl, sym, ap, ap₂, _∙_, subst, _⊎_, inl, inr, ⊎-elim, _↔_, Bool, true, not, List, [], _∷_, ℕ, zero, suc, _^_, _<_, arith, T, T-not, not-T, eqb, leb, ltb, eqb→eq}
+use Rattle.model.specs.Kit.{leb→le, ltb→lt, eqb-refl, length, getD, replicate, eq-eqb, ne-eqb, lt-ltb, le-leb}
+use Rattle.model.specs.Verdict.{Verdict, accepted, refused, ask, reply}
+use Rattle.model.specs.Nogood.{Entry, equality, disequality, is, obeysFrom, obeys, filtered, FilterEnding, failed, entailed, consistent, filterEnding, mark, Kind, isEquality, isDisequality}
+use Rattle.model.specs.Nogood.{bothAbsent, bothPresent, kindBy, kindOf, valueOk, entryIn, entryOf, entryOk, entries, firstWrong, filterVerdict, setsAfter, refusal, answered, filterAnswer}
+use Rattle.model.specs.{Lists.at, Lists.both, ValueSets.has, NogoodClaims.CaseOf, NogoodClaims.Entails, inner.Endings.Fails, Claims.Drawn}
 use mathlib.Core.Logic.{∥∥₁-elim, ∥∥₁-prop}
-use Rattle.model.specs.{Lists.at, Lists.both, ValueSets.has, Verdict.Verdict, Verdict.accepted, Verdict.refused, Verdict.ask, Verdict.reply, Nogood.Entry, Nogood.equality}
-use Rattle.model.specs.Nogood.{disequality, is, obeysFrom, obeys, filtered, FilterEnding, failed, entailed, consistent, filterEnding, mark, Kind, isEquality, isDisequality}
-use Rattle.model.specs.{Nogood.bothAbsent, Nogood.bothPresent, Nogood.kindBy, Nogood.kindOf, NogoodClaims.CaseOf, Nogood.valueOk, Nogood.entryIn, Nogood.entryOf, Nogood.entryOk, Nogood.entries}
-use Rattle.model.specs.Nogood.{firstWrong, filterVerdict, setsAfter, refusal}
-use Rattle.model.specs.{Nogood.answered, Nogood.filterAnswer, inner.Endings.Fails, NogoodClaims.Entails, Claims.Drawn}
-use Rattle.model.proofs.{Lists.both-i, Lists.both-l, Lists.both-r, Lists.not-of, Lists.getD-at, Assignments.drawn-i, Assignments.drawn-e, Filter.length-filtered, Lists.never}
-use Rattle.model.proofs.{Filter.filtered-sets, EntryKinds.kind-holds, Endings.failed-exactly, Endings.entailed-exactly, Endings.consistent-exactly, Demands.filter-keeps}
-use Rattle.model.proofs.Demands.{filter-empties}
-use Rattle.filter.specs.{declared.Answer.Answer, declared.Answer.the-variants.Failed, declared.Answer.the-variants.Entailed, declared.Answer.the-variants.Consistent}
-use Rattle.filter.specs.{declared.Answer.the-variants.Refused, Meaning.means, FilterCalls.CallFilter, FilterCalls.SetsRight, FilterCalls.LengthsRight, FilterCalls.EntryRight}
-use Rattle.filter.specs.FilterCalls.{ListsRight, Breaks, Obeys, NoneObeys, EveryObeys, Filter-calls}
+use Rattle.model.proofs.{Lists.both-i, Lists.both-l, Lists.both-r, Lists.not-of, Lists.getD-at, Lists.never, Assignments.drawn-i, Assignments.drawn-e, Filter.length-filtered, Filter.filtered-sets}
+use Rattle.model.proofs.{EntryKinds.kind-holds, Endings.failed-exactly, Endings.entailed-exactly, Endings.consistent-exactly, Demands.filter-keeps, Demands.filter-empties}
+use Rattle.filter.specs.declared.Answer.the-variants.{Failed, Entailed, Consistent, Refused}
+use Rattle.filter.specs.FilterCalls.{CallFilter, SetsRight, LengthsRight, EntryRight, ListsRight, Breaks, Obeys, NoneObeys, EveryObeys, Filter-calls}
+use Rattle.filter.specs.{declared.Answer.Answer, Meaning.means}
 use Rattle.filter.proofs.Questions.{wrong-at, wrong-none, wrong-entry, all-right}
 
 -- ---- an entry that is right

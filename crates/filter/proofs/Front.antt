@@ -1,10 +1,9 @@
 -- A scan on the first n of sixteen sets, step by step: how `Passed` goes on with each entry, and how it ends. Assumes nothing.
-use Rattle.model.specs.Kit.{_≡_, refl, sym, ap, _∙_, subst, Bool, true, false, List, [], _∷_, map, ℕ, _^_, _≤_, _<_, arith, decLt, T, eqb, length, set, take, length-set, getD-take}
-use Rattle.model.specs.Kit.{length-take-le, eqb-true, eqb-false}
+use Rattle.model.specs.Kit.{_≡_, refl, sym, ap, _∙_, subst, Bool, true, false, List, [], _∷_, map, ℕ, _^_, _≤_, _<_, arith, decLt, T, eqb, length, set, take, length-set, getD-take, length-take-le}
+use Rattle.model.specs.Kit.{eqb-true, eqb-false}
+use Rattle.model.specs.{Lists.at, ValueSets.withoutMask, ValueSets.onlyMask, ValueSets.anyEmpty, ValueSets.Inside, Nogood.Entry, Nogood.equality, Nogood.disequality, Nogood.obeysFrom, Nogood.filtered}
 use lib.Seq.{take-set-lt}
-use Rattle.model.specs.{Lists.at, ValueSets.withoutMask, ValueSets.onlyMask, ValueSets.anyEmpty, ValueSets.Inside, Nogood.Entry, Nogood.equality, Nogood.disequality}
-use Rattle.model.specs.Nogood.{obeysFrom, filtered}
-use Rattle.model.proofs.{Lists.either-l, Lists.at-out, Lists.at-set-other, Lists.set-each, Sets.at-zeros, Sets.empty-i, Sets.inside-refl, Sets.inside-trans, Lists.never}
+use Rattle.model.proofs.{Lists.either-l, Lists.at-out, Lists.at-set-other, Lists.set-each, Lists.never, Sets.at-zeros, Sets.empty-i, Sets.inside-refl, Sets.inside-trans}
 use Rattle.filter.specs.declared.entry.Step.the-variants.{Next, Failed, Obeyed, Split}
 use Rattle.filter.specs.inner.Scan.{stepOf, after, cutStep, keepStep, models, None, Some, Live, Passed, Remainder, Right}
 use Rattle.filter.proofs.Scan

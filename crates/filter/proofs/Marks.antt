@@ -1,16 +1,15 @@
 -- The two marks of an entry: what question 19 lets through, and what the entry then is. Then the laws of a list whose first part says nothing more,
 -- or is obeyed for good. Assumes nothing.
-use Rattle.model.specs.Kit.{_≡_, refl, sym, ap, ap₂, _∙_, subst, Bool, true, false, not, List, [], _∷_, _++_, append-assoc, append-nil, List·Memᴰ, List·Memᴰ·head, List·Memᴰ·tail}
-use Rattle.model.specs.Kit.{List·Memᴰ·not-nil, Memᴰ·append-left, ⊎-elim, ℕ, _%_, _^_, _<_, _≤_, mod-eq-of-lt, arith, T, eqb, ltb, eqb→eq, eqb-refl, length, eq-eqb, eqb-true}
-use Rattle.model.specs.Kit.{lt-ltb, le-ltb}
-use Rattle.model.specs.{Lists.at, Lists.both, ValueSets.has, ValueSets.maskOf, ValueSets.withoutMask, ValueSets.onlyMask, ValueSets.Inside, Problem.assignments, Nogood.Entry}
-use Rattle.model.specs.Nogood.{equality, disequality, Kind, isEquality, isDisequality, bothAbsent, bothPresent, mark, kindBy, kindOf, entryIn, entryOf, valueOk, entryOk, is}
-use Rattle.model.specs.Nogood.{obeysFrom, obeys, obeying}
-use Rattle.model.proofs.{Lists.T-of, Lists.of-T, Lists.not-of, Lists.of-not, Lists.both-i, Lists.both-l, Lists.both-r, Lists.both-no-r, Lists.keep-ext, Lists.getD-at, Sets.has-none, Sets.has-lt}
-use Rattle.model.proofs.{Sets.mask-i, Obey.obeys-unheld, Assignments.assign-mono, Assignments.drawn-e, EntryKinds.right-kinds, Endings.entailed-left, Endings.entails-mono, Lists.never}
+use Rattle.model.specs.Kit.{_≡_, refl, sym, ap, ap₂, _∙_, subst, Bool, true, false, not, List, [], _∷_, _++_, append-assoc, append-nil, List·Memᴰ, List·Memᴰ·head, List·Memᴰ·tail, List·Memᴰ·not-nil}
+use Rattle.model.specs.Kit.{Memᴰ·append-left, ⊎-elim, ℕ, _%_, _^_, _<_, _≤_, mod-eq-of-lt, arith, T, eqb, ltb, eqb→eq, eqb-refl, length, eq-eqb, eqb-true, lt-ltb, le-ltb}
+use Rattle.model.specs.Nogood.{Entry, equality, disequality, Kind, isEquality, isDisequality, bothAbsent, bothPresent, mark, kindBy, kindOf, entryIn, entryOf, valueOk, entryOk, is, obeysFrom, obeys}
+use Rattle.model.specs.Nogood.{obeying}
+use Rattle.model.specs.{Lists.at, Lists.both, ValueSets.has, ValueSets.maskOf, ValueSets.withoutMask, ValueSets.onlyMask, ValueSets.Inside, Problem.assignments}
+use Rattle.model.proofs.Lists.{T-of, of-T, not-of, of-not, both-i, both-l, both-r, both-no-r, keep-ext, getD-at, never}
+use Rattle.model.proofs.{Sets.has-none, Sets.has-lt, Sets.mask-i, Obey.obeys-unheld, Assignments.assign-mono, Assignments.drawn-e, EntryKinds.right-kinds, Endings.entailed-left, Endings.entails-mono}
 use Rattle.filter.specs.declared.Kind.the-variants.{Equality, Disequality, BothAbsent, BothPresent}
-use Rattle.filter.specs.{declared.entry.Step.the-variants.Next, declared.entry.Step.the-variants.Obeyed, inner.Scan.Right, inner.Scan.stepOf, inner.Lists.kindAs, Marks.Vacuous}
-use Rattle.filter.specs.Marks.{ObeyedForGood, NamesGone, Skippable, Skipped-here, Skipped-below}
+use Rattle.filter.specs.Marks.{Vacuous, ObeyedForGood, NamesGone, Skippable, Skipped-here, Skipped-below}
+use Rattle.filter.specs.{declared.entry.Step.the-variants.Next, declared.entry.Step.the-variants.Obeyed, inner.Scan.Right, inner.Scan.stepOf, inner.Lists.kindAs}
 use Rattle.filter.specs.declared.Kind as code
 use Rattle.filter.proofs.Scan
 use Rattle.filter.proofs.Front

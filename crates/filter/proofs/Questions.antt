@@ -1,11 +1,10 @@
 -- The questions 17, 18 and 19, one by one, and what an accepted call knows. Assumes nothing.
-use Rattle.model.specs.Kit.{_≡_, refl, sym, ap, _∙_, subst, Bool, true, false, not, List, ℕ, _≤_, _<_, arith, T, eqb, leb, length, eq-eqb, ne-eqb, eqb-true, le-leb, lt-leb}
-use Rattle.model.specs.Kit.{leb-true, not-false}
-use Rattle.model.specs.{Lists.at, Lists.both, Verdict.Verdict, Verdict.accepted, Verdict.refused, Verdict.ask, Verdict.reply, Nogood.entries, Nogood.entryOk, Nogood.firstWrong}
-use Rattle.model.specs.Nogood.{filterVerdict, setsAfter, filterEnding, filterAnswer}
-use Rattle.model.proofs.{Lists.T-of, Lists.both-false, Masks.least-none, Masks.least-at, Masks.least-below, Lists.never}
-use Rattle.filter.specs.{declared.Answer.Answer, declared.Verdict.the-variants.Accepted, declared.Verdict.the-variants.Refused, inner.Lists.Listed, inner.Lists.Applied, inner.Lists.verdictIs}
-use Rattle.filter.specs.FilterCalls.{CallFilter}
+use Rattle.model.specs.Kit.{_≡_, refl, sym, ap, _∙_, subst, Bool, true, false, not, List, ℕ, _≤_, _<_, arith, T, eqb, leb, length, eq-eqb, ne-eqb, eqb-true, le-leb, lt-leb, leb-true, not-false}
+use Rattle.model.specs.Nogood.{entries, entryOk, firstWrong, filterVerdict, setsAfter, filterEnding, filterAnswer}
+use Rattle.model.specs.{Lists.at, Lists.both, Verdict.Verdict, Verdict.accepted, Verdict.refused, Verdict.ask, Verdict.reply}
+use Rattle.model.proofs.{Lists.T-of, Lists.both-false, Lists.never, Masks.least-none, Masks.least-at, Masks.least-below}
+use Rattle.filter.specs.inner.Lists.{Listed, Applied, verdictIs}
+use Rattle.filter.specs.{declared.Answer.Answer, declared.Verdict.the-variants.Accepted, declared.Verdict.the-variants.Refused, FilterCalls.CallFilter}
 use Rattle.filter.proofs.Marks.{ok-right}
 use Rattle.filter.specs.declared.Answer.the-variants as answer
 use Rattle.filter.specs.declared.Verdict as code

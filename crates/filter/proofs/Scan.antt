@@ -1,16 +1,15 @@
 -- The laws of the scan. First, over any list of sets, what each entry comes to, for every list of entries after it and every test q;
 -- then what the filter leaves at the end of a scan. Front has the same of the first n of sixteen sets. Assumes nothing.
-use Rattle.model.specs.Kit.{_≡_, refl, sym, ap, ap₂, _∙_, subst, Bool, true, false, not, List, [], _∷_, map, _⊎_, inl, inr, ⊎-elim, ℕ, zero, suc, _^_, _<_, not-suc-le-zero}
-use Rattle.model.specs.Kit.{le-of-suc-le-suc, ℕ-discrete, arith, T, eqb, eqb→eq, length, getD, set, length-set, length-map, eq-eqb, eqb-true}
+use Rattle.model.specs.Kit.{_≡_, refl, sym, ap, ap₂, _∙_, subst, Bool, true, false, not, List, [], _∷_, map, _⊎_, inl, inr, ⊎-elim, ℕ, zero, suc, _^_, _<_, not-suc-le-zero, le-of-suc-le-suc}
+use Rattle.model.specs.Kit.{ℕ-discrete, arith, T, eqb, eqb→eq, length, getD, set, length-set, length-map, eq-eqb, eqb-true}
+use Rattle.model.specs.{Lists.both, Lists.either, Lists.any, Lists.at, Lists.tabulate, ValueSets.has, ValueSets.maskOf, ValueSets.withoutMask, ValueSets.onlyMask, ValueSets.Inside}
+use Rattle.model.specs.{Problem.assignments, Nogood.Entry, Nogood.equality, Nogood.disequality, Nogood.is, Nogood.obeysFrom, Nogood.obeys, Nogood.obeying, Nogood.used, Nogood.filtered}
 use mathlib.Core.Path.{fun-ext}
 use lib.Seq.{getD-set-same}
-use Rattle.model.specs.{Lists.both, Lists.either, Lists.any, Lists.at, Lists.tabulate, ValueSets.has, ValueSets.maskOf, ValueSets.withoutMask, ValueSets.onlyMask, ValueSets.Inside}
-use Rattle.model.specs.{Problem.assignments, Nogood.Entry, Nogood.equality, Nogood.disequality, Nogood.is, Nogood.obeysFrom, Nogood.obeys, Nogood.obeying, Nogood.used}
-use Rattle.model.specs.Nogood.{filtered}
-use Rattle.model.proofs.Lists.{T-of, of-T, not-of, of-not, T-ext, both-i, both-l, both-r, either-l, either-r, either-e, any-i, any-e, keep-i, keep-e, getD-at, at-ext, at-tabulate}
-use Rattle.model.proofs.{Lists.length-tabulate, Lists.at-set, Lists.at-set-other, Lists.set-at, Lists.set-each, Lists.both-less, Sets.has-mask, Sets.has-none, Sets.mask-lt}
-use Rattle.model.proofs.{Sets.mask-i, Sets.mask-e, Sets.members-i, Sets.members-e, Sets.member, Sets.at-zeros, Masks.is-mask, Members.either-no, Obey.obeys-unheld, Assignments.assign-i}
-use Rattle.model.proofs.Assignments.{assign-e}
+use Rattle.model.proofs.Lists.{T-of, of-T, not-of, of-not, T-ext, both-i, both-l, both-r, either-l, either-r, either-e, any-i, any-e, keep-i, keep-e, getD-at, at-ext, at-tabulate, length-tabulate}
+use Rattle.model.proofs.Lists.{at-set, at-set-other, set-at, set-each, both-less}
+use Rattle.model.proofs.Sets.{has-mask, has-none, mask-lt, mask-i, mask-e, members-i, members-e, member, at-zeros}
+use Rattle.model.proofs.{Masks.is-mask, Members.either-no, Obey.obeys-unheld, Assignments.assign-i, Assignments.assign-e}
 use Rattle.filter.specs.inner.Scan.{models}
 
 -- ---- an assignment drawn from the sets
@@ -195,8 +194,7 @@ without-lt s u = mask-lt 16 (λ v. both (has s v) (not (eqb v u)))
 
 -- the value that went is no member
 pub without-gone : (s u : ℕ) → T (has (withoutMask s u) u) → ⊥
-without-gone s u t =
-    of-not (not (eqb u u)) (ap not (eq-eqb u u refl)) (both-r (has s u) (not (eqb u u)) (mask-e (λ v. both (has s v) (not (eqb v u))) u t .1))
+without-gone s u t = of-not (not (eqb u u)) (ap not (eq-eqb u u refl)) (both-r (has s u) (not (eqb u u)) (mask-e (λ v. both (has s v) (not (eqb v u))) u t .1))
 
 pub only-lt : (s u : ℕ) → onlyMask s u < 2 ^ 16
 only-lt s u = mask-lt 16 (λ v. both (has s v) (eqb v u))

@@ -1,13 +1,12 @@
 -- The equality at which a pass stops, and what the whole filter leaves. Assumes nothing.
 use Rattle.model.specs.Kit.{_≡_, refl, sym, ap, _∙_, subst, Bool, true, false, not, List, [], _∷_, ℕ, zero, suc, _+_, _^_, _<_, add-one, arith, T, length, take, drop, replicate}
-use Rattle.model.specs.{Lists.at, Nogood.Entry, Nogood.equality, Nogood.disequality, Nogood.entries, Nogood.filtered, Nogood.endingBy, Nogood.everyObeys, Nogood.filterEnding}
-use Rattle.model.specs.Nogood.{answered}
-use Rattle.filter.specs.{declared.entry.Step.Step, declared.Reached.Reached, declared.Reached.the-variants.Failed, declared.Reached.the-variants.End}
-use Rattle.filter.specs.{declared.Reached.the-variants.Split, declared.Ending.Ending, inner.Scan.models, inner.Scan.Right, inner.Scan.Stepped, inner.Scan.None}
-use Rattle.filter.specs.{inner.Scan.Some, inner.Scan.Live, inner.Scan.Passed, inner.Scan.Remainder, inner.Scan.Resolved, inner.Scan.Changed, inner.Lists.Listed, inner.Lists.Ready}
+use Rattle.model.specs.{Lists.at, Nogood.Entry, Nogood.equality, Nogood.disequality, Nogood.entries, Nogood.filtered, Nogood.endingBy, Nogood.everyObeys, Nogood.filterEnding, Nogood.answered}
+use Rattle.filter.specs.declared.Reached.the-variants.{Failed, End, Split}
+use Rattle.filter.specs.inner.Scan.{models, Right, Stepped, None, Some, Live, Passed, Remainder, Resolved, Changed}
+use Rattle.filter.specs.{declared.entry.Step.Step, declared.Reached.Reached, declared.Ending.Ending, inner.Lists.Listed, inner.Lists.Ready}
 use Rattle.filter.specs.inner.Lists.{AtSplit, SplitReached, PassResult, ScanResult, Loaded, Applied, forced, zeros}
-use Rattle.filter.proofs.{Turns.entry-at, Endings.none-failed, Endings.passed-ending, Endings.every-passed, Endings.every-changed, Endings.ended-entailed}
-use Rattle.filter.proofs.Endings.{ended-every, kept-ending, gone-entailed, unchanged, changed-front, by-changed, front-consistent, front-remainder}
+use Rattle.filter.proofs.{Turns.entry-at, Endings.none-failed, Endings.passed-ending, Endings.every-passed, Endings.every-changed, Endings.ended-entailed, Endings.ended-every}
+use Rattle.filter.proofs.{Endings.kept-ending, Endings.gone-entailed, Endings.unchanged, Endings.changed-front, Endings.by-changed, Endings.front-consistent, Endings.front-remainder}
 use Rattle.filter.specs.declared.Ending.the-variants as ending
 use Rattle.filter.specs.declared.Answer.the-variants as answer
 use Rattle.filter.proofs.Scan

@@ -1,7 +1,7 @@
 -- What the code does to one set, as the step of an entry. Assumes nothing.
 use Rattle.model.specs.Kit.{_≡_, refl, sym, ap, ap₂, _∙_, Bool, true, false, not, List, ℕ, _+_, _^_, _≤_, _<_, arith, eqb, set, below-more, eq-eqb, ne-eqb, eqb-true, eqb-false}
-use mathlib.Core.Bool.{_||_}
 use Rattle.model.specs.{Lists.at, ValueSets.withoutMask, ValueSets.onlyMask, Nogood.equality, Nogood.disequality}
+use mathlib.Core.Bool.{_||_}
 use Rattle.filter.specs.declared.entry.Step.the-variants.{Next, Failed, Obeyed, Split}
 use Rattle.filter.specs.inner.Scan.{Stepped, Changed, cutStep, keepStep}
 use Rattle.filter.proofs.Scan.{kept-without, absent-only}

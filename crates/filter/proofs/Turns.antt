@@ -1,12 +1,11 @@
 -- A pass over the three lists: what each turn does, and what its end says. Assumes nothing.
-use Rattle.model.specs.Kit.{_≡_, refl, sym, ap, _∙_, subst, Bool, true, false, List, [], _∷_, ℕ, zero, suc, _+_, _≤_, _<_, not-suc-le-zero, le-of-suc-le-suc, add-one, arith, eqb}
-use Rattle.model.specs.Kit.{length, drop}
-use Rattle.model.specs.{Lists.at, ValueSets.withoutMask, Nogood.Entry, Nogood.equality, Nogood.disequality, Nogood.Kind, Nogood.isEquality, Nogood.isDisequality, Nogood.bothAbsent}
-use Rattle.model.specs.Nogood.{bothPresent, kindOf, entryIn, entryOf, entries}
+use Rattle.model.specs.Kit.{_≡_, refl, sym, ap, _∙_, subst, Bool, true, false, List, [], _∷_, ℕ, zero, suc, _+_, _≤_, _<_, not-suc-le-zero, le-of-suc-le-suc, add-one, arith, eqb, length, drop}
+use Rattle.model.specs.Nogood.{Entry, equality, disequality, Kind, isEquality, isDisequality, bothAbsent, bothPresent, kindOf, entryIn, entryOf, entries}
+use Rattle.model.specs.{Lists.at, ValueSets.withoutMask}
 use Rattle.model.proofs.Lists.{never}
-use Rattle.filter.specs.{declared.entry.Step.Step, declared.entry.Step.the-variants.Next, declared.entry.Step.the-variants.Failed, declared.entry.Step.the-variants.Obeyed}
-use Rattle.filter.specs.{declared.entry.Step.the-variants.Split, inner.Scan.stepOf, inner.Scan.after, inner.Scan.cutStep, inner.Scan.Right, inner.Scan.Stepped}
-use Rattle.filter.specs.{inner.Scan.None, inner.Scan.Passed, inner.Lists.Ready, inner.Lists.SplitReached}
+use Rattle.filter.specs.declared.entry.Step.the-variants.{Next, Failed, Obeyed, Split}
+use Rattle.filter.specs.inner.Scan.{stepOf, after, cutStep, Right, Stepped, None, Passed}
+use Rattle.filter.specs.{declared.entry.Step.Step, inner.Lists.Ready, inner.Lists.SplitReached}
 use Rattle.filter.proofs.Marks.{right-mono}
 use Rattle.filter.proofs.Front
 

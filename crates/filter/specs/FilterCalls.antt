@@ -2,8 +2,8 @@
 -- came, the three lists, the answer, and the sets afterwards. proofs/FilterCalls has the theorem.
 use Rattle.model.specs.Kit.{_≡_, _⊎_, _↔_, List, ℕ, _^_, _≤_, _<_, length, replicate, T}
 use Rattle.model.specs.{Lists.at, ValueSets.has, Nogood.mark, Nogood.entries, Nogood.filterVerdict, Nogood.filterAnswer, Nogood.setsAfter, Claims.Drawn}
-use Rattle.filter.specs.{Meaning.means, declared.Answer.Answer, declared.Answer.the-variants.Failed, declared.Answer.the-variants.Entailed}
-use Rattle.filter.specs.declared.Answer.the-variants.{Consistent, Refused}
+use Rattle.filter.specs.declared.Answer.the-variants.{Failed, Entailed, Consistent, Refused}
+use Rattle.filter.specs.{Meaning.means, declared.Answer.Answer}
 
 -- a call of `filter`: sets ds and the lists index, equal, not-equal as lent, answer r, sets rs at the end. It is the function's contract.
 pub record CallFilter (ds xs es us : List ℕ) (r : Answer) (rs : List ℕ) : Type 0 where

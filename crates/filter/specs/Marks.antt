@@ -1,7 +1,6 @@
 -- What is known of the first part of a list of nogoods for all assignments drawn from some sets, and stays known as the sets shrink and the list grows.
 use Rattle.model.specs.Kit.{_≡_, false, List, _++_, List·Memᴰ, ℕ, _^_, _<_, T, length}
-use Rattle.model.specs.{Lists.at, ValueSets.has, ValueSets.anyEmpty, ValueSets.Inside, Problem.assignments, Nogood.Entry, Nogood.equality, Nogood.obeys, Nogood.filtered}
-use Rattle.model.specs.NogoodClaims.{Entails}
+use Rattle.model.specs.{Lists.at, ValueSets.has, ValueSets.anyEmpty, ValueSets.Inside, Problem.assignments, Nogood.Entry, Nogood.equality, Nogood.obeys, Nogood.filtered, NogoodClaims.Entails}
 
 -- every equality of the entries holds and every disequality too: what comes after them decides
 abbrev pub Vacuous : List ℕ → List Entry → Type 0

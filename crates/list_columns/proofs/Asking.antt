@@ -1,8 +1,8 @@
 -- The questions as the code puts them, and what their answers say. Assumes nothing.
-use Rattle.model.specs.Kit.{_≡_, sym, ap, ap₂, _∙_, subst, Bool, true, false, List, ℕ, _+_, _*_, _/_, _%_, _≤_, _<_, mul-le-mul, mul-le-mul-right, arith, length, getD, T, leb, ltb}
-use Rattle.model.specs.Kit.{eqb, ltb→lt, lt→ltb, below-more, leb-true, eqb-true, lt-leb, le-leb, eq-eqb}
-use native.Mathlib.Nat.{div-add-mod'}
+use Rattle.model.specs.Kit.{_≡_, sym, ap, ap₂, _∙_, subst, Bool, true, false, List, ℕ, _+_, _*_, _/_, _%_, _≤_, _<_, mul-le-mul, mul-le-mul-right, arith, length, getD, T, leb, ltb, eqb, ltb→lt}
+use Rattle.model.specs.Kit.{lt→ltb, below-more, leb-true, eqb-true, lt-leb, le-leb, eq-eqb}
 use Rattle.model.specs.{Lists.both, Lists.all, Sheet.«word», Verdict.Verdict, Verdict.accepted, Verdict.refused, Verdict.ask, Verdict.isAccepted}
+use native.Mathlib.Nat.{div-add-mod'}
 use Rattle.model.proofs.Lists.{all-i, all-e, of-T, T-of, T-ext, not-of, mem-getD, place-of, both-i, both-l, both-r, never}
 use Rattle.model.proofs.Accepted.{asked}
 use Rattle.list_columns.specs.Columns.{variables, plans, body, wholeRows, smallValues, bytesVerdict, isStore, rowsVerdict}

@@ -1,16 +1,14 @@
 -- The claims of paper 02, #103. Assumes nothing.
-use Rattle.model.specs.Kit.{_≡_, refl, sym, ap, ap₂, _∙_, subst, Bool, true, false, List, [], _∷_, _++_, map, ℕ, _+_, _*_, _/_, _%_, _≤_, _<_, arith, T, leb, ltb, ltb→lt, length}
-use Rattle.model.specs.Kit.{take, getD, length-append, length-drop, take-append-drop, length-take-le, getD-take, leb-true, leb-false}
-use native.Mathlib.Nat.{mul-comm, mul-mod-left, mul-div-cancel}
+use Rattle.model.specs.Kit.{_≡_, refl, sym, ap, ap₂, _∙_, subst, Bool, true, false, List, [], _∷_, _++_, map, ℕ, _+_, _*_, _/_, _%_, _≤_, _<_, arith, T, leb, ltb, ltb→lt, length, take, getD}
+use Rattle.model.specs.Kit.{length-append, length-drop, take-append-drop, length-take-le, getD-take, leb-true, leb-false}
 use Rattle.model.specs.{Lists.all, Lists.flat, Lists.upFrom, Lists.below, Lists.at, Bytes.twoBytes, Sheet.«word», Run.listedPlans, Room.rowsIn, Verdict.accepted, Verdict.refused}
-use Rattle.model.proofs.{Lists.of-T, Lists.T-of, Lists.all-e, Lists.map-ext, Lists.below-e, Lists.at-out, Lists.mem-at, Room.Wide, Room.length-listed, Room.listed-wide}
-use Rattle.model.proofs.Room.{length-flat, cut-flat, flat-cut}
-use Rattle.list_columns.specs.Columns.{transposed, heading, columnsOf, variables, plans, body, columnsIn, rowsOf, smallValues, bytesVerdict, columnsVerdict, isStore}
-use Rattle.list_columns.specs.{Columns.rowsVerdict}
+use native.Mathlib.Nat.{mul-comm, mul-mod-left, mul-div-cancel}
+use Rattle.model.proofs.Lists.{of-T, T-of, all-e, map-ext, below-e, at-out, mem-at}
+use Rattle.model.proofs.Room.{Wide, length-listed, listed-wide, length-flat, cut-flat, flat-cut}
+use Rattle.list_columns.specs.Columns.{transposed, heading, columnsOf, variables, plans, body, columnsIn, rowsOf, smallValues, bytesVerdict, columnsVerdict, isStore, rowsVerdict}
 use Rattle.list_columns.specs.inner.Claims.{RowsBack, StoreBack, Store, StoresOnly, StoreTest}
 use Rattle.list_columns.proofs.Asking.{cells, Passed, passed, passes, store-e, store-i, no-store, asked-23, refusal-is, accepted-store}
-use Rattle.list_columns.proofs.{Cells.heading-length, Transposing.map-places, Transposing.length-transposed, Transposing.transposed-wide, Transposing.twice}
-use Rattle.list_columns.proofs.Transposing.{small-transposed}
+use Rattle.list_columns.proofs.{Cells.heading-length, Transposing.map-places, Transposing.length-transposed, Transposing.transposed-wide, Transposing.twice, Transposing.small-transposed}
 
 -- ---- 23
 pub store-test : StoreTest

@@ -1,11 +1,11 @@
 -- What callers of `to_columns` and `to_rows` hold (specs/Calls). Assumes nothing.
 use Rattle.model.specs.Kit.{_≡_, refl, ap, ap₂, _∙_, subst, List, _++_, ℕ, length, take, drop}
-use lib.Seq.{take-append-seam, drop-append-seam}
 use Rattle.model.specs.{Verdict.Verdict, Verdict.accepted, Verdict.refused, Room.wrote, Room.outcomeOf, Room.roomAfter}
+use lib.Seq.{take-append-seam, drop-append-seam}
 use Rattle.model.proofs.Lists.{never}
-use Rattle.list_columns.specs.{Columns.columnsOf, Columns.rowsOf, Columns.variables, Columns.columnsVerdict, Columns.rowsVerdict, Meaning.means, declared.Answer.Answer}
-use Rattle.list_columns.specs.{declared.Answer.the-variants.Written, declared.Answer.the-variants.Refused, Calls.CallColumns, Calls.CallRows, Calls.Wrote}
-use Rattle.list_columns.specs.Calls.{Rows-back-calls, Store-back-calls}
+use Rattle.list_columns.specs.Columns.{columnsOf, rowsOf, variables, columnsVerdict, rowsVerdict}
+use Rattle.list_columns.specs.Calls.{CallColumns, CallRows, Wrote, Rows-back-calls, Store-back-calls}
+use Rattle.list_columns.specs.{Meaning.means, declared.Answer.Answer, declared.Answer.the-variants.Written, declared.Answer.the-variants.Refused}
 use Rattle.list_columns.proofs.Back.{rows-back, store-back}
 
 is-written : (r : Answer) (k : ℕ) → means r ≡ wrote k → r ≡ Written k

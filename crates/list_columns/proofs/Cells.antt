@@ -1,10 +1,10 @@
 -- Numbers put one after another, and a buffer by its indexes. Assumes nothing.
-use Rattle.model.specs.Kit.{_≡_, refl, sym, ap, ap₂, _∙_, subst, Bool, true, false, List, [], _∷_, _++_, List·Memᴰ·head, ℕ, zero, suc, _+_, _*_, _-_, _/_, _%_, _≤_, _<_, suc-mul}
-use Rattle.model.specs.Kit.{arith, ltb, length, take, drop, getD, set, length-set, length-append, length-drop, take-append-drop, length-take-le, ltb-true, ltb-false}
-use native.Mathlib.Nat.{zero-mul, mul-zero, div-add-mod', mod-lt, div-lt-iff-lt-mul}
+use Rattle.model.specs.Kit.{_≡_, refl, sym, ap, ap₂, _∙_, subst, Bool, true, false, List, [], _∷_, _++_, List·Memᴰ·head, ℕ, zero, suc, _+_, _*_, _-_, _/_, _%_, _≤_, _<_, suc-mul, arith, ltb, length}
+use Rattle.model.specs.Kit.{take, drop, getD, set, length-set, length-append, length-drop, take-append-drop, length-take-le, ltb-true, ltb-false}
 use Rattle.model.specs.{Lists.flat, Lists.at, Run.listedPlans, Bytes.twoBytes, Written.placed, Written.Written}
-use Rattle.model.proofs.{Lists.at-ext, Lists.at-append, Lists.at-skip, Lists.at-take, Lists.at-drop, Lists.getD-below, Room.Wide, Room.wide-tail, Room.length-listed, Room.length-flat}
-use Rattle.model.proofs.Written.{written-byte, written-then}
+use native.Mathlib.Nat.{zero-mul, mul-zero, div-add-mod', mod-lt, div-lt-iff-lt-mul}
+use Rattle.model.proofs.Lists.{at-ext, at-append, at-skip, at-take, at-drop, getD-below}
+use Rattle.model.proofs.{Room.Wide, Room.wide-tail, Room.length-listed, Room.length-flat, Written.written-byte, Written.written-then}
 use Rattle.list_columns.specs.Columns.{column, transposed, heading}
 use Rattle.list_columns.proofs.Transposing.{at-column, length-transposed, transposed-wide}
 

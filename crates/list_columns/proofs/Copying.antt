@@ -1,8 +1,7 @@
 -- Cells copied one by one, and a variable's cells after another's. Assumes nothing.
-use Rattle.model.specs.Kit.{_≡_, refl, sym, ap, _∙_, Bool, true, false, List, ℕ, _+_, _*_, _≤_, _<_, suc-mul, mul-le-mul-right, arith, below-more, leb-true, leb-false, leb, length}
-use Rattle.model.specs.Kit.{set}
-use native.Mathlib.Nat.{mul-one}
+use Rattle.model.specs.Kit.{_≡_, refl, sym, ap, _∙_, Bool, true, false, List, ℕ, _+_, _*_, _≤_, _<_, suc-mul, mul-le-mul-right, arith, below-more, leb-true, leb-false, leb, length, set}
 use Rattle.model.specs.{Lists.at, Written.placed}
+use native.Mathlib.Nat.{mul-one}
 use Rattle.model.proofs.Lists.{at-set, at-set-other}
 use Rattle.list_columns.specs.inner.Steps.{Inside, Copied}
 use Rattle.list_columns.proofs.Cells.{turned, turned-placed}

@@ -1,13 +1,11 @@
 -- A whole store and all rows of a store, as the code writes them. Assumes nothing.
-use Rattle.model.specs.Kit.{_≡_, refl, sym, ap, ap₂, _∙_, subst, Bool, true, false, List, ℕ, _+_, _*_, _-_, _/_, _≤_, _<_, arith, length, take, drop, length-append, length-drop}
-use Rattle.model.specs.Kit.{take-all}
+use Rattle.model.specs.Kit.{_≡_, refl, sym, ap, ap₂, _∙_, subst, Bool, true, false, List, ℕ, _+_, _*_, _-_, _/_, _≤_, _<_, arith, length, take, drop, length-append, length-drop, take-all}
+use Rattle.model.specs.{Verdict.accepted, Verdict.refused, Room.rowsIn, Room.wrote, Room.refusal, Room.outcomeOf, Room.roomAfter, Room.numbered, Written.placed, Written.Written, Written.Fronted}
 use native.Mathlib.Nat.{mul-comm, zero-add}
-use Rattle.model.specs.{Verdict.accepted, Verdict.refused, Room.rowsIn, Room.wrote, Room.refusal, Room.outcomeOf, Room.roomAfter, Room.numbered, Written.placed, Written.Written}
-use Rattle.model.specs.Written.{Fronted}
 use Rattle.model.proofs.{Lists.T-of, Room.refused-out, Room.wrote-out, Written.written-then, Written.fronted}
 use Rattle.list_columns.specs.Columns.{heading, columnsOf, variables, plans, body, columnsIn, rowsOf, bytesVerdict, columnsVerdict, isStore, rowsVerdict}
-use Rattle.list_columns.proofs.{Cells.heading-length, Cells.turned, Cells.turned-length, Asking.Passed, Asking.passed, Asking.cells, Asking.few-bytes, Asking.refusal-is}
-use Rattle.list_columns.proofs.Asking.{store-e, asked-23, accepted-store}
+use Rattle.list_columns.proofs.Cells.{heading-length, turned, turned-length}
+use Rattle.list_columns.proofs.Asking.{Passed, passed, cells, few-bytes, refusal-is, store-e, asked-23, accepted-store}
 
 -- ---- rows to columns
 pub heading-fits : {n : ℕ} {b : List ℕ} {room : ℕ} → Passed n b (8 + length b) room → (8 ≤ room) × (n < 65536) × (length b / n < 65536) × (8 + n * (length b / n) < 65536)

@@ -1,6 +1,5 @@
 -- Columns of rows, and columns of columns. Assumes nothing.
-use Rattle.model.specs.Kit.{_≡_, refl, sym, ap, _∙_, subst, true, List, [], _∷_, map, List·Memᴰ, Memᴰ·of-map, ℕ, zero, suc, _<_, not-suc-le-zero, le-of-suc-le-suc, T, ltb, length}
-use Rattle.model.specs.Kit.{getD, length-map}
+use Rattle.model.specs.Kit.{_≡_, refl, sym, ap, _∙_, subst, true, List, [], _∷_, map, List·Memᴰ, Memᴰ·of-map, ℕ, zero, suc, _<_, not-suc-le-zero, le-of-suc-le-suc, T, ltb, length, getD, length-map}
 use Rattle.model.specs.Lists.{flat, upFrom, below, at}
 use Rattle.model.proofs.Lists.{map-ext, map-shift, length-below, below-e, mem-at, mem-getD, flat-i, flat-e, all-i, all-e, of-T, T-of, map-map}
 use Rattle.model.proofs.Room.{Wide}

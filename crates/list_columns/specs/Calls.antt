@@ -2,8 +2,8 @@
 -- #103, of what a caller of both holds. proofs/Calls has the theorems.
 use Rattle.model.specs.Kit.{_≡_, List, ℕ, _≤_, length, take, drop, T, ltb}
 use Rattle.model.specs.{Lists.all, Room.outcomeOf, Room.roomAfter}
-use Rattle.list_columns.specs.{Columns.columnsOf, Columns.rowsOf, Columns.variables, Columns.columnsVerdict, Columns.rowsVerdict, Meaning.means, declared.Answer.Answer}
-use Rattle.list_columns.specs.declared.Answer.the-variants.{Written}
+use Rattle.list_columns.specs.Columns.{columnsOf, rowsOf, variables, columnsVerdict, rowsVerdict}
+use Rattle.list_columns.specs.{Meaning.means, declared.Answer.Answer, declared.Answer.the-variants.Written}
 
 abbrev pub CallColumns : ℕ → List ℕ → List ℕ → Answer → List ℕ → Type 0
 CallColumns n rows room r after =

@@ -1,8 +1,7 @@
 -- Plans stored by window (paper 02, #103): the store of some rows, the rows of a store, and the questions put to both. A variable is the
 -- paper's place, a row a plan.
 use Rattle.model.specs.Kit.{Bool, List, _++_, map, ℕ, _+_, _*_, _/_, _%_, length, drop, leb, ltb, eqb}
-use Rattle.model.specs.{Lists.both, Lists.all, Lists.flat, Lists.below, Lists.at, Bytes.twoBytes, Run.listedPlans, Sheet.«word», Room.rowsIn, Verdict.Verdict, Verdict.accepted}
-use Rattle.model.specs.Verdict.{ask}
+use Rattle.model.specs.{Lists.both, Lists.all, Lists.flat, Lists.below, Lists.at, Bytes.twoBytes, Run.listedPlans, Sheet.«word», Room.rowsIn, Verdict.Verdict, Verdict.accepted, Verdict.ask}
 
 -- ---- rows and columns
 -- the value at x of every row

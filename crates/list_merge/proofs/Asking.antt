@@ -1,10 +1,10 @@
 -- The questions as the code puts them. Assumes nothing.
-use Rattle.model.specs.Kit.{_≡_, refl, sym, ap, ap₂, _∙_, subst, Bool, true, false, List, [], _∷_, _++_, ℕ, _+_, _/_, _%_, _≤_, _<_, arith, leb, ltb, eqb, leb→le, eqb→eq, length}
-use Rattle.model.specs.Kit.{take, length-append, lt-leb, ne-eqb, le-leb, eq-eqb, leb-true, leb-false, ltb-false}
+use Rattle.model.specs.Kit.{_≡_, refl, sym, ap, ap₂, _∙_, subst, Bool, true, false, List, [], _∷_, _++_, ℕ, _+_, _/_, _%_, _≤_, _<_, arith, leb, ltb, eqb, leb→le, eqb→eq, length, take, length-append}
+use Rattle.model.specs.Kit.{lt-leb, ne-eqb, le-leb, eq-eqb, leb-true, leb-false, ltb-false}
+use Rattle.model.specs.Room.{Outcome, rowsIn, wrote, refusal, outcomeOf, roomAfter}
+use Rattle.model.specs.{Lists.both, Lists.all, Lists.flat, Lists.same, Verdict.Verdict, Verdict.accepted, Verdict.refused, Verdict.ask}
 use native.Mathlib.Nat.{div-add-mod'}
-use Rattle.model.specs.{Lists.both, Lists.all, Lists.flat, Lists.same, Verdict.Verdict, Verdict.accepted, Verdict.refused, Verdict.ask, Room.Outcome, Room.rowsIn, Room.wrote}
-use Rattle.model.specs.Room.{refusal, outcomeOf, roomAfter}
-use Rattle.model.proofs.{Lists.T-of, Lists.both-l, Lists.both-r, Lists.both-no-l, Lists.both-no-r, Lists.both-yes, Room.flat-cut, Room.refused-out, Room.wrote-out, Written.fronted, Lists.never}
+use Rattle.model.proofs.{Lists.T-of, Lists.both-l, Lists.both-r, Lists.both-no-l, Lists.both-no-r, Lists.both-yes, Lists.never, Room.flat-cut, Room.refused-out, Room.wrote-out, Written.fronted}
 use Rattle.order.specs.{Order.settlingOrder, Order.settlesAll, Order.orderVerdict, inner.Settled.Ordered, Reordered.earlierBy}
 use Rattle.order.proofs.Placing.{settling-of}
 use Rattle.list_merge.specs.Merge.{ascends, insert, union, mergedBy, merged, wholeLists, orderedVerdict, mergeVerdict}

@@ -1,15 +1,14 @@
 -- The claims of paper 02, #106. Assumes nothing.
 use Rattle.model.specs.Kit.{_≡_, refl, sym, ap, _∙_, subst, _⊎_, inl, inr, ⊎-elim, List, [], _∷_, map, List·Memᴰ, List·Memᴰ·head, List·Memᴰ·not-nil, ℕ, _≤_, arith, T}
 use Rattle.model.specs.{Lists.flat, Lists.below, Lists.rowsAscend, Room.rowsIn, Verdict.Verdict, Verdict.accepted, Verdict.isAccepted}
-use Rattle.model.proofs.{Lists.T-of, Lists.of-T, Lists.earlier-asym, Lists.Sorted, Lists.sorted-ext, Accepted.asked, Room.Wide, Room.wide-tail, Room.rows-wide, Room.rows-none}
-use Rattle.model.proofs.Room.{rows-back}
+use Rattle.model.proofs.{Lists.T-of, Lists.of-T, Lists.earlier-asym, Lists.Sorted, Lists.sorted-ext, Accepted.asked, Room.Wide, Room.wide-tail, Room.rows-wide, Room.rows-none, Room.rows-back}
 use Rattle.order.specs.{Order.settlingOrder, Order.orderVerdict, Order.Ordering, Reordered.read}
 use Rattle.order.proofs.{Order.order-passed, LeadersBy.read-below}
-use Rattle.list_merge.specs.{inner.Inner.Places, Merge.ascends, Merge.union, Merge.mergedBy, Merge.merged, Merge.wholeLists, Merge.orderedVerdict, Merge.mergeVerdict}
-use Rattle.list_merge.specs.Claims.{Merged-exactly, Ascends, Nothing-lent}
+use Rattle.list_merge.specs.Merge.{ascends, union, mergedBy, merged, wholeLists, orderedVerdict, mergeVerdict}
+use Rattle.list_merge.specs.{inner.Inner.Places, Claims.Merged-exactly, Claims.Ascends, Claims.Nothing-lent}
 use Rattle.list_merge.specs.inner.Claims.{Itself, Empty, Swapped}
-use Rattle.list_merge.proofs.{Reading.Earlier, Reading.ascends-none, Reading.sorted-of, Reading.ascends-of, Union.union-e, Union.union-i, Union.union-wide}
-use Rattle.list_merge.proofs.{Union.union-sorted, Asking.rows-bytes, Asking.Whole, Asking.whole-e}
+use Rattle.list_merge.proofs.{Reading.Earlier, Reading.ascends-none, Reading.sorted-of, Reading.ascends-of, Union.union-e, Union.union-i, Union.union-wide, Union.union-sorted}
+use Rattle.list_merge.proofs.{Asking.rows-bytes, Asking.Whole, Asking.whole-e}
 use Rattle.order.proofs.Order as O
 
 -- the merged bytes as rows are the union

@@ -1,8 +1,8 @@
 -- A row put down four bytes at a time, the last four over the ones before. Assumes nothing.
-use Rattle.model.specs.Kit.{_≡_, refl, sym, ap, ap₂, _∙_, List, _++_, append-assoc, ℕ, _+_, _-_, _≤_, _<_, add-one, arith, length, take, drop, getD, set, length-append}
-use Rattle.model.specs.Kit.{length-drop, length-take-le, take-all, getD-take, getD-drop}
-use lib.Seq.{take-add, take-at, drop-at, drop-drop, paste, paste-zero, paste-suc}
+use Rattle.model.specs.Kit.{_≡_, refl, sym, ap, ap₂, _∙_, List, _++_, append-assoc, ℕ, _+_, _-_, _≤_, _<_, add-one, arith, length, take, drop, getD, set, length-append, length-drop, length-take-le}
+use Rattle.model.specs.Kit.{take-all, getD-take, getD-drop}
 use Rattle.model.specs.Written.{placed, Written}
+use lib.Seq.{take-add, take-at, drop-at, drop-drop, paste, paste-zero, paste-suc}
 use Rattle.model.proofs.Written.{length-placed, placed-then, written-paste}
 
 module _ (d : List ℕ) (to : ℕ) (row : List ℕ) (from : ℕ) (hd : to + 4 ≤ length d) (hr : from + 4 ≤ length row) where

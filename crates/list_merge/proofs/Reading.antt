@@ -1,9 +1,9 @@
 -- The reading order of rows, in any order of their places. Assumes nothing.
-use Rattle.model.specs.Kit.{_≡_, refl, sym, ap, ap₂, _∙_, subst, Bool, true, false, ⊎-elim, List, [], _∷_, map, List·Memᴰ, List·Memᴰ·head, List·Memᴰ·tail, List·Memᴰ·not-nil, ℕ}
-use Rattle.model.specs.Kit.{suc, _+_, _≤_, _<_, add-one, arith, T, eqb, ltb, length, drop, getD, ltb-true, ltb-false, eq-eqb}
+use Rattle.model.specs.Kit.{_≡_, refl, sym, ap, ap₂, _∙_, subst, Bool, true, false, ⊎-elim, List, [], _∷_, map, List·Memᴰ, List·Memᴰ·head, List·Memᴰ·tail, List·Memᴰ·not-nil, ℕ, suc, _+_, _≤_, _<_}
+use Rattle.model.specs.Kit.{add-one, arith, T, eqb, ltb, length, drop, getD, ltb-true, ltb-false, eq-eqb}
+use Rattle.model.specs.Lists.{at, below, earlier, rowsAscend}
 use lib.ListN.{drop-of-length-le}
 use lib.Seq.{drop-cons}
-use Rattle.model.specs.Lists.{at, below, earlier, rowsAscend}
 use Rattle.model.proofs.Lists.{T-of, of-T, not-of, earlier-lt, earlier-e, earlier-trans, at-map, at-mem, at-ext, at-below, length-below, Sorted}
 use Rattle.list_merge.specs.{Merge.ascends, inner.Inner.Places, inner.Inner.ByPlace, inner.Inner.Kind}
 use Rattle.order.specs.Reordered.{read, earlierBy}
@@ -61,8 +61,7 @@ rows-equal n order p a b ea eb s t =
 
 -- ---- by place
 pub plain-way : (n : ℕ) (order : List ℕ) → ByPlace n order → (a b : List ℕ) → n ≡ length a → n ≡ length b → earlier a b ≡ earlierBy order a b
-plain-way n order p a b ea eb =
-    sym (ap (λ (o : List ℕ). earlierBy o a b) (p .order-is) ∙ ap₂ earlier (read-below n a (sym ea)) (read-below n b (sym eb)))
+plain-way n order p a b ea eb = sym (ap (λ (o : List ℕ). earlierBy o a b) (p .order-is) ∙ ap₂ earlier (read-below n a (sym ea)) (read-below n b (sym eb)))
 
 pub in-place : (n : ℕ) (order : List ℕ) → 8 ≤ n → n ≤ 12 → length order ≡ n → ((k : ℕ) → k < length order → getD order k 0 ≡ k) → Kind n order true
 unfolding at

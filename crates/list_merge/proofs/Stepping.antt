@@ -1,15 +1,14 @@
 -- The next row of two lists, and what is left of them after it. Assumes nothing.
-use Rattle.model.specs.Kit.{_≡_, refl, sym, ap, ap₂, _∙_, subst, Bool, true, false, not, _⊎_, inl, inr, List, [], _∷_, _++_, List·Memᴰ, List·Memᴰ·head, List·Memᴰ·tail}
-use Rattle.model.specs.Kit.{List·Memᴰ·not-nil, ℕ, _+_, _-_, _%_, _≤_, _<_, mod-eq-of-lt, arith, T, eqb, leb, ltb, length, take, drop, length-drop, length-take-le, eqb-true}
-use Rattle.model.specs.Kit.{eqb-false, eq-eqb, ne-eqb, leb-true, leb-false, ltb-true, ltb-false, lt-ltb, le-ltb}
+use Rattle.model.specs.Kit.{_≡_, refl, sym, ap, ap₂, _∙_, subst, Bool, true, false, not, _⊎_, inl, inr, List, [], _∷_, _++_, List·Memᴰ, List·Memᴰ·head, List·Memᴰ·tail, List·Memᴰ·not-nil, ℕ, _+_, _-_}
+use Rattle.model.specs.Kit.{_%_, _≤_, _<_, mod-eq-of-lt, arith, T, eqb, leb, ltb, length, take, drop, length-drop, length-take-le, eqb-true, eqb-false, eq-eqb, ne-eqb, leb-true, leb-false, ltb-true}
+use Rattle.model.specs.Kit.{ltb-false, lt-ltb, le-ltb}
+use Rattle.model.specs.{Lists.choose, Lists.both, Lists.either, Lists.flat, Lists.same, Room.rowsIn}
 use native.Mathlib.Nat.{mod-eq-sub-mod}
 use lib.Seq.{take-nil}
-use Rattle.model.specs.{Lists.choose, Lists.both, Lists.either, Lists.flat, Lists.same, Room.rowsIn}
 use Rattle.model.proofs.Lists.{T-of, of-T, not-of, of-not, same-eq, same-refl, earlier-asym, earlier-trans, Sorted, length-none, never}
 use Rattle.model.proofs.Room.{Wide, wide-tail, rows-wide, rows-none, rows-cons}
-use Rattle.list_merge.specs.{Merge.ascends, Merge.union, Merge.mergedBy, Merge.fromFirst, Merge.nextRow, inner.Inner.Places, inner.Inner.wayOf, inner.Inner.Rests}
-use Rattle.list_merge.specs.{inner.Inner.Sorts, inner.Inner.ofFirst, inner.Inner.taken, declared.Way.Way, declared.Way.the-variants.Before, declared.Way.the-variants.Same}
-use Rattle.list_merge.specs.declared.Way.the-variants.{After}
+use Rattle.list_merge.specs.{Merge.ascends, Merge.union, Merge.mergedBy, Merge.fromFirst, Merge.nextRow, inner.Inner.Places, inner.Inner.wayOf, inner.Inner.Rests, inner.Inner.Sorts}
+use Rattle.list_merge.specs.{inner.Inner.ofFirst, inner.Inner.taken, declared.Way.Way, declared.Way.the-variants.Before, declared.Way.the-variants.Same, declared.Way.the-variants.After}
 use Rattle.order.specs.Reordered.{read, earlierBy}
 use Rattle.list_merge.proofs.{Reading.rows-equal, Reading.Earlier, Reading.sorted-of, Reading.ascends-of, Union.union-step}
 
@@ -77,13 +76,11 @@ module _ (n : ℕ) (order a b : List ℕ) where
 
   pub first-empty : (length b ≡ 0 → ⊥) → length a ≡ 0 → fromFirst n order a b ≡ false
   unfolding fromFirst
-  first-empty h e =
-      ap₂ (λ (t u : Bool). either t (both (not u) (not (earlierBy order (take n b) (take n a))))) (ne-eqb (length b) 0 h) (eq-eqb (length a) 0 e)
+  first-empty h e = ap₂ (λ (t u : Bool). either t (both (not u) (not (earlierBy order (take n b) (take n a))))) (ne-eqb (length b) 0 h) (eq-eqb (length a) 0 e)
 
   pub by-rows : (length b ≡ 0 → ⊥) → (length a ≡ 0 → ⊥) → fromFirst n order a b ≡ not (earlierBy order (take n b) (take n a))
   unfolding fromFirst
-  by-rows h k =
-      ap₂ (λ (t u : Bool). either t (both (not u) (not (earlierBy order (take n b) (take n a))))) (ne-eqb (length b) 0 h) (ne-eqb (length a) 0 k)
+  by-rows h k = ap₂ (λ (t u : Bool). either t (both (not u) (not (earlierBy order (take n b) (take n a))))) (ne-eqb (length b) 0 h) (ne-eqb (length a) 0 k)
 
   pub next-first : fromFirst n order a b ≡ true → take n a ≡ nextRow n order a b
   unfolding nextRow

@@ -1,16 +1,16 @@
 -- What each function of the crate shows at its branches and turns. Assumes nothing.
-use Rattle.model.specs.Kit.{_≡_, refl, sym, ap, ap₂, _∙_, subst, Bool, true, false, not, List, _∷_, _++_, append-assoc, append-nil, ℕ, _+_, _-_, _%_, _≤_, _<_, arith, leb, eqb}
-use Rattle.model.specs.Kit.{length, take, drop, length-drop, length-append, length-take-le, take-all, leb-true, leb-false, eq-eqb, ne-eqb, eqb-true, eqb-false}
-use lib.Seq.{take-nil}
+use Rattle.model.specs.Kit.{_≡_, refl, sym, ap, ap₂, _∙_, subst, Bool, true, false, not, List, _∷_, _++_, append-assoc, append-nil, ℕ, _+_, _-_, _%_, _≤_, _<_, arith, leb, eqb, length, take, drop}
+use Rattle.model.specs.Kit.{length-drop, length-append, length-take-le, take-all, leb-true, leb-false, eq-eqb, ne-eqb, eqb-true, eqb-false}
 use Rattle.model.specs.{Room.rowsIn, Lists.choose}
+use lib.Seq.{take-nil}
 use Rattle.model.proofs.{Room.rows-none, Room.rows-cons, Lists.length-none}
-use Rattle.list_merge.specs.{Merge.ascends, Merge.mergedBy, Merge.fromFirst, Merge.nextRow, inner.Inner.wayOf, inner.Inner.Rests, inner.Inner.Sorts, inner.Inner.stands}
-use Rattle.list_merge.specs.{inner.Inner.ofFirst, inner.Inner.Fronts, inner.Inner.takenFirst, inner.Inner.takenSecond, inner.Inner.taken, declared.Way.Way}
-use Rattle.list_merge.specs.declared.Way.the-variants.{Before, Same, After}
+use Rattle.list_merge.specs.Merge.{ascends, mergedBy, fromFirst, nextRow}
+use Rattle.list_merge.specs.inner.Inner.{wayOf, Rests, Sorts, stands, ofFirst, Fronts, takenFirst, takenSecond, taken}
+use Rattle.list_merge.specs.{declared.Way.Way, declared.Way.the-variants.Before, declared.Way.the-variants.Same, declared.Way.the-variants.After}
 use Rattle.order.specs.Reordered.{earlierBy}
-use Rattle.list_merge.proofs.{Reading.rows-equal, Reading.ascends-yes, Reading.ascends-no, Reading.ascends-none, Reading.ascends-one, Stepping.before-way}
-use Rattle.list_merge.proofs.Stepping.{after-way, same-way, second-empty, first-empty, by-rows, next-first, next-second, some-row, drop-whole, taken-none, taken-yes}
-use Rattle.list_merge.proofs.Stepping.{taken-no, not-itself, Step, stepped, ended}
+use Rattle.list_merge.proofs.Reading.{rows-equal, ascends-yes, ascends-no, ascends-none, ascends-one}
+use Rattle.list_merge.proofs.Stepping.{before-way, after-way, same-way, second-empty, first-empty, by-rows, next-first, next-second, some-row, drop-whole, taken-none, taken-yes, taken-no}
+use Rattle.list_merge.proofs.Stepping.{not-itself, Step, stepped, ended}
 
 -- ---- stand
 module _ (n : ℕ) (order a b : List ℕ) where

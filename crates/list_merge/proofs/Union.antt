@@ -1,9 +1,7 @@
 -- The union of two ascending lists of rows: its members, its order, and its first row. Assumes nothing.
-use Rattle.model.specs.Kit.{_≡_, refl, sym, _∙_, subst, Bool, true, false, _⊎_, inl, inr, ⊎-elim, List, [], _∷_, List·Memᴰ, List·Memᴰ·head, List·Memᴰ·tail, List·Memᴰ·not-nil, ℕ, T}
-use Rattle.model.specs.Kit.{length}
+use Rattle.model.specs.Kit.{_≡_, refl, sym, _∙_, subst, Bool, true, false, _⊎_, inl, inr, ⊎-elim, List, [], _∷_, List·Memᴰ, List·Memᴰ·head, List·Memᴰ·tail, List·Memᴰ·not-nil, ℕ, T, length}
 use Rattle.model.specs.Lists.{same}
-use Rattle.model.proofs.{Lists.T-of, Lists.of-not, Lists.same-eq, Lists.same-refl, Lists.earlier-asym, Lists.earlier-trans, Lists.Sorted, Lists.sorted-ext, Room.Wide}
-use Rattle.model.proofs.Room.{wide-tail}
+use Rattle.model.proofs.{Lists.T-of, Lists.of-not, Lists.same-eq, Lists.same-refl, Lists.earlier-asym, Lists.earlier-trans, Lists.Sorted, Lists.sorted-ext, Room.Wide, Room.wide-tail}
 use Rattle.list_merge.specs.{Merge.insert, Merge.union, inner.Inner.Places}
 use Rattle.order.specs.Reordered.{read, earlierBy}
 use Rattle.list_merge.proofs.Reading.{rows-equal, Earlier}

@@ -1,11 +1,10 @@
 -- Rows compared by words of four bytes. Assumes nothing.
-use Rattle.model.specs.Kit.{_≡_, refl, sym, ap, ap₂, _∙_, Bool, true, false, List, _∷_, ℕ, zero, suc, _+_, _*_, _≤_, _<_, add-one, arith, ltb, length, drop, getD, below-more}
-use Rattle.model.specs.Kit.{ltb-true, ltb-false}
+use Rattle.model.specs.Kit.{_≡_, refl, sym, ap, ap₂, _∙_, Bool, true, false, List, _∷_, ℕ, zero, suc, _+_, _*_, _≤_, _<_, add-one, arith, ltb, length, drop, getD, below-more, ltb-true, ltb-false}
+use Rattle.model.specs.Lists.{earlier}
 use native.Mathlib.Nat.{le-antisymm}
 use lib.ListN.{drop-of-length-le}
 use lib.Seq.{drop-cons}
 use borrow.Author.Count.{below-none}
-use Rattle.model.specs.Lists.{earlier}
 use Rattle.model.proofs.Lists.{T-of, of-T, not-of, earlier-lt, earlier-asym}
 use Rattle.list_merge.specs.inner.Inner.{wayOf, eightOf, wordOf, Number, Long, Decides}
 use Rattle.list_merge.proofs.Reading.{earlier-same}

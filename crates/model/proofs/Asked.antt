@@ -3,10 +3,10 @@ use Rattle.model.specs.Kit.{_≡_, refl, sym, ap, ap₂, _∙_, subst, B
 use Rattle.model.specs.Kit.{arith, T, leb, ltb, eqb, leb→le, not-T, eqb→eq, length, eq-eqb, le-leb, lt-ltb}
 use Rattle.model.specs.Problem.{Problem, Constraint, pair, isPair, pairsAt, within, assignments, doubled, excluded, forbidden, respects, withSymmetries}
 use Rattle.model.specs.Sheet.{Header, word, headerVerdict, scopeAt, rowsAt, afterAt, setsVerdict, constraintVerdict, constraintsVerdict, permutesPairs, symmetriesVerdict}
-use Rattle.model.specs.{Lists.all, Lists.any, Lists.both, Lists.at, Lists.keep, Lists.flat, Lists.below, Lists.same, Lists.ascending, Lists.rowsAscend, Verdict.Verdict, Verdict.accepted}
-use Rattle.model.specs.{Verdict.ask, Verdict.isAccepted, inner.WellFormed.WellFormed, inner.WellFormed.GoodSymmetry, inner.WellFormed.Respected}
-use Rattle.model.proofs.{Lists.of-T, Lists.map-ext, Accepted.HeaderPassed, Accepted.asked, OneMore.after-low, OneMore.arity, OneMore.count, OneMore.after-agree}
-use Rattle.model.proofs.OneMore.{scope-agree, rows-agree, Agree}
+use Rattle.model.specs.Lists.{all, any, both, at, keep, flat, below, same, ascending, rowsAscend}
+use Rattle.model.specs.{Verdict.Verdict, Verdict.accepted, Verdict.ask, Verdict.isAccepted, inner.WellFormed.WellFormed, inner.WellFormed.GoodSymmetry, inner.WellFormed.Respected}
+use Rattle.model.proofs.OneMore.{after-low, arity, count, after-agree, scope-agree, rows-agree, Agree}
+use Rattle.model.proofs.{Lists.of-T, Lists.map-ext, Accepted.HeaderPassed, Accepted.asked}
 
 -- ---- questions that are passed say what is asked after them
 -- the header with so many exchanges and bytes

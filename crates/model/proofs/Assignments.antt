@@ -1,10 +1,10 @@
 -- Laws of the assignments drawn from sets: membership, order, one through each value. Assumes nothing.
-use Rattle.model.specs.Kit.{_≡_, refl, sym, ap, _∙_, subst, List, [], _∷_, map, List·Memᴰ, List·Memᴰ·head, List·Memᴰ·not-nil, Memᴰ·map, Memᴰ·of-map, ℕ, zero, suc, _^_, _<_}
-use Rattle.model.specs.Kit.{not-suc-le-zero, le-of-suc-le-suc, arith, T, length}
-use mathlib.Core.List.{List·Memᴰ·eq-of-singleton}
+use Rattle.model.specs.Kit.{_≡_, refl, sym, ap, _∙_, subst, List, [], _∷_, map, List·Memᴰ, List·Memᴰ·head, List·Memᴰ·not-nil, Memᴰ·map, Memᴰ·of-map, ℕ, zero, suc, _^_, _<_, not-suc-le-zero}
+use Rattle.model.specs.Kit.{le-of-suc-le-suc, arith, T, length}
 use Rattle.model.specs.{Lists.at, Lists.earlier, ValueSets.has, ValueSets.members, ValueSets.Inside, Problem.assignments, Claims.Drawn}
-use Rattle.model.proofs.{Lists.of-not, Lists.flat-i, Lists.flat-e, Lists.Sorted, Lists.sorted-flat-map, Lists.earlier-lt, Lists.earlier-eq, Sets.has-none, Sets.member}
-use Rattle.model.proofs.Sets.{has-lt, members-i, members-e, members-sorted}
+use mathlib.Core.List.{List·Memᴰ·eq-of-singleton}
+use Rattle.model.proofs.Lists.{of-not, flat-i, flat-e, Sorted, sorted-flat-map, earlier-lt, earlier-eq}
+use Rattle.model.proofs.Sets.{has-none, member, has-lt, members-i, members-e, members-sorted}
 
 -- ---- membership: one value of each set
 pub assign-i : (ds a : List ℕ) → length a ≡ length ds → ((x : ℕ) → x < length ds → List·Memᴰ (at a x) (members (at ds x))) → List·Memᴰ a (assignments ds)

@@ -1,13 +1,13 @@
 -- Every solution is reached from a leader by symmetries, one after another, and nothing else is. Assumes nothing.
-use Rattle.model.specs.Kit.{_≡_, sym, ap, ap₂, _∙_, subst, _↔_, _⊎_, inl, inr, Bool, List, [], _∷_, List·Memᴰ, ℕ, zero, suc, _+_, _*_, _^_, _≤_, _<_, not-suc-le-zero}
-use Rattle.model.specs.Kit.{mul-le-mul-right, arith, T, not-T, length}
+use Rattle.model.specs.Kit.{_≡_, sym, ap, ap₂, _∙_, subst, _↔_, _⊎_, inl, inr, Bool, List, [], _∷_, List·Memᴰ, ℕ, zero, suc, _+_, _*_, _^_, _≤_, _<_, not-suc-le-zero, mul-le-mul-right, arith, T}
+use Rattle.model.specs.Kit.{not-T, length}
+use Rattle.model.specs.Claims.{isLeader, leaders, Chain, here, step}
+use Rattle.model.specs.{Lists.both, Lists.any, Lists.at, Lists.earlier, Problem.Problem, Problem.isSolution, Problem.assignments, Problem.takes, inner.WellFormed.WellFormed}
 use mathlib.Core.Logic.{∥∥₁-elim}
 use native.Mathlib.Nat.{pow-suc}
 use lib.Dec.{T-prop}
-use Rattle.model.specs.{Lists.both, Lists.any, Lists.at, Lists.earlier, Problem.Problem, Problem.isSolution, Problem.assignments, Problem.takes, inner.WellFormed.WellFormed, Claims.isLeader}
-use Rattle.model.specs.Claims.{leaders, Chain, here, step}
-use Rattle.model.proofs.{Lists.both-i, Lists.both-l, Lists.both-r, Lists.T-dec, Lists.stable, Lists.any-e, Lists.keep-i, Lists.keep-e, Lists.earlier-e, Tree.solution-e}
-use Rattle.model.proofs.Leaders.{sol-small, sol-drawn}
+use Rattle.model.proofs.Lists.{both-i, both-l, both-r, T-dec, stable, any-e, keep-i, keep-e, earlier-e}
+use Rattle.model.proofs.{Tree.solution-e, Leaders.sol-small, Leaders.sol-drawn}
 
 -- ---- a list as a number with base-16 digits: what reads earlier is smaller
 num : List ℕ → ℕ

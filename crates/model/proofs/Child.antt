@@ -1,12 +1,11 @@
 -- A child's sets lie inside its parent's, so a program may start from the parent's sets with the next variable fixed. Assumes nothing.
-use Rattle.model.specs.Kit.{_≡_, refl, sym, ap, _∙_, subst, true, List, [], _∷_, _++_, ℕ, suc, _^_, _<_, ℕ-discrete, arith, T, eqb, eqb→eq, eqb-refl, length, set}
-use Rattle.model.specs.Kit.{length-append, length-set, pow-lt}
-use lib.Seq.{getD-set-same, getD-set-other}
+use Rattle.model.specs.Kit.{_≡_, refl, sym, ap, _∙_, subst, true, List, [], _∷_, _++_, ℕ, suc, _^_, _<_, ℕ-discrete, arith, T, eqb, eqb→eq, eqb-refl, length, set, length-append, length-set}
+use Rattle.model.specs.Kit.{pow-lt}
 use Rattle.model.specs.{Lists.at, ValueSets.has, ValueSets.Inside, Problem.Problem, Nogood.Entry, Nogood.obeys, Search.nogoodsOf, Search.narrowed, Search.setsAt}
+use lib.Seq.{getD-set-same, getD-set-other}
 use Rattle.model.specs.inner.Pruning.{closed, Way}
-use Rattle.model.proofs.{Lists.at-append, Lists.at-seam, Sets.has-lt, Sets.has-at-lt, Masks.has-one, Filter.filtered-i, Filter.filtered-e, Filter.obeys-front, Prune.Kept}
-use Rattle.model.proofs.Prune.{fixed-i, fixed-e, narrowed-i, narrowed-e, Sized, start-sets, Largest, largest, setsAt-live, value-live, setsAt-mono}
-use Rattle.model.proofs.Tree.{nogoods-append}
+use Rattle.model.proofs.Prune.{Kept, fixed-i, fixed-e, narrowed-i, narrowed-e, Sized, start-sets, Largest, largest, setsAt-live, value-live, setsAt-mono}
+use Rattle.model.proofs.{Lists.at-append, Lists.at-seam, Sets.has-lt, Sets.has-at-lt, Masks.has-one, Filter.filtered-i, Filter.filtered-e, Filter.obeys-front, Tree.nogoods-append}
 
 -- ---- a longer prefix
 module _ (p : Problem) (prefix more : List ℕ) (s : Sized p) where

@@ -1,9 +1,9 @@
 -- The sets at a prefix in paper 01's words: the largest in which every value has its rows and no filter takes anything away. Assumes nothing.
 use Rattle.model.specs.Kit.{_≡_, refl, sym, _∙_, subst, false, List, ℕ, T, length, replicate, not-false}
-use Rattle.model.specs.{Lists.at, ValueSets.has, ValueSets.anyEmpty, ValueSets.Inside, Problem.Problem, Nogood.Entry, Nogood.filtered, Search.entriesAt, Search.nogoodsOf}
-use Rattle.model.specs.{Search.pruned, Search.narrowed, Search.setsAt, Search.isLive, Claims.Consistent, inner.Pruning.Sets, inner.Pruning.closed}
-use Rattle.model.proofs.{Lists.T-of, Sets.has-lt, Sets.inside-antisym, Sets.empty-inside, Filter.filtered-sets, Filter.filtered-inside, Prune.supported-i, Prune.supported-e}
-use Rattle.model.proofs.Prune.{Kept, fixed-i, fixed-e, narrowed-i, narrowed-e, Sized, Largest, largest, setsAt-live, setsAt-none, live-is, live-closed}
+use Rattle.model.specs.{Lists.at, ValueSets.has, ValueSets.anyEmpty, ValueSets.Inside, Problem.Problem, Nogood.Entry, Nogood.filtered, Search.entriesAt, Search.nogoodsOf, Search.pruned}
+use Rattle.model.specs.{Search.narrowed, Search.setsAt, Search.isLive, Claims.Consistent, inner.Pruning.Sets, inner.Pruning.closed}
+use Rattle.model.proofs.Prune.{supported-i, supported-e, Kept, fixed-i, fixed-e, narrowed-i, narrowed-e, Sized, Largest, largest, setsAt-live, setsAt-none, live-is, live-closed}
+use Rattle.model.proofs.{Lists.T-of, Sets.has-lt, Sets.inside-antisym, Sets.empty-inside, Filter.filtered-sets, Filter.filtered-inside}
 
 -- a filter that keeps each value takes nothing away
 filter-same : (n : ℕ) (ds : List ℕ) (es : List Entry) → Sets n ds → ((x v : ℕ) → T (has (at ds x) v) → T (has (at (filtered ds es) x) v)) → filtered ds es ≡ ds

@@ -1,9 +1,9 @@
 -- Numbers in lists: the place of one, lists without repeats, and the pigeonhole: a list without repeats is no longer than one that holds all of it. Assumes nothing.
-use Rattle.model.specs.Kit.{_≡_, refl, sym, ap, _∙_, subst, Bool, true, false, List, [], _∷_, map, List·Memᴰ, List·Memᴰ·head, List·Memᴰ·tail, List·Memᴰ·not-nil}
-use Rattle.model.specs.Kit.{List·Memᴰ·cases-cons, Memᴰ·cast, Memᴰ·map, Memᴰ·of-map, _⊎_, inl, inr, ⊎-elim, ℕ, zero, suc, _+_, _≤_, _<_, not-suc-le-zero, le-of-suc-le-suc}
-use Rattle.model.specs.Kit.{arith, T, eqb, eqb→eq, eqb-refl, length, getD, eqb-true, eqb-false}
-use native.Mathlib.Nat.{zero-lt-suc}
+use Rattle.model.specs.Kit.{_≡_, refl, sym, ap, _∙_, subst, Bool, true, false, List, [], _∷_, map, List·Memᴰ, List·Memᴰ·head, List·Memᴰ·tail, List·Memᴰ·not-nil, List·Memᴰ·cases-cons, Memᴰ·cast}
+use Rattle.model.specs.Kit.{Memᴰ·map, Memᴰ·of-map, _⊎_, inl, inr, ⊎-elim, ℕ, zero, suc, _+_, _≤_, _<_, not-suc-le-zero, le-of-suc-le-suc, arith, T, eqb, eqb→eq, eqb-refl, length, getD, eqb-true}
+use Rattle.model.specs.Kit.{eqb-false}
 use Rattle.model.specs.{Lists.any, Lists.upFrom, Lists.below, Lists.at, Sheet.distinct}
+use native.Mathlib.Nat.{zero-lt-suc}
 use Rattle.model.proofs.Lists.{T-dec, any-e, any-i, upFrom-e, below-i, length-below, at-below, mem-at}
 
 -- ---- the place of a number in a list

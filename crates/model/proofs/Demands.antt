@@ -1,17 +1,16 @@
 -- What the filter leaves, what question 16 shows and what the sets at a prefix are (specs/Claims), proved of every sheet. Assumes nothing.
-use Rattle.model.specs.Kit.{_≡_, refl, sym, ap, ap₂, _∙_, subst, _↔_, List, [], _∷_, _++_, List·Memᴰ, List·Memᴰ·head, List·Memᴰ·tail, append-assoc, ℕ, _^_, _<_, arith, T, length}
-use Rattle.model.specs.Kit.{take, drop, replicate, length-replicate}
-use mathlib.Core.Logic.{∥∥₁-elim}
-use lib.Dec.{T-prop}
-use lib.Seq.{take-at, drop-at}
+use Rattle.model.specs.Kit.{_≡_, refl, sym, ap, ap₂, _∙_, subst, _↔_, List, [], _∷_, _++_, List·Memᴰ, List·Memᴰ·head, List·Memᴰ·tail, append-assoc, ℕ, _^_, _<_, arith, T, length, take, drop}
+use Rattle.model.specs.Kit.{replicate, length-replicate}
 use Rattle.model.specs.{Lists.keep, Lists.flat, Lists.at, Lists.earlier, ValueSets.has, Problem.Problem, Problem.assignments, Verdict.Verdict, Verdict.accepted, Verdict.refused}
 use Rattle.model.specs.{Verdict.isAccepted, Verdict.refusal, Verdict.answered, Verdict.reply, Sheet.verdictOf, Sheet.problemOf, Nogood.filtered, Nogood.Entry, Nogood.obeys, Run.written}
 use Rattle.model.specs.{Run.listedPlans, Search.setsAt, Search.isLive, Claims.Drawn, Claims.Symmetries-respect, Claims.Largest, Claims.isLeader, Claims.leaders, inner.WellFormed.WellFormed}
+use mathlib.Core.Logic.{∥∥₁-elim}
+use lib.Dec.{T-prop}
+use lib.Seq.{take-at, drop-at}
 use Rattle.model.specs.inner.WellFormed.{Respected}
-use Rattle.model.proofs.{Lists.not-of, Lists.keep-ext, Lists.at-ext, Lists.at-replicate, Sets.has-none, Sets.mask-ext, Assignments.drawn-i, Assignments.drawn-e, Lists.never}
-use Rattle.model.proofs.{Filter.length-filtered, Filter.filtered-i, Filter.filtered-e, Filter.filtered-sets, Prune.Sized, Consistent.live-consistent}
-use Rattle.model.proofs.{Consistent.consistent-inside, Consistent.dead-none, Consistent.dead-empty, Tree.planTest, Tree.well-sized, Accepted.Passed, Accepted.passed}
-use Rattle.model.proofs.Leaders.{leader-is}
+use Rattle.model.proofs.{Lists.not-of, Lists.keep-ext, Lists.at-ext, Lists.at-replicate, Lists.never, Sets.has-none, Sets.mask-ext, Assignments.drawn-i, Assignments.drawn-e}
+use Rattle.model.proofs.{Filter.length-filtered, Filter.filtered-i, Filter.filtered-e, Filter.filtered-sets, Prune.Sized, Consistent.live-consistent, Consistent.consistent-inside}
+use Rattle.model.proofs.{Consistent.dead-none, Consistent.dead-empty, Tree.planTest, Tree.well-sized, Accepted.Passed, Accepted.passed, Leaders.leader-is}
 
 -- ---- what a caller holds: the rows that the run listed
 listed-back : (n : ℕ) (rows : List (List ℕ)) (rest : List ℕ) → ((r : List ℕ) → List·Memᴰ r rows → length r ≡ n) → listedPlans n (length rows) (flat rows ++ rest) ≡ rows

@@ -4,8 +4,8 @@ use Rattle.model.specs.Nogood.{Entry, obeysFrom, obeys, obeying, used, f
 use Rattle.model.specs.{Lists.at, ValueSets.has, ValueSets.anyEmpty, ValueSets.Inside, Problem.assignments, NogoodClaims.Entails, inner.Endings.Fails, inner.Endings.Failed-exactly}
 use Rattle.model.specs.inner.Endings.{Entailed-exactly, Consistent-exactly}
 use Rattle.model.proofs.Lists.{T-of, of-T, not-of, of-not, T-ext, all-i, all-e, any-i, any-e, keep-ext, never}
-use Rattle.model.proofs.{Sets.inside-antisym, Sets.has-at-lt, Assignments.assign-mono, Filter.length-filtered, Filter.filtered-sets, Filter.filtered-i, Filter.filtered-e}
-use Rattle.model.proofs.Filter.{filtered-inside, filtered-none}
+use Rattle.model.proofs.Filter.{length-filtered, filtered-sets, filtered-i, filtered-e, filtered-inside, filtered-none}
+use Rattle.model.proofs.{Sets.inside-antisym, Sets.has-at-lt, Assignments.assign-mono}
 
 -- ---- the two tests
 module _ (ds : List ℕ) (es : List Entry) where

@@ -1,8 +1,7 @@
 -- The four kinds of an entry of the three lists. Assumes nothing.
 use Rattle.model.specs.Kit.{_≡_, refl, sym, ap₂, Bool, true, false, _⊎_, inl, inr, ℕ, _<_, arith, T, eqb, ltb, ltb→lt, eqb-true, eqb-false, le-ltb}
-use Rattle.model.specs.{Lists.both, Lists.either, Nogood.equality, Nogood.disequality, Nogood.mark, Nogood.Kind, Nogood.isEquality, Nogood.isDisequality, Nogood.bothAbsent}
-use Rattle.model.specs.{Nogood.bothPresent, Nogood.kindBy, Nogood.kindOf, Nogood.entryIn, Nogood.valueOk, NogoodClaims.CaseOf, NogoodClaims.Kind-holds, NogoodClaims.Kinds-apart}
-use Rattle.model.specs.NogoodClaims.{Same-question, Right-kinds}
+use Rattle.model.specs.Nogood.{equality, disequality, mark, Kind, isEquality, isDisequality, bothAbsent, bothPresent, kindBy, kindOf, entryIn, valueOk}
+use Rattle.model.specs.{Lists.both, Lists.either, NogoodClaims.CaseOf, NogoodClaims.Kind-holds, NogoodClaims.Kinds-apart, NogoodClaims.Same-question, NogoodClaims.Right-kinds}
 use Rattle.model.proofs.{Lists.both-l, Lists.both-r, Members.either-no}
 
 pub kind-holds : Kind-holds

@@ -1,14 +1,14 @@
 -- The starred examples of paper 01 hold of the definitions. Assumes nothing.
 use Rattle.model.specs.Kit.{_≡_, refl, ap, ap₂, _∙_, Bool, false, List, [], ℕ, _^_, _≤_, _<_, length, arith, le-leb}
 use Rattle.model.specs.Lists.{both, all, any, keep, flat, tabulate, upFrom, below, at, same, earlier, ascending, rowsAscend}
-use Rattle.model.specs.{ValueSets.has, ValueSets.maskBelow, ValueSets.least, ValueSets.members, ValueSets.anyEmpty, Problem.valuesAt, Problem.satisfies, Problem.isSolution}
-use Rattle.model.specs.Problem.{assignments, pair, isPair, pairsOf, within, takes, doubled, pairsAt, excluded, forbidden, respects}
-use Rattle.model.specs.Sheet.{word, words, headerOf, scopeAt, rowsAt, afterAt, constraintsFrom, tableAt, problemOf, headerVerdict, setsVerdict, constraintVerdict}
-use Rattle.model.specs.{Sheet.constraintsVerdict, Sheet.formVerdict, Sheet.distinct, Sheet.permutesPairs, Sheet.symmetriesVerdict, Sheet.verdictOf, Nogood.obeysFrom}
-use Rattle.model.specs.{Nogood.obeying, Nogood.used, Nogood.filtered, Nogood.entries, Nogood.firstWrong, Nogood.filterVerdict, Nogood.setsAfter, Search.entriesAt}
-use Rattle.model.specs.Search.{nogoodsOf, rowWith, supported, pruned, narrowed, rounds, setsAt, isLive, nodesBelow, nodes, isPlan}
-use Rattle.model.specs.{Run.search, Run.resultOf, Run.answerOf, Run.written, Run.listOf, Run.tallyOf, Run.listedPlans, Claims.leaders, Examples.filterOf, Examples.sheetF}
-use Rattle.model.specs.{Examples.tests, Examples.testsMore, Examples.testsBeside, Examples.Each, Verdict.Verdict, Verdict.accepted, Verdict.ask}
+use Rattle.model.specs.Problem.{valuesAt, satisfies, isSolution, assignments, pair, isPair, pairsOf, within, takes, doubled, pairsAt, excluded, forbidden, respects}
+use Rattle.model.specs.Sheet.{word, words, headerOf, scopeAt, rowsAt, afterAt, constraintsFrom, tableAt, problemOf, headerVerdict, setsVerdict, constraintVerdict, constraintsVerdict}
+use Rattle.model.specs.Sheet.{formVerdict, distinct, permutesPairs, symmetriesVerdict, verdictOf}
+use Rattle.model.specs.Nogood.{obeysFrom, obeying, used, filtered, entries, firstWrong, filterVerdict, setsAfter}
+use Rattle.model.specs.Search.{entriesAt, nogoodsOf, rowWith, supported, pruned, narrowed, rounds, setsAt, isLive, nodesBelow, nodes, isPlan}
+use Rattle.model.specs.Run.{search, resultOf, answerOf, written, listOf, tallyOf, listedPlans}
+use Rattle.model.specs.Examples.{filterOf, sheetF, tests, testsMore, testsBeside, Each}
+use Rattle.model.specs.{ValueSets.has, ValueSets.maskBelow, ValueSets.least, ValueSets.members, ValueSets.anyEmpty, Claims.leaders, Verdict.Verdict, Verdict.accepted, Verdict.ask}
 use Rattle.model.proofs.Filter.{filtered-none}
 
 -- every definition that computes

@@ -1,9 +1,8 @@
 -- Loops over the first numbers: each turn stores one number, or unites a set with one member more. Assumes nothing.
-use Rattle.model.specs.Kit.{_≡_, refl, sym, ap, ap₂, _∙_, subst, Bool, true, false, List, ℕ, _+_, _≤_, _<_, arith, ℕ-discrete, T, eqb, ltb, eqb-refl, length, set, length-set}
-use Rattle.model.specs.Kit.{bitOr, lt-ltb, le-ltb, ltb-true, ltb-false, ne-eqb}
+use Rattle.model.specs.Kit.{_≡_, refl, sym, ap, ap₂, _∙_, subst, Bool, true, false, List, ℕ, _+_, _≤_, _<_, arith, ℕ-discrete, T, eqb, ltb, eqb-refl, length, set, length-set, bitOr, lt-ltb}
+use Rattle.model.specs.Kit.{le-ltb, ltb-true, ltb-false, ne-eqb}
 use Rattle.model.specs.{Lists.both, Lists.either, Lists.at, ValueSets.has, ValueSets.oneIf, inner.Filling.Filled, inner.Filling.Gathered}
-use Rattle.model.proofs.{Lists.of-T, Lists.both-l, Lists.at-set, Lists.at-set-other, Lists.both-true, Lists.both-false, Sets.has-none, Masks.has-or, Masks.has-oneIf}
-use Rattle.model.proofs.Members.{either-no}
+use Rattle.model.proofs.{Lists.of-T, Lists.both-l, Lists.at-set, Lists.at-set-other, Lists.both-true, Lists.both-false, Sets.has-none, Masks.has-or, Masks.has-oneIf, Members.either-no}
 
 -- ---- numbers that are stored
 pub filled-begin : (slot : ℕ → ℕ) (P : ℕ → ℕ → Type 0) (l : List ℕ) → Filled slot P 0 l l

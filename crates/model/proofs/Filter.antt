@@ -1,11 +1,10 @@
 -- Laws of obeying and of the exact filter: what it keeps, inside, monotone, idempotent, nothing for empty lists. Assumes nothing.
-use Rattle.model.specs.Kit.{_≡_, refl, sym, _∙_, subst, Bool, true, false, not, List, [], _∷_, _++_, List·Memᴰ, ℕ, _^_, _≤_, _<_, arith, T, eqb, eqb→eq, eqb-refl, length}
-use Rattle.model.specs.Kit.{getD}
-use Rattle.model.specs.{Lists.both, Lists.any, Lists.at, ValueSets.anyEmpty, ValueSets.has, ValueSets.maskOf, ValueSets.Inside, Problem.assignments, Nogood.Entry}
-use Rattle.model.specs.{Nogood.equality, Nogood.disequality, Nogood.is, Nogood.obeysFrom, Nogood.obeys, Nogood.obeying, Nogood.used, Nogood.filtered, inner.Pruning.Sets}
+use Rattle.model.specs.Kit.{_≡_, refl, sym, _∙_, subst, Bool, true, false, not, List, [], _∷_, _++_, List·Memᴰ, ℕ, _^_, _≤_, _<_, arith, T, eqb, eqb→eq, eqb-refl, length, getD}
+use Rattle.model.specs.Nogood.{Entry, equality, disequality, is, obeysFrom, obeys, obeying, used, filtered}
+use Rattle.model.specs.{Lists.both, Lists.any, Lists.at, ValueSets.anyEmpty, ValueSets.has, ValueSets.maskOf, ValueSets.Inside, Problem.assignments, inner.Pruning.Sets}
 use Rattle.model.proofs.Lists.{of-not, both-i, both-l, both-r, keep-i, keep-e, any-i, any-e, at-tabulate, length-tabulate, getD-at, at-out}
-use Rattle.model.proofs.{Sets.empty-i, Sets.mask-i, Sets.mask-e, Sets.mask-lt, Sets.members-e, Sets.inside-antisym, Sets.has-at-lt, Assignments.drawn-through}
-use Rattle.model.proofs.Assignments.{assign-e, drawn-i, drawn-e, assign-mono}
+use Rattle.model.proofs.Sets.{empty-i, mask-i, mask-e, mask-lt, members-e, inside-antisym, has-at-lt}
+use Rattle.model.proofs.Assignments.{drawn-through, assign-e, drawn-i, drawn-e, assign-mono}
 
 -- ---- obeying: the entries in front
 pub obeys-front : (h : Bool) (a : List ℕ) (es fs : List Entry) → T (obeysFrom h a (es ++ fs)) → T (obeysFrom h a es)

@@ -1,6 +1,5 @@
 -- The first n of sixteen sets. Assumes nothing.
-use Rattle.model.specs.Kit.{_≡_, refl, sym, _∙_, subst, Bool, true, false, List, ℕ, _^_, _≤_, _<_, arith, T, ltb, length, take, getD-take, length-take-le, ltb-true}
-use Rattle.model.specs.Kit.{ltb-false}
+use Rattle.model.specs.Kit.{_≡_, refl, sym, _∙_, subst, Bool, true, false, List, ℕ, _^_, _≤_, _<_, arith, T, ltb, length, take, getD-take, length-take-le, ltb-true, ltb-false}
 use Rattle.model.specs.{Lists.at, ValueSets.has, ValueSets.anyEmpty, ValueSets.Inside, inner.Pruning.Sets}
 use Rattle.model.proofs.{Lists.at-out, Lists.not-of, Sets.has-at-lt, Sets.empty-i, Sets.empty-e}
 

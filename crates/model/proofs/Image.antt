@@ -1,7 +1,7 @@
 -- A symmetry takes every solution to one solution. Assumes nothing.
 use Rattle.model.specs.Kit.{_≡_, sym, ap, _∙_, subst, List, List·Memᴰ, Memᴰ·cast, ℕ, zero, suc, _+_, _-_, _<_, arith, T, length}
-use lib.Seq.{ext-getD}
 use Rattle.model.specs.{Lists.at, Problem.Problem, Problem.pair, Problem.takes, Problem.assignments, Problem.isSolution, inner.WellFormed.WellFormed, inner.WellFormed.Respected}
+use lib.Seq.{ext-getD}
 use Rattle.model.proofs.{Tree.solution-e, Counting.pos, Counting.pos-lt, Counting.pos-same, Counting.twice}
 use Rattle.model.proofs.Pairs as P
 use Rattle.model.proofs.Symmetry as S

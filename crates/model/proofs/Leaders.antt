@@ -1,8 +1,8 @@
 -- A solution obeys the nogoods of a symmetry exactly if the symmetry takes no solution that reads earlier to it. Assumes nothing.
 use Rattle.model.specs.Kit.{_≡_, refl, sym, ap, ap₂, _∙_, subst, Bool, true, false, not, List, map, List·Memᴰ, Memᴰ·cast, Memᴰ·map, Memᴰ·of-map, ℕ, _<_, _/_, _%_, lt-of-lt-of-le, arith, T}
 use Rattle.model.specs.Kit.{T-not, not-T, ltb, eqb→eq, ltb→lt, lt→ltb, getD, eq-eqb}
-use Rattle.model.specs.{Lists.both, Lists.all, Lists.any, Lists.at, Lists.earlier, ValueSets.has, ValueSets.members, Problem.Problem, Problem.pair, Problem.isPair, Problem.pairsOf}
-use Rattle.model.specs.{Problem.within, Problem.takes, Problem.assignments, Problem.isSolution, Nogood.is, Nogood.obeys, Search.nogoodsOf, inner.WellFormed.WellFormed}
+use Rattle.model.specs.Problem.{Problem, pair, isPair, pairsOf, within, takes, assignments, isSolution}
+use Rattle.model.specs.{Lists.both, Lists.all, Lists.any, Lists.at, Lists.earlier, ValueSets.has, ValueSets.members, Nogood.is, Nogood.obeys, Search.nogoodsOf, inner.WellFormed.WellFormed}
 use Rattle.model.specs.{inner.WellFormed.GoodSymmetry, inner.WellFormed.Respected, Claims.Leader, Claims.isLeader}
 use Rattle.model.proofs.Lists.{not-any, both-i, both-l, both-r, T-ext, T-of, stable, any-i, any-e, keep-i, keep-e, getD-at}
 use Rattle.model.proofs.{Sets.members-i, Sets.members-e, Assignments.drawn-i, Tree.solution-e, Tree.well-sized}

@@ -1,10 +1,9 @@
 -- The lowest member of a set, the set without a member, and with one more. Assumes nothing.
-use Rattle.model.specs.Kit.{_≡_, refl, sym, ap, _∙_, subst, Bool, true, false, not, _∷_, List·Memᴰ, List·Memᴰ·head, List·Memᴰ·tail, Memᴰ·cast, ℕ, _-_, _*_, _%_, _^_, _≤_}
-use Rattle.model.specs.Kit.{_<_, arith, T, T-not, eqb, ltb, bitOr, and-le-l, pow-lt, eqb-true, eqb-false, eq-eqb, ltb-true, ltb-false, not-true, not-false}
+use Rattle.model.specs.Kit.{_≡_, refl, sym, ap, _∙_, subst, Bool, true, false, not, _∷_, List·Memᴰ, List·Memᴰ·head, List·Memᴰ·tail, Memᴰ·cast, ℕ, _-_, _*_, _%_, _^_, _≤_, _<_, arith, T, T-not}
+use Rattle.model.specs.Kit.{eqb, ltb, bitOr, and-le-l, pow-lt, eqb-true, eqb-false, eq-eqb, ltb-true, ltb-false, not-true, not-false}
 use Rattle.model.specs.ValueSets.{has, fullMask, withoutMask, onlyMask, unionMask, lowestOf, members}
-use Rattle.model.proofs.{Least.first-most, Lists.T-of, Lists.of-not, Lists.both-i, Lists.both-l, Lists.both-r, Lists.sorted-ext, Sets.has-lt, Sets.mask-i, Sets.mask-e}
-use Rattle.model.proofs.{Sets.members-i, Sets.members-e, Sets.members-sorted, Masks.least-below, Masks.lowest-op, Masks.union-op, Masks.without-op, Members.low-has}
-use Rattle.model.proofs.Members.{one-op}
+use Rattle.model.proofs.{Least.first-most, Lists.T-of, Lists.of-not, Lists.both-i, Lists.both-l, Lists.both-r, Lists.sorted-ext, Sets.has-lt, Sets.mask-i, Sets.mask-e, Sets.members-i}
+use Rattle.model.proofs.{Sets.members-e, Sets.members-sorted, Masks.least-below, Masks.lowest-op, Masks.union-op, Masks.without-op, Members.low-has, Members.one-op}
 
 pub lowest-le : (s : ℕ) → lowestOf s ≤ 16
 lowest-le s = first-most (has s) 16

@@ -1,15 +1,14 @@
 -- What the code's operations on sixteen bits do to members; the least value. Assumes nothing.
-use Rattle.model.specs.Kit.{_≡_, refl, sym, ap, ap₂, _∙_, Bool, true, false, not, ℕ, zero, suc, _+_, _-_, _*_, _/_, _%_, _^_, _≤_, _<_, min, not-suc-le-zero}
-use Rattle.model.specs.Kit.{le-of-suc-le-suc, mod-eq-of-lt, lt-of-le-of-lt, arith, eqb, ltb, lit<, bitAnd, bitOr, or-lt, and-le-l, pow-lt, trailingZeros, eq-eqb, ne-eqb}
-use Rattle.model.specs.Kit.{lt-ltb, le-ltb}
+use Rattle.model.specs.Kit.{_≡_, refl, sym, ap, ap₂, _∙_, Bool, true, false, not, ℕ, zero, suc, _+_, _-_, _*_, _/_, _%_, _^_, _≤_, _<_, min, not-suc-le-zero, le-of-suc-le-suc, mod-eq-of-lt}
+use Rattle.model.specs.Kit.{lt-of-le-of-lt, arith, eqb, ltb, lit<, bitAnd, bitOr, or-lt, and-le-l, pow-lt, trailingZeros, eq-eqb, ne-eqb, lt-ltb, le-ltb}
+use Rattle.model.specs.Lists.{both, either}
+use Rattle.model.specs.ValueSets.{has, maskOf, fullMask, withoutMask, onlyMask, unionMask, commonMask, least, leastStep, oneIf}
 use mathlib.Core.Path.{fun-ext}
 use Prim.Native.Nat.{max}
 use lib.Dec.{leb·suc-suc, eqb·zero-suc, eqb·suc-zero, eqb·suc-suc}
 use lib.Bits.{and-step, or-step, and-lt, and-mask, and-le-r}
 use lib.Pow.{pow-pos, shr-shr}
 use lib.Count.{under}
-use Rattle.model.specs.{Lists.both, Lists.either, ValueSets.has, ValueSets.maskOf, ValueSets.fullMask, ValueSets.withoutMask, ValueSets.onlyMask, ValueSets.unionMask}
-use Rattle.model.specs.ValueSets.{commonMask, least, leastStep, oneIf}
 use Rattle.model.proofs.{Sets.has-zero, Sets.has-suc, Sets.has-none, Sets.has-mask, Sets.mask-lt, Sets.mask-ext, Sets.pow2, Lists.both-true, Lists.both-false}
 
 -- ---- what the code's operations do to members
@@ -74,8 +73,7 @@ pub has-one : (u v : ℕ) → has (2 ^ u) v ≡ eqb v u
 has-one zero zero = has-zero 1
 has-one zero (suc v) = has-suc 1 v ∙ has-none v ∙ sym (eqb·suc-zero v)
 has-one (suc u) zero = step-zero (2 ^ suc u) 0 (omega (arith, pow2 u)) ∙ sym (eqb·zero-suc u)
-has-one (suc u) (suc v) =
-    step-suc (2 ^ suc u) (2 ^ u) v (omega (arith, pow2 u)) ∙ has-one u v ∙ sym (eqb·suc-suc v u)
+has-one (suc u) (suc v) = step-suc (2 ^ suc u) (2 ^ u) v (omega (arith, pow2 u)) ∙ has-one u v ∙ sym (eqb·suc-suc v u)
 
 pub has-oneIf : (b : Bool) (u v : ℕ) → has (oneIf b u) v ≡ both b (eqb v u)
 has-oneIf true u v = has-one u v
@@ -170,8 +168,7 @@ has-ones (suc w) (suc v) =
     has-suc (2 ^ suc w - 1) v ∙ ap (λ (n : ℕ). has n v) e ∙ has-ones w v ∙ sym (leb·suc-suc (suc v) w)
 
 pub full-op : (w : ℕ) → w < 16 → 1 * 2 ^ w % 2 ^ 16 - 1 ≡ fullMask w
-full-op w h =
-    rw (shl-one w h) (is-mask (2 ^ w - 1) _ (omega (arith, one-lt w h)) (λ v l. has-ones w v))
+full-op w h = rw (shl-one w h) (is-mask (2 ^ w - 1) _ (omega (arith, one-lt w h)) (λ v l. has-ones w v))
 
 pub full-all : (w : ℕ) → 16 ≤ w → 65535 ≡ fullMask w
 full-all w h = is-mask 65535 _ (lit< tt) (λ v l. has-ones 16 v ∙ lt-ltb v 16 l ∙ sym (lt-ltb v w (omega arith)))

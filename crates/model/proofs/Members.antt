@@ -1,10 +1,10 @@
 -- The members of a set one after another, lowest first, and the unions of what each of them gives. For any width. Assumes nothing.
-use Rattle.model.specs.Kit.{_≡_, refl, sym, ap, ap₂, _∙_, subst, Bool, true, false, not, _⊎_, inl, inr, ⊎-elim, ℕ, zero, suc, _-_, _*_, _/_, _%_, _^_, _<_, mod-eq-of-lt}
-use Rattle.model.specs.Kit.{lt-of-le-of-lt, arith, ℕ-discrete, T, eqb, bitAnd, bitOr, and-le-l, trailingZeros, pow-lt, eq-eqb, eqb-true, eqb-false, lt-ltb}
+use Rattle.model.specs.Kit.{_≡_, refl, sym, ap, ap₂, _∙_, subst, Bool, true, false, not, _⊎_, inl, inr, ⊎-elim, ℕ, zero, suc, _-_, _*_, _/_, _%_, _^_, _<_, mod-eq-of-lt, lt-of-le-of-lt, arith}
+use Rattle.model.specs.Kit.{ℕ-discrete, T, eqb, bitAnd, bitOr, and-le-l, trailingZeros, pow-lt, eq-eqb, eqb-true, eqb-false, lt-ltb}
+use Rattle.model.specs.{Lists.both, Lists.either, ValueSets.has, ValueSets.withoutMask, ValueSets.lowestOf, ValueSets.fullMask, ValueSets.onlyMask, ValueSets.commonMask}
 use lib.Dec.{eqb·suc-suc, eqb·suc-zero}
 use lib.Bits.{and-step, and-self, and-le-r, or-add-and, bitXor, xor-add-and}
 use lib.Count.{under}
-use Rattle.model.specs.{Lists.both, Lists.either, ValueSets.has, ValueSets.withoutMask, ValueSets.lowestOf, ValueSets.fullMask, ValueSets.onlyMask, ValueSets.commonMask}
 use Rattle.model.proofs.Lists.{T-of, of-T, of-not, both-i, both-l, both-r, either-l, either-r, either-e, both-true, both-false}
 use Rattle.model.proofs.{Sets.has-zero, Sets.has-suc, Sets.has-none, Sets.pow2, Sets.mask-i, Masks.has-and, Masks.has-or, Masks.has-one, Masks.is-mask, Masks.lowest-op}
 

@@ -1,13 +1,12 @@
 -- More symmetries: smaller sets, fewer nodes, fewer plans; and a run that finishes still finishes. Assumes nothing.
 use Rattle.model.specs.Kit.{_≡_, refl, sym, subst, List, [], _∷_, _++_, List·Memᴰ, ℕ, zero, suc, _≤_, mul-le-mul-right, T, eqb, length}
+use Rattle.model.specs.{Lists.keep, Lists.at, ValueSets.has, ValueSets.Inside, Problem.Problem, Problem.pair, Problem.withSymmetries, Nogood.Entry, Nogood.filtered, Search.entriesAt}
+use Rattle.model.specs.{Search.nogoodsOf, Search.pruned, Search.setsAt, Search.isLive, Search.nodesBelow, Search.nodes, Search.isPlan, Run.finished, Run.resultOf, inner.Pruning.closed}
 use mathlib.Core.List.{Sublistᴰ, Sublistᴰ·slnil, Sublistᴰ·cons-cons}
 use native.Mathlib.Nat.{le-trans}
-use Rattle.model.specs.{Lists.keep, Lists.at, ValueSets.has, ValueSets.Inside, Problem.Problem, Problem.pair, Problem.withSymmetries, Nogood.Entry, Nogood.filtered}
-use Rattle.model.specs.{Search.entriesAt, Search.nogoodsOf, Search.pruned, Search.setsAt, Search.isLive, Search.nodesBelow, Search.nodes, Search.isPlan, Run.finished}
-use Rattle.model.specs.{Run.resultOf, inner.Pruning.closed}
-use Rattle.model.proofs.{Lists.both-i, Lists.both-l, Lists.both-r, Lists.sublist-keep, Lists.sublist-length, Lists.sublist-flat-map, Sets.inside-antisym, Sets.members-sub}
+use Rattle.model.proofs.Lists.{both-i, both-l, both-r, sublist-keep, sublist-length, sublist-flat-map}
 use Rattle.model.proofs.Prune.{Kept, pruned-i, pruned-e, pruned-inside, pruned-sets, Sized, largest, setsAt-mono, live-mono}
-use Rattle.model.proofs.Runs.{finished-rows, finished-fits, finishes}
+use Rattle.model.proofs.{Sets.inside-antisym, Sets.members-sub, Runs.finished-rows, Runs.finished-fits, Runs.finishes}
 
 module _ (p : Problem) (gs : List (List ℕ)) (s : Sized p) (h : (g : List ℕ) → List·Memᴰ g (p .symmetries) → List·Memᴰ g gs) where
   pub nogoods-same : (g prefix : List ℕ) → nogoodsOf (withSymmetries p gs) g prefix ≡ nogoodsOf p g prefix

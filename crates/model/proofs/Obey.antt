@@ -1,11 +1,10 @@
 -- Reading order, and what obeying the nogoods of a symmetry means entry by entry. Assumes nothing.
-use Rattle.model.specs.Kit.{_≡_, refl, sym, subst, Bool, true, false, not, List, [], _∷_, _++_, map, List·Memᴰ, List·Memᴰ·head, List·Memᴰ·tail, List·Memᴰ·not-nil}
-use Rattle.model.specs.Kit.{List·Memᴰ·cases-cons, _⊎_, inl, inr, ⊎-elim, ℕ, zero, suc, _+_, _≤_, _<_, _/_, _%_, not-suc-le-zero, le-of-suc-le-suc, ℕ-discrete, arith, T}
-use Rattle.model.specs.Kit.{T-not, not-T, ltb, length}
+use Rattle.model.specs.Kit.{_≡_, refl, sym, subst, Bool, true, false, not, List, [], _∷_, _++_, map, List·Memᴰ, List·Memᴰ·head, List·Memᴰ·tail, List·Memᴰ·not-nil, List·Memᴰ·cases-cons, _⊎_, inl}
+use Rattle.model.specs.Kit.{inr, ⊎-elim, ℕ, zero, suc, _+_, _≤_, _<_, _/_, _%_, not-suc-le-zero, le-of-suc-le-suc, ℕ-discrete, arith, T, T-not, not-T, ltb, length}
+use Rattle.model.specs.{Lists.both, Lists.flat, Lists.upFrom, Lists.below, Lists.at, Lists.keep, Lists.earlier, ValueSets.members, Problem.Problem, Problem.pair, Nogood.Entry, Nogood.equality}
+use Rattle.model.specs.{Nogood.disequality, Nogood.is, Nogood.obeysFrom, Nogood.obeys, Search.entriesAt, Search.nogoodsOf}
 use native.Mathlib.Nat.{zero-lt-suc, le-refl}
 use lib.Seq.{append-snoc}
-use Rattle.model.specs.{Lists.both, Lists.flat, Lists.upFrom, Lists.below, Lists.at, Lists.keep, Lists.earlier, ValueSets.members, Problem.Problem, Problem.pair}
-use Rattle.model.specs.{Nogood.Entry, Nogood.equality, Nogood.disequality, Nogood.is, Nogood.obeysFrom, Nogood.obeys, Search.entriesAt, Search.nogoodsOf}
 use Rattle.model.proofs.Lists.{both-i, both-l, both-r, T-dec, earlier-e, earlier-lt, earlier-eq}
 
 -- ---- behind an equality that doesn't hold nothing is asked

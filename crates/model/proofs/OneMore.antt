@@ -1,10 +1,10 @@
 -- A sheet with one exchange more states the same problem with one symmetry more. Assumes nothing.
-use Rattle.model.specs.Kit.{_≡_, refl, ap, ap₂, _∙_, subst, List, _∷_, _++_, map, append-assoc, List·Memᴰ, List·Memᴰ·tail, Memᴰ·append-left, ⊎-elim, ℕ, zero, suc, _+_, _-_}
-use Rattle.model.specs.Kit.{_*_, _/_, _%_, _≤_, _<_, mul-le-mul-right, arith, T, length, take, drop, length-append, length-take, length-drop, getD-take, getD-drop}
+use Rattle.model.specs.Kit.{_≡_, refl, ap, ap₂, _∙_, subst, List, _∷_, _++_, map, append-assoc, List·Memᴰ, List·Memᴰ·tail, Memᴰ·append-left, ⊎-elim, ℕ, zero, suc, _+_, _-_, _*_, _/_, _%_, _≤_}
+use Rattle.model.specs.Kit.{_<_, mul-le-mul-right, arith, T, length, take, drop, length-append, length-take, length-drop, getD-take, getD-drop}
+use Rattle.model.specs.Sheet.{Header, word, words, headerOf, scopeAt, rowsAt, afterAt, constraintsVerdict, constraintsFrom, tableAt, problemOf, verdictOf}
+use Rattle.model.specs.{Lists.below, Lists.upFrom, Lists.at, Problem.Constraint, Problem.withSymmetries, Verdict.Verdict, Verdict.isAccepted, Claims.sizeWith, Claims.OneMore, Claims.exchangeIn}
+use Rattle.model.specs.{Bytes.twoBytes}
 use mathlib.Core.List.{List·Memᴰ·append-cases, Memᴰ·append-right}
-use Rattle.model.specs.{Lists.below, Lists.upFrom, Lists.at, Problem.Constraint, Problem.withSymmetries, Verdict.Verdict, Verdict.isAccepted, Sheet.Header, Sheet.word}
-use Rattle.model.specs.Sheet.{words, headerOf, scopeAt, rowsAt, afterAt, constraintsVerdict, constraintsFrom, tableAt, problemOf, verdictOf}
-use Rattle.model.specs.{Claims.sizeWith, Claims.OneMore, Claims.exchangeIn, Bytes.twoBytes}
 use Rattle.model.proofs.Lists.{map-shift, at-skip, at-append, below-e, upFrom-e, upFrom-add, map-append, map-ext, length-below}
 use Rattle.model.proofs.Accepted.{Passed, passed, constraint-asked}
 

@@ -1,13 +1,13 @@
 -- What a sheet with one exchange more is answered (specs/Claims). Assumes nothing.
-use Rattle.model.specs.Kit.{_≡_, sym, ap, ap₂, _∙_, subst, _↔_, Bool, true, List, _∷_, _++_, List·Memᴰ, Memᴰ·append-left, ℕ, suc, _+_, _*_, _^_, _<_, arith, T, leb, leb→le}
-use Rattle.model.specs.Kit.{length, eq-eqb, le-leb}
+use Rattle.model.specs.Kit.{_≡_, sym, ap, ap₂, _∙_, subst, _↔_, Bool, true, List, _∷_, _++_, List·Memᴰ, Memᴰ·append-left, ℕ, suc, _+_, _*_, _^_, _<_, arith, T, leb, leb→le, length, eq-eqb}
+use Rattle.model.specs.Kit.{le-leb}
+use Rattle.model.specs.Sheet.{Header, word, headerOf, headerVerdict, problemOf, setsVerdict, constraintsVerdict, tablesFit, formVerdict, permutesPairs, symmetriesVerdict, verdictOf}
+use Rattle.model.specs.{Lists.below, Problem.Problem, Problem.respects, Problem.withSymmetries, Verdict.Verdict, Verdict.accepted, Verdict.ask, Verdict.isAccepted, Claims.sizeWith}
+use Rattle.model.specs.{Claims.OneMore, Claims.exchangeIn, Claims.One-more-answer}
 use mathlib.Core.List.{Memᴰ·append-right}
-use Rattle.model.specs.{Lists.below, Problem.Problem, Problem.respects, Problem.withSymmetries, Verdict.Verdict, Verdict.accepted, Verdict.ask, Verdict.isAccepted}
-use Rattle.model.specs.Sheet.{Header, word, headerOf, headerVerdict, problemOf, setsVerdict, constraintsVerdict, tablesFit, formVerdict, permutesPairs, symmetriesVerdict}
-use Rattle.model.specs.{Sheet.verdictOf, Claims.sizeWith, Claims.OneMore, Claims.exchangeIn, Claims.One-more-answer}
-use Rattle.model.proofs.{Lists.of-T, Lists.below-e, Accepted.HeaderPassed, Accepted.Passed, Accepted.passed, Accepted.asked, Accepted.at-words, OneMore.word-agree}
-use Rattle.model.proofs.OneMore.{header-more, length-more, below-third, before, after, added, length-before, added-is, longer, old}
+use Rattle.model.proofs.OneMore.{word-agree, header-more, length-more, below-third, before, after, added, length-before, added-is, longer, old}
 use Rattle.model.proofs.Asked.{tablesHeader, header-but-five, sets-pass, constraints-pass, symmetries-i, symmetries-first, permutes-same, respects-same}
+use Rattle.model.proofs.{Lists.of-T, Lists.below-e, Accepted.HeaderPassed, Accepted.Passed, Accepted.passed, Accepted.asked, Accepted.at-words}
 
 module _ (b c t : List ℕ) (k : ℕ) (more : OneMore b c k t) (ok : Passed b) where
   abbrev h : Header

@@ -1,11 +1,10 @@
 -- The laws of pairs, and of solutions of a well-formed problem. Assumes nothing.
-use Rattle.model.specs.Kit.{_≡_, refl, sym, ap, ap₂, _∙_, subst, not, List, [], _∷_, map, List·Memᴰ, List·Memᴰ·head, List·Memᴰ·tail, Memᴰ·append-left, Memᴰ·cast, Memᴰ·map}
-use Rattle.model.specs.Kit.{Memᴰ·of-map, _⊎_, inl, inr, ⊎-elim, ℕ, suc, _+_, _<_, _/_, _%_, _*_, _^_, mod-eq-of-lt, mul-le-mul-right, arith, T, T-not, not-T, eqb, ltb, eqb→eq}
-use Rattle.model.specs.Kit.{eqb-refl, ltb→lt, lt→ltb}
-use mathlib.Core.List.{List·Memᴰ·append-cases, Memᴰ·append-right}
-use native.Mathlib.Nat.{mul-add-div-right, mul-add-mod-self-right, div-eq-of-lt, div-add-mod', div-lt-iff-lt-mul, mod-lt, add-zero}
+use Rattle.model.specs.Kit.{_≡_, refl, sym, ap, ap₂, _∙_, subst, not, List, [], _∷_, map, List·Memᴰ, List·Memᴰ·head, List·Memᴰ·tail, Memᴰ·append-left, Memᴰ·cast, Memᴰ·map, Memᴰ·of-map, _⊎_, inl}
+use Rattle.model.specs.Kit.{inr, ⊎-elim, ℕ, suc, _+_, _<_, _/_, _%_, _*_, _^_, mod-eq-of-lt, mul-le-mul-right, arith, T, T-not, not-T, eqb, ltb, eqb→eq, eqb-refl, ltb→lt, lt→ltb}
 use Rattle.model.specs.Problem.{pairsAt, Problem, Constraint, pair, isPair, pairsOf, within, assignments, excluded, doubled, forbidden, valuesAt, satisfies, isSolution}
 use Rattle.model.specs.{Lists.any, Lists.keep, Lists.flat, Lists.below, Lists.at, Lists.same, ValueSets.has, ValueSets.members, inner.WellFormed.WellFormed, Claims.Drawn}
+use mathlib.Core.List.{List·Memᴰ·append-cases, Memᴰ·append-right}
+use native.Mathlib.Nat.{mul-add-div-right, mul-add-mod-self-right, div-eq-of-lt, div-add-mod', div-lt-iff-lt-mul, mod-lt, add-zero}
 use Rattle.model.proofs.Lists.{both-i, both-l, both-r, all-e, all-i, any-e, any-i, keep-e, keep-i, flat-i, flat-e, below-i, below-e}
 use Rattle.model.proofs.{Sets.has-lt, Sets.members-i, Sets.members-e, Assignments.drawn-e, Tree.solution-e}
 
@@ -175,5 +174,4 @@ module _ (p : Problem) where
           r .2 (subst (λ (us : List ℕ). T (any (same us) (c .rows))) e (solution-e p a s .satisfied c l))
 
       pub no-forbidden : (h : List ℕ) → List·Memᴰ h (forbidden p) → ((q : ℕ) → List·Memᴰ q h → List·Memᴰ q (pairsOf p a)) → ⊥
-      no-forbidden h m i =
-          ⊎-elim {C = ⊥} (λ k. no-doubled (k .0) h (k .1) (k .2) i) (λ k. no-excluded (k .0) h (k .1) (k .2) i) (forbidden-e h m)
+      no-forbidden h m i = ⊎-elim {C = ⊥} (λ k. no-doubled (k .0) h (k .1) (k .2) i) (λ k. no-excluded (k .0) h (k .1) (k .2) i) (forbidden-e h m)

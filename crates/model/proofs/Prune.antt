@@ -1,12 +1,13 @@
 -- One round of pruning: what it keeps; rounds end in the largest sets that a round leaves as they are. Assumes nothing.
-use Rattle.model.specs.Kit.{_≡_, refl, sym, ap, _∙_, subst, Bool, true, false, not, List, [], _∷_, map, List·Memᴰ, Memᴰ·map, Memᴰ·of-map, Memᴰ·cast, ℕ, zero, suc, _*_, _^_}
-use Rattle.model.specs.Kit.{_≤_, _<_, not-suc-le-zero, le-of-suc-le-suc, arith, T, eqb, ltb, eqb→eq, eqb-refl, T-not, length, replicate, ltb-true, ltb-false}
-use Rattle.model.specs.{Lists.both, Lists.all, Lists.any, Lists.at, Lists.same, ValueSets.has, ValueSets.maskOf, ValueSets.anyEmpty, ValueSets.Inside, Problem.Problem}
-use Rattle.model.specs.{Problem.Constraint, Nogood.filtered, Search.nogoodsOf, Search.rowWith, Search.supported, Search.leftBy, Search.keptBy, Search.pruned, Search.narrowed}
-use Rattle.model.specs.{Search.rounds, Search.roundsEnough, Search.setsAt, Search.isLive, inner.Pruning.Sets, inner.Pruning.closed, inner.Pruning.Way}
+use Rattle.model.specs.Kit.{_≡_, refl, sym, ap, _∙_, subst, Bool, true, false, not, List, [], _∷_, map, List·Memᴰ, Memᴰ·map, Memᴰ·of-map, Memᴰ·cast, ℕ, zero, suc, _*_, _^_, _≤_, _<_}
+use Rattle.model.specs.Kit.{not-suc-le-zero, le-of-suc-le-suc, arith, T, eqb, ltb, eqb→eq, eqb-refl, T-not, length, replicate, ltb-true, ltb-false}
+use Rattle.model.specs.Search.{nogoodsOf, rowWith, supported, leftBy, keptBy, pruned, narrowed, rounds, roundsEnough, setsAt, isLive}
+use Rattle.model.specs.{Lists.both, Lists.all, Lists.any, Lists.at, Lists.same, ValueSets.has, ValueSets.maskOf, ValueSets.anyEmpty, ValueSets.Inside, Problem.Problem, Problem.Constraint}
+use Rattle.model.specs.{Nogood.filtered, inner.Pruning.Sets, inner.Pruning.closed, inner.Pruning.Way}
 use Rattle.model.proofs.Lists.{T-of, of-T, not-of, of-not, both-i, both-l, both-r, all-i, all-e, any-i, any-e, at-tabulate, length-tabulate, at-out, same-eq, same-refl}
-use Rattle.model.proofs.Sets.{has-lt, has-none, mask-i, mask-e, mask-lt, inside-refl, inside-antisym, has-at-lt, size, size-le, size-strict, empty-inside, at-zeros}
-use Rattle.model.proofs.{Sets.zeros-empty, Sets.zeros-replicate, Filter.filtered-mono, Filter.filtered-sets, Filter.filtered-inside}
+use Rattle.model.proofs.Sets.{has-lt, has-none, mask-i, mask-e, mask-lt, inside-refl, inside-antisym, has-at-lt, size, size-le, size-strict, empty-inside, at-zeros, zeros-empty}
+use Rattle.model.proofs.Sets.{zeros-replicate}
+use Rattle.model.proofs.Filter.{filtered-mono, filtered-sets, filtered-inside}
 
 -- ---- a row inside the sets
 pub row-mono : (ds es : List ℕ) → Inside ds es → (x v : ℕ) (ys ws : List ℕ) → T (rowWith ds x v ys ws) → T (rowWith es x v ys ws)

@@ -1,9 +1,9 @@
 -- Rows cut from bytes and joined again, and what is answered about lent room. Assumes nothing.
-use Rattle.model.specs.Kit.{_≡_, refl, sym, ap, ap₂, _∙_, List, [], _∷_, _++_, List·Memᴰ, List·Memᴰ·head, List·Memᴰ·tail, List·Memᴰ·not-nil, ℕ, zero, suc, _+_, _*_, _/_, _≤_}
-use Rattle.model.specs.Kit.{_<_, suc-mul, arith, length, take, drop, length-append, length-drop, take-append-drop, length-take-le}
+use Rattle.model.specs.Kit.{_≡_, refl, sym, ap, ap₂, _∙_, List, [], _∷_, _++_, List·Memᴰ, List·Memᴰ·head, List·Memᴰ·tail, List·Memᴰ·not-nil, ℕ, zero, suc, _+_, _*_, _/_, _≤_, _<_, suc-mul}
+use Rattle.model.specs.Kit.{arith, length, take, drop, length-append, length-drop, take-append-drop, length-take-le}
+use Rattle.model.specs.{Lists.flat, Run.listedPlans, Verdict.Verdict, Verdict.accepted, Room.rowsIn, Room.wrote, Room.refusal, Room.outcomeOf, Room.roomAfter, Room.numbered}
 use native.Mathlib.Nat.{zero-mul, mul-div-cancel, div-eq-of-lt, add-mul-div-right, div-add-mod'}
 use lib.Seq.{take-at, drop-at}
-use Rattle.model.specs.{Lists.flat, Run.listedPlans, Verdict.Verdict, Verdict.accepted, Room.rowsIn, Room.wrote, Room.refusal, Room.outcomeOf, Room.roomAfter, Room.numbered}
 
 -- ---- tests that fail, and that pass
 -- ---- rows of one length

@@ -1,10 +1,9 @@
 -- Runs: how far a run walks along the nodes, what it lists and counts up to there, and when it finishes. Assumes nothing.
-use Rattle.model.specs.Kit.{_≡_, refl, sym, ap, ap₂, _∙_, subst, Bool, true, false, List, [], _∷_, _++_, List·Memᴰ, append-nil, ℕ, suc, _+_, _-_, _*_, _≤_, _<_}
-use Rattle.model.specs.Kit.{mul-le-mul-right, arith, eqb, leb, eqb→eq, length, take, drop, length-append, take-append-drop, take-all, leb-true, leb-false, eqb-true}
-use Rattle.model.specs.Kit.{eqb-false}
+use Rattle.model.specs.Kit.{_≡_, refl, sym, ap, ap₂, _∙_, subst, Bool, true, false, List, [], _∷_, _++_, List·Memᴰ, append-nil, ℕ, suc, _+_, _-_, _*_, _≤_, _<_, mul-le-mul-right, arith, eqb}
+use Rattle.model.specs.Kit.{leb, eqb→eq, length, take, drop, length-append, take-append-drop, take-all, leb-true, leb-false, eqb-true, eqb-false}
+use Rattle.model.specs.Run.{Ending, finished, spent, full, plansIn, nodesIn, Result, search, resultOf}
+use Rattle.model.specs.{Lists.keep, Problem.Problem, Search.nodes, Search.isLive, Search.isPlan, Claims.plansAmong, Claims.CountsAt}
 use lib.Seq.{append-snoc, take-append-seam}
-use Rattle.model.specs.{Lists.keep, Problem.Problem, Search.nodes, Search.isLive, Search.isPlan, Run.Ending, Run.finished, Run.spent, Run.full, Run.plansIn, Run.nodesIn}
-use Rattle.model.specs.{Run.Result, Run.search, Run.resultOf, Claims.plansAmong, Claims.CountsAt}
 use Rattle.model.proofs.Lists.{both-l, keep-yes, keep-no, keep-append, keep-e}
 
 -- ---- one element more in front, on both sides

@@ -1,14 +1,14 @@
 -- Laws of sets of values and of lists of them: members, comprehension, extensionality, size. Assumes nothing.
-use Rattle.model.specs.Kit.{_≡_, refl, sym, ap, _∙_, subst, Bool, true, false, List, [], _∷_, map, List·Memᴰ, List·Memᴰ·head, List·Memᴰ·tail, List·Memᴰ·not-nil, ℕ, zero, suc}
-use Rattle.model.specs.Kit.{_+_, _*_, _/_, _%_, _^_, _≤_, _<_, not-suc-le-zero, le-of-suc-le-suc, arith, T, eqb, ltb, eqb→eq, length, set, length-set, eq-eqb, ne-eqb}
+use Rattle.model.specs.Kit.{_≡_, refl, sym, ap, _∙_, subst, Bool, true, false, List, [], _∷_, map, List·Memᴰ, List·Memᴰ·head, List·Memᴰ·tail, List·Memᴰ·not-nil, ℕ, zero, suc, _+_, _*_, _/_, _%_}
+use Rattle.model.specs.Kit.{_^_, _≤_, _<_, not-suc-le-zero, le-of-suc-le-suc, arith, T, eqb, ltb, eqb→eq, length, set, length-set, eq-eqb, ne-eqb}
+use Rattle.model.specs.ValueSets.{bit, has, maskBelow, maskOf, members, anyEmpty, Inside}
+use Rattle.model.specs.{Lists.keep, Lists.below, Lists.at, inner.Pruning.Sets}
 use mathlib.Core.List.{Sublistᴰ, Sublistᴰ·refl}
 use native.Mathlib.Nat.{pow-suc}
 use native.Mathlib.Numerals.{one-add}
 use lib.Pow.{shr-shr}
-use Rattle.model.specs.{Lists.keep, Lists.below, Lists.at, ValueSets.bit, ValueSets.has, ValueSets.maskBelow, ValueSets.maskOf, ValueSets.members, ValueSets.anyEmpty}
-use Rattle.model.specs.{ValueSets.Inside, inner.Pruning.Sets}
-use Rattle.model.proofs.Lists.{T-of, not-of, of-not, T-ext, keep-i, keep-e, keep-none, below-i, below-e, Sorted, sorted-keep, sorted-below, at-out, at-ext, mem-at, at-mem}
-use Rattle.model.proofs.Lists.{set-each, any-i, any-e, sublist-keep}
+use Rattle.model.proofs.Lists.{T-of, not-of, of-not, T-ext, keep-i, keep-e, keep-none, below-i, below-e, Sorted, sorted-keep, sorted-below, at-out, at-ext, mem-at, at-mem, set-each, any-i}
+use Rattle.model.proofs.Lists.{any-e, sublist-keep}
 
 -- ---- the member test, bit by bit
 pub has-zero : (s : ℕ) → has s 0 ≡ eqb (s % 2) 1
@@ -36,8 +36,7 @@ pub has-mask : (k : ℕ) (f : ℕ → Bool) (v : ℕ) → v < k → has (maskBel
 unfolding maskBelow
 has-mask zero f v h = absurd (not-suc-le-zero h)
 has-mask (suc k) f zero h = has-zero _ ∙ low (f 0) _
-has-mask (suc k) f (suc v) h =
-    has-suc _ v ∙ ap (λ (n : ℕ). has n v) (high (f 0) _) ∙ has-mask k (λ u. f (suc u)) v (le-of-suc-le-suc h)
+has-mask (suc k) f (suc v) h = has-suc _ v ∙ ap (λ (n : ℕ). has n v) (high (f 0) _) ∙ has-mask k (λ u. f (suc u)) v (le-of-suc-le-suc h)
 
 pub pow2 : (k : ℕ) → 2 ^ suc k ≡ 2 * 2 ^ k
 pow2 k = pow-suc 2 k ∙ omega arith

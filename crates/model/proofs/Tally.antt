@@ -1,14 +1,12 @@
 -- The tally (paper 02, #107): twelve counts of a list by a number of each element, which add up to its length; how many values the nodes of a tree have.
 -- Assumes nothing.
-use Rattle.model.specs.Kit.{_≡_, refl, sym, ap, ap₂, _∙_, subst, Bool, true, false, ⊎-elim, List, [], _∷_, _++_, map, List·Memᴰ, List·Memᴰ·head, List·Memᴰ·tail}
-use Rattle.model.specs.Kit.{List·Memᴰ·not-nil, List·Memᴰ·cases-cons, Memᴰ·of-map, Memᴰ·append-left, append-nil, ℕ, zero, suc, _+_, _≤_, _<_, not-suc-le-zero}
-use Rattle.model.specs.Kit.{le-of-suc-le-suc, arith, eqb, leb, ltb, length, take, drop, set, length-append, length-set, take-append-drop, take-all, eqb-true, eqb-false}
-use Rattle.model.specs.Kit.{ltb-true, ltb-false, leb-true, leb-false}
-use lib.Seq.{append-snoc}
-use Rattle.model.specs.{Lists.keep, Lists.at, Lists.tabulate, Lists.total, ValueSets.members, Problem.Problem, Search.setsAt, Search.nodesBelow, Search.nodes, Search.isPlan}
+use Rattle.model.specs.Kit.{_≡_, refl, sym, ap, ap₂, _∙_, subst, Bool, true, false, ⊎-elim, List, [], _∷_, _++_, map, List·Memᴰ, List·Memᴰ·head, List·Memᴰ·tail, List·Memᴰ·not-nil}
+use Rattle.model.specs.Kit.{List·Memᴰ·cases-cons, Memᴰ·of-map, Memᴰ·append-left, append-nil, ℕ, zero, suc, _+_, _≤_, _<_, not-suc-le-zero, le-of-suc-le-suc, arith, eqb, leb, ltb, length, take}
+use Rattle.model.specs.Kit.{drop, set, length-append, length-set, take-append-drop, take-all, eqb-true, eqb-false, ltb-true, ltb-false, leb-true, leb-false}
 use Rattle.model.specs.Run.{Ending, finished, spent, full, nodesIn, resultOf, countsBy, settledBy}
-use Rattle.model.proofs.Lists.{flat-e, keep-most, keep-yes, keep-no, keep-append, keep-none, keep-ext, of-T, length-tabulate, at-tabulate, at-ext, at-out, at-set}
-use Rattle.model.proofs.Lists.{at-set-other}
+use Rattle.model.specs.{Lists.keep, Lists.at, Lists.tabulate, Lists.total, ValueSets.members, Problem.Problem, Search.setsAt, Search.nodesBelow, Search.nodes, Search.isPlan}
+use lib.Seq.{append-snoc}
+use Rattle.model.proofs.Lists.{flat-e, keep-most, keep-yes, keep-no, keep-append, keep-none, keep-ext, of-T, length-tabulate, at-tabulate, at-ext, at-out, at-set, at-set-other}
 use Rattle.model.proofs.Runs as R
 
 -- ---- the sum of a list

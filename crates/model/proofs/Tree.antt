@@ -1,20 +1,19 @@
 -- Plans: the live full prefixes are the solutions that obey every symmetry's list, and the tree meets each of them in reading order. Assumes nothing.
-use Rattle.model.specs.Kit.{_≡_, refl, sym, ap, ap₂, _∙_, subst, Bool, true, false, List, [], _∷_, _++_, map, List·Memᴰ, List·Memᴰ·head, List·Memᴰ·tail, Memᴰ·of-map}
-use Rattle.model.specs.Kit.{append-nil, ℕ, zero, suc, _+_, _^_, _≤_, _<_, not-suc-le-zero, arith, T, eqb, ltb, eqb→eq, eqb-refl, not-T, length, drop, length-append, ltb-true}
-use Rattle.model.specs.Kit.{ltb-false, eqb-true, ne-eqb}
+use Rattle.model.specs.Kit.{_≡_, refl, sym, ap, ap₂, _∙_, subst, Bool, true, false, List, [], _∷_, _++_, map, List·Memᴰ, List·Memᴰ·head, List·Memᴰ·tail, Memᴰ·of-map, append-nil, ℕ, zero, suc}
+use Rattle.model.specs.Kit.{_+_, _^_, _≤_, _<_, not-suc-le-zero, arith, T, eqb, ltb, eqb→eq, eqb-refl, not-T, length, drop, length-append, ltb-true, ltb-false, eqb-true, ne-eqb}
+use Rattle.model.specs.Search.{entriesAt, nogoodsOf, rowWith, supported, pruned, narrowed, roundsEnough, setsAt, isLive, nodesBelow, nodes, isPlan}
+use Rattle.model.specs.Lists.{both, all, any, keep, flat, below, upFrom, at, same}
+use Rattle.model.specs.{ValueSets.has, ValueSets.members, ValueSets.anyEmpty, ValueSets.Inside, Problem.Problem, Problem.Constraint, Problem.assignments, Problem.valuesAt, Problem.satisfies}
+use Rattle.model.specs.{Problem.isSolution, Nogood.Entry, Nogood.obeys, inner.WellFormed.WellFormed, inner.WellFormed.GoodConstraint, inner.Pruning.Sets, inner.Pruning.closed, Claims.Drawn}
 use mathlib.Core.List.{List·Memᴰ·eq-of-singleton, map-map, map-id}
 use lib.ListN.{drop-of-length-le}
 use lib.Pow.{pow-mono}
 use lib.Seq.{append-snoc}
-use Rattle.model.specs.Search.{entriesAt, nogoodsOf, rowWith, supported, pruned, narrowed, roundsEnough, setsAt, isLive, nodesBelow, nodes, isPlan}
-use Rattle.model.specs.{Lists.both, Lists.all, Lists.any, Lists.keep, Lists.flat, Lists.below, Lists.upFrom, Lists.at, Lists.same, ValueSets.has, ValueSets.members, ValueSets.anyEmpty}
-use Rattle.model.specs.{ValueSets.Inside, Problem.Problem, Problem.Constraint, Problem.assignments, Problem.valuesAt, Problem.satisfies, Problem.isSolution, Nogood.Entry, Nogood.obeys}
-use Rattle.model.specs.{inner.WellFormed.WellFormed, inner.WellFormed.GoodConstraint, inner.Pruning.Sets, inner.Pruning.closed, Claims.Drawn}
-use Rattle.model.proofs.Lists.{map-flat-map, drop-at, not-of, of-not, T-ext, both-i, both-l, both-r, all-i, all-e, any-i, any-e, keep-no, keep-none, keep-ext, keep-flat-map}
-use Rattle.model.proofs.Lists.{flat-pick, below-i, below-e, upFrom-add, flat-append, map-append, map-ext, at-ext, at-out, at-append, at-seam, same-eq, same-refl}
-use Rattle.model.proofs.{Sets.has-lt, Sets.has-none, Sets.has-at-lt, Sets.member, Sets.empty-i, Sets.empty-e, Assignments.drawn-i, Assignments.drawn-e, Filter.filtered-i}
-use Rattle.model.proofs.{Filter.filtered-e, Filter.obeys-front, Prune.supported-e, Prune.Kept, Prune.pruned-i, Prune.pruned-sets, Prune.rounds-ind, Prune.narrowed-i}
-use Rattle.model.proofs.Prune.{narrowed-e, Sized, Largest, largest, start-sets, fixed-e, setsAt-live, live-closed, value-live}
+use Rattle.model.proofs.Lists.{map-flat-map, drop-at, not-of, of-not, T-ext, both-i, both-l, both-r, all-i, all-e, any-i, any-e, keep-no, keep-none, keep-ext, keep-flat-map, flat-pick, below-i}
+use Rattle.model.proofs.Lists.{below-e, upFrom-add, flat-append, map-append, map-ext, at-ext, at-out, at-append, at-seam, same-eq, same-refl}
+use Rattle.model.proofs.Sets.{has-lt, has-none, has-at-lt, member, empty-i, empty-e}
+use Rattle.model.proofs.Prune.{supported-e, Kept, pruned-i, pruned-sets, rounds-ind, narrowed-i, narrowed-e, Sized, Largest, largest, start-sets, fixed-e, setsAt-live, live-closed, value-live}
+use Rattle.model.proofs.{Assignments.drawn-i, Assignments.drawn-e, Filter.filtered-i, Filter.filtered-e, Filter.obeys-front}
 
 -- ---- the nogoods of a longer prefix begin with those of the shorter
 same-entries : (p : Problem) (g a b : List ℕ) (j : ℕ) → j < length a → entriesAt p g (a ++ b) j ≡ entriesAt p g a j

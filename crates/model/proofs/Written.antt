@@ -1,9 +1,9 @@
 -- Texts put into a buffer one after the other: the buffer keeps its length, and two texts are one. Assumes nothing.
-use Rattle.model.specs.Kit.{_≡_, refl, sym, ap, _∙_, subst, List, [], _∷_, _++_, append-assoc, append-nil, ℕ, _+_, _-_, _≤_, _<_, add-one, arith, length, take, drop, set}
-use Rattle.model.specs.Kit.{length-append, length-drop, take-append-drop, getD-drop, length-take-le}
+use Rattle.model.specs.Kit.{_≡_, refl, sym, ap, _∙_, subst, List, [], _∷_, _++_, append-assoc, append-nil, ℕ, _+_, _-_, _≤_, _<_, add-one, arith, length, take, drop, set, length-append}
+use Rattle.model.specs.Kit.{length-drop, take-append-drop, getD-drop, length-take-le}
+use Rattle.model.specs.{Lists.at, Lists.tabulate, Written.placed, Written.Written, Written.Fronted}
 use native.Mathlib.Nat.{add-zero, zero-add}
 use lib.Seq.{take-at, drop-at, drop-drop, set-split, paste, take-length}
-use Rattle.model.specs.{Lists.at, Lists.tabulate, Written.placed, Written.Written, Written.Fronted}
 use Rattle.model.proofs.Lists.{at-append, at-skip, at-take, tabulate-snoc}
 
 module _ (d : List ℕ) (at : ℕ) (t : List ℕ) (fits : at + length t ≤ length d) where

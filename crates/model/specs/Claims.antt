@@ -1,11 +1,10 @@
 -- What question 16 shows and what a sheet with one exchange more is answered, in the paper's words; and the words of the filter, of the sets at a prefix and of the
 -- second and the third demand, in which filter and promises state them. The proofs are in proofs/Demands.antt and OneMoreAccepted.antt.
 use Rattle.model.specs.Kit.{_≡_, Bool, false, not, List, _++_, map, List·Memᴰ, ℕ, suc, _+_, _-_, _*_, _^_, _≤_, _<_, length, take, drop, replicate, T, leb}
-use Rattle.model.specs.{Lists.any, Lists.at, Lists.keep, Lists.flat, Lists.below, Lists.both, Lists.earlier, Bytes.twoBytes, ValueSets.has, ValueSets.anyEmpty}
-use Rattle.model.specs.{Problem.Problem, Problem.Constraint, Problem.isSolution, Problem.assignments, Problem.takes, Problem.respects, Verdict.accepted, Verdict.ask}
-use Rattle.model.specs.{Sheet.words, Sheet.problemOf, Sheet.headerOf, Sheet.verdictOf, Sheet.permutesPairs, Nogood.Entry, Nogood.filtered, Search.entriesOf}
-use Rattle.model.specs.{Search.rowWith, Search.nodes, Search.isPlan, Run.Ending, Run.finished, Run.spent, Run.full, Run.plansIn, Run.listOf}
-use Rattle.model.specs.Run.{listedPlans}
+use Rattle.model.specs.{Lists.any, Lists.at, Lists.keep, Lists.flat, Lists.below, Lists.both, Lists.earlier, Bytes.twoBytes, ValueSets.has, ValueSets.anyEmpty, Problem.Problem}
+use Rattle.model.specs.{Problem.Constraint, Problem.isSolution, Problem.assignments, Problem.takes, Problem.respects, Verdict.accepted, Verdict.ask, Sheet.words, Sheet.problemOf, Sheet.headerOf}
+use Rattle.model.specs.{Sheet.verdictOf, Sheet.permutesPairs, Nogood.Entry, Nogood.filtered, Search.entriesOf, Search.rowWith, Search.nodes, Search.isPlan, Run.Ending, Run.finished, Run.spent}
+use Rattle.model.specs.{Run.full, Run.plansIn, Run.listOf, Run.listedPlans}
 
 -- ---- the filter
 -- a gives each variable a value of its set

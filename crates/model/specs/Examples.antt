@@ -1,9 +1,9 @@
 -- The starred examples of paper 01, all of them, as one list of statements about the definitions.
 -- One theorem says that each holds (proofs/Examples).
 use Rattle.model.specs.Kit.{_≡_, true, false, List, [], _∷_, _++_, map, ℕ, _^_, _≤_, _<_, length, replicate}
-use Rattle.model.specs.{Lists.flat, Lists.at, Bytes.twoBytes, ValueSets.anyEmpty, Verdict.Verdict, Verdict.accepted, Nogood.entries, Nogood.filterVerdict, Nogood.setsAfter}
-use Rattle.model.specs.{Sheet.verdictOf, Sheet.problemOf, Search.setsAt, Search.nodes, Search.isLive, Run.Answer, Run.refusal, Run.answered, Run.ended, Run.finished}
-use Rattle.model.specs.{Run.spent, Run.full, Run.answerOf, Run.listOf, Claims.plansHeld, Claims.OneMore}
+use Rattle.model.specs.Run.{Answer, refusal, answered, ended, finished, spent, full, answerOf, listOf}
+use Rattle.model.specs.{Lists.flat, Lists.at, Bytes.twoBytes, ValueSets.anyEmpty, Verdict.Verdict, Verdict.accepted, Nogood.entries, Nogood.filterVerdict, Nogood.setsAfter, Sheet.verdictOf}
+use Rattle.model.specs.{Sheet.problemOf, Search.setsAt, Search.nodes, Search.isLive, Claims.plansHeld, Claims.OneMore}
 
 -- each of the statements holds
 abbrev pub Each : List (Type 0) → Type 0
@@ -41,8 +41,7 @@ sheetA0 = bytes ((2 ∷ 3 ∷ 1 ∷ 0 ∷ 16 ∷ 20 ∷ 52 ∷ 52 ∷ 7 ∷ 7 �
 
 -- three places, three values, every two places different; the exchange takes (i, v) to (i + 1, v), place 2 to place 0
 abbrev pub sheetR : List ℕ
-sheetR =
-    bytes ((3 ∷ 3 ∷ 3 ∷ 1 ∷ 16 ∷ 22 ∷ 118 ∷ 136 ∷ 7 ∷ 7 ∷ 7 ∷ []) ++ differ 0 1 ++ differ 0 2 ++ differ 1 2 ++ (3 ∷ 4 ∷ 5 ∷ 6 ∷ 7 ∷ 8 ∷ 0 ∷ 1 ∷ 2 ∷ []))
+sheetR = bytes ((3 ∷ 3 ∷ 3 ∷ 1 ∷ 16 ∷ 22 ∷ 118 ∷ 136 ∷ 7 ∷ 7 ∷ 7 ∷ []) ++ differ 0 1 ++ differ 0 2 ++ differ 1 2 ++ (3 ∷ 4 ∷ 5 ∷ 6 ∷ 7 ∷ 8 ∷ 0 ∷ 1 ∷ 2 ∷ []))
 
 -- n = 1, d = 1, no rule
 abbrev pub sheet1 : List ℕ

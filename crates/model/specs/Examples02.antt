@@ -1,7 +1,6 @@
 -- The examples of paper 02, as one list of statements about the definitions. One theorem says that each holds (proofs/Examples02).
 use Rattle.model.specs.Kit.{_≡_, List, [], _∷_, replicate}
-use Rattle.model.specs.{Nogood.failed, Nogood.entailed, Nogood.consistent, Nogood.entries, Nogood.filterEnding, Run.tallyOf, Examples.index4, Examples.equal4}
-use Rattle.model.specs.Examples.{unequal4, sheetA}
+use Rattle.model.specs.{Nogood.failed, Nogood.entailed, Nogood.consistent, Nogood.entries, Nogood.filterEnding, Run.tallyOf, Examples.index4, Examples.equal4, Examples.unequal4, Examples.sheetA}
 
 abbrev pub tests02 : List (Type 0)
 tests02 =

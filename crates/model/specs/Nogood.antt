@@ -1,7 +1,7 @@
 -- Increasing nogoods (source document 001, section 3), and the exact filter for a list of them (paper 01, "Nogood lists").
 use Rattle.model.specs.Kit.{Bool, true, false, not, List, [], _∷_, ℕ, length, getD, eqb, ltb, leb}
-use Rattle.model.specs.{Lists.all, Lists.any, Lists.at, Lists.keep, Lists.both, Lists.tabulate, ValueSets.maskOf, ValueSets.least, Problem.assignments}
-use Rattle.model.specs.Verdict.{Verdict, accepted, ask, reply, kept}
+use Rattle.model.specs.Lists.{all, any, at, keep, both, tabulate}
+use Rattle.model.specs.{ValueSets.maskOf, ValueSets.least, Problem.assignments, Verdict.Verdict, Verdict.accepted, Verdict.ask, Verdict.reply, Verdict.kept}
 pub use Rattle.model.specs.Verdict.{Reply, refusal, answered}
 
 -- An entry of the three lists. An equality adds "variable = value" to the left side.

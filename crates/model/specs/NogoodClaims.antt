@@ -1,7 +1,7 @@
 -- What an entry is, in words (paper 02, #105), and when a list says nothing more (#102). The proofs are in proofs/EntryKinds.antt.
 use Rattle.model.specs.Kit.{_≡_, _⊎_, List, List·Memᴰ, ℕ, _<_, T, eqb, ltb}
-use Rattle.model.specs.{Lists.both, Lists.either, Problem.assignments, Nogood.Entry, Nogood.equality, Nogood.disequality, Nogood.obeys, Nogood.mark, Nogood.Kind, Nogood.isEquality}
-use Rattle.model.specs.Nogood.{isDisequality, bothAbsent, bothPresent, kindOf, entryOf, entryOk}
+use Rattle.model.specs.Nogood.{Entry, equality, disequality, obeys, mark, Kind, isEquality, isDisequality, bothAbsent, bothPresent, kindOf, entryOf, entryOk}
+use Rattle.model.specs.{Lists.both, Lists.either, Problem.assignments}
 
 -- each case as a condition on the two numbers
 abbrev pub CaseOf : Kind → ℕ → ℕ → Type 0

@@ -1,9 +1,8 @@
 -- The nogoods of a symmetry at a prefix, the sets at a prefix, and the tree as the list of its nodes (paper 01, "The search").
 -- A prefix is the list of the values of variables 0 to k - 1.
 use Rattle.model.specs.Kit.{Bool, true, false, not, List, [], _∷_, _++_, map, ℕ, zero, suc, _*_, _/_, _%_, length, eqb, ltb}
-use Rattle.model.specs.{Lists.all, Lists.any, Lists.keep, Lists.flat, Lists.below, Lists.at, Lists.same, Lists.both, Lists.tabulate, ValueSets.has, ValueSets.maskOf}
-use Rattle.model.specs.{ValueSets.members, ValueSets.anyEmpty, Problem.Problem, Problem.Constraint, Problem.pair, Nogood.Entry, Nogood.equality, Nogood.disequality}
-use Rattle.model.specs.Nogood.{filtered}
+use Rattle.model.specs.{Lists.all, Lists.any, Lists.keep, Lists.flat, Lists.below, Lists.at, Lists.same, Lists.both, Lists.tabulate, ValueSets.has, ValueSets.maskOf, ValueSets.members}
+use Rattle.model.specs.{ValueSets.anyEmpty, Problem.Problem, Problem.Constraint, Problem.pair, Nogood.Entry, Nogood.equality, Nogood.disequality, Nogood.filtered}
 
 -- the entries that variable j, which has value u, adds to a symmetry's list: "not the image of (j, v)" for every smaller v of j's initial set,
 -- then the image of its own pair as an equality
@@ -26,8 +25,7 @@ unfoldable pub rowWith : List ℕ → ℕ → ℕ → List ℕ → List ℕ → 
 rowWith ds x v [] [] = true
 rowWith ds x v [] (w ∷ ws) = false
 rowWith ds x v (y ∷ ys) [] = false
-rowWith ds x v (y ∷ ys) (w ∷ ws) =
-    both (has (at ds y) w) (both (elim (eqb x y) [ true ↦ eqb v w | false ↦ true ]) (rowWith ds x v ys ws))
+rowWith ds x v (y ∷ ys) (w ∷ ws) = both (has (at ds y) w) (both (elim (eqb x y) [ true ↦ eqb v w | false ↦ true ]) (rowWith ds x v ys ws))
 
 -- v has a row of the constraint inside the sets, where x is one of its variables
 unfoldable pub supported : List ℕ → ℕ → ℕ → Constraint → Bool
@@ -76,8 +74,7 @@ isLive p prefix = not (anyEmpty (setsAt p prefix))
 -- the nodes below a prefix, k variables left to settle (a node is the paper's trial), in the order of the search
 unfoldable pub nodesBelow : Problem → ℕ → List ℕ → List (List ℕ)
 nodesBelow p zero prefix = []
-nodesBelow p (suc k) prefix =
-    flat (map (λ v. (prefix ++ (v ∷ [])) ∷ nodesBelow p k (prefix ++ (v ∷ []))) (members (at (setsAt p prefix) (length prefix))))
+nodesBelow p (suc k) prefix = flat (map (λ v. (prefix ++ (v ∷ [])) ∷ nodesBelow p k (prefix ++ (v ∷ []))) (members (at (setsAt p prefix) (length prefix))))
 
 unfoldable pub nodes : Problem → List (List ℕ)
 nodes p = nodesBelow p (p .variables) []

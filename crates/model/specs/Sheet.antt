@@ -1,8 +1,8 @@
 -- The sheet's format, the questions put to it in their order, and the problem that it states
 -- (paper 01, "The sheet" and "Questions put to a sheet").
 use Rattle.model.specs.Kit.{Bool, true, false, not, List, [], _∷_, map, ℕ, zero, suc, _+_, _*_, _^_, length, leb, ltb, eqb}
-use Rattle.model.specs.{Lists.all, Lists.any, Lists.below, Lists.at, Lists.both, Lists.ascending, Lists.rowsAscend, Problem.Problem, Problem.Constraint, Problem.isPair}
-use Rattle.model.specs.{Problem.respects, Verdict.Verdict, Verdict.accepted, Verdict.ask}
+use Rattle.model.specs.Lists.{all, any, below, at, both, ascending, rowsAscend}
+use Rattle.model.specs.{Problem.Problem, Problem.Constraint, Problem.isPair, Problem.respects, Verdict.Verdict, Verdict.accepted, Verdict.ask}
 
 -- ---- the format
 -- an unsigned 16-bit number, low byte first

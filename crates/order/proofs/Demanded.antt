@@ -1,17 +1,17 @@
 -- The second and the third demand of any run (specs/inner/Demanded), and paper 01's run of a sheet. Assumes nothing.
 use Rattle.model.specs.Kit.{_≡_, refl, sym, ap, ap₂, _∙_, subst, subst₂, _↔_, List, [], _∷_, map, List·Memᴰ, ℕ, _*_, _≤_, arith, T, length, take, drop, length-take-le}
-use mathlib.Core.List.{Sublistᴰ}
-use lib.Seq.{drop-append-seam}
 use Rattle.model.specs.Run.{Ending, finished, plansIn, nodesIn, resultOf, Answer, refusal, ended, answered, answerOf, written, listOf, listedPlans, Tally, tallyAt, tallyFor, tallyOf}
 use Rattle.model.specs.{Lists.flat, Lists.below, Lists.earlier, Problem.Problem, Problem.isSolution, Problem.withSymmetries, Verdict.Verdict, Verdict.accepted, Verdict.refused, Verdict.isAccepted}
 use Rattle.model.specs.{Verdict.reply, Verdict.kept, Sheet.verdictOf, Sheet.problemOf, Search.nodes, inner.WellFormed.WellFormed, inner.WellFormed.Respected, Claims.Chain}
+use mathlib.Core.List.{Sublistᴰ}
+use lib.Seq.{drop-append-seam}
 use Rattle.model.proofs.{Demands.read-back, Demands.reply-so, Demands.of-accepted, More.FewerIn, OneMore.one-more, Room.length-flat, Tally.made-inside}
-use Rattle.order.specs.{Order.Ordering, Reordered.write, Reordered.earlierBy, Reordered.reordered, RunBy.Input, RunBy.sheetInput, RunBy.resultBy, RunBy.placeTally}
-use Rattle.order.specs.{RunBy.leadersBy, RunBy.answerBy, RunBy.listBy, RunBy.plansBy, RunBy.talliedBy, inner.Demanded.Tallied, inner.Demanded.Demanded, inner.Demanded.Fewer}
+use Rattle.order.specs.RunBy.{Input, sheetInput, resultBy, placeTally, leadersBy, answerBy, listBy, plansBy, talliedBy}
+use Rattle.order.specs.{Order.Ordering, Reordered.write, Reordered.earlierBy, Reordered.reordered, inner.Demanded.Tallied, inner.Demanded.Demanded, inner.Demanded.Fewer}
 use Rattle.order.specs.inner.Demanded.{Demanded-sheet, Fewer-sheet, Sheet-run}
-use Rattle.order.proofs.{LeadersBy.ordering-below, LeadersBy.read-below, LeadersBy.reordered-below, SetsBy.largest-by, RunBy.sublist-map, RunBy.leadersBy-ascend}
-use Rattle.order.proofs.RunBy.{leadersBy-hold, chainsBy, rows-sized-by, rows-counted-by, finished-lists, first-lists, none-lists, counts-by, fewer-by, same-result}
-use Rattle.order.proofs.RunBy.{same-leaders, same-counts, places-total, places-none, places-twelve}
+use Rattle.order.proofs.RunBy.{sublist-map, leadersBy-ascend, leadersBy-hold, chainsBy, rows-sized-by, rows-counted-by, finished-lists, first-lists, none-lists, counts-by, fewer-by}
+use Rattle.order.proofs.RunBy.{same-result, same-leaders, same-counts, places-total, places-none, places-twelve}
+use Rattle.order.proofs.{LeadersBy.ordering-below, LeadersBy.read-below, LeadersBy.reordered-below, SetsBy.largest-by}
 
 -- what is known where the questions are passed
 pub record Sound (i : Input) : Type 0 where

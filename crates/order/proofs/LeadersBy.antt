@@ -1,14 +1,13 @@
 -- Leaders and chains of the reordered problem are those of the problem where rows are read in the order;
 -- and the order 0, 1, .. changes nothing. Assumes nothing.
-use Rattle.model.specs.Kit.{_≡_, refl, sym, ap, ap₂, _∙_, subst, subst₂, List, [], _∷_, map, List·Memᴰ, List·Memᴰ·head, List·Memᴰ·tail, Memᴰ·cast, Memᴰ·map, Memᴰ·of-map, _↔_, ℕ}
-use Rattle.model.specs.Kit.{_*_, _/_, _%_, _<_, arith, T, length}
+use Rattle.model.specs.Kit.{_≡_, refl, sym, ap, ap₂, _∙_, subst, subst₂, List, [], _∷_, map, List·Memᴰ, List·Memᴰ·head, List·Memᴰ·tail, Memᴰ·cast, Memᴰ·map, Memᴰ·of-map, _↔_, ℕ, _*_, _/_, _%_, _<_}
+use Rattle.model.specs.Kit.{arith, T, length}
+use Rattle.model.specs.Problem.{Problem, Constraint, pair, takes, isSolution}
+use Rattle.model.specs.{Lists.below, Lists.at, Lists.earlier, Claims.Leader, Claims.Chain, Claims.here, Claims.step, inner.WellFormed.WellFormed, inner.WellFormed.GoodConstraint}
 use native.Mathlib.Nat.{div-lt-iff-lt-mul}
-use Rattle.model.specs.{Lists.below, Lists.at, Lists.earlier, Problem.Problem, Problem.Constraint, Problem.pair, Problem.takes, Problem.isSolution, Claims.Leader, Claims.Chain, Claims.here}
-use Rattle.model.specs.{Claims.step, inner.WellFormed.WellFormed, inner.WellFormed.GoodConstraint}
-use Rattle.order.specs.{Order.Ordering, Reordered.position, Reordered.read, Reordered.write, Reordered.valueOf, Reordered.scopeIn, Reordered.rowIn, Reordered.constraintIn}
-use Rattle.order.specs.Reordered.{renamed, symmetryIn, reordered, earlierBy}
-use Rattle.model.proofs.Lists.{map-ext, below-i, below-e, length-below, at-below, at-ext, Sorted, sorted-ext, ascending-sorted}
-use Rattle.model.proofs.Tree.{solution-e}
+use Rattle.order.specs.Order.{Ordering}
+use Rattle.order.specs.Reordered.{position, read, write, valueOf, scopeIn, rowIn, constraintIn, renamed, symmetryIn, reordered, earlierBy}
+use Rattle.model.proofs.{Lists.map-ext, Lists.below-i, Lists.below-e, Lists.length-below, Lists.at-below, Lists.at-ext, Lists.Sorted, Lists.sorted-ext, Lists.ascending-sorted, Tree.solution-e}
 use Rattle.order.proofs.Reordered.{sorted-apart, row-values}
 use Rattle.model.proofs.Pairs as P
 use Rattle.order.proofs.Reordered as R

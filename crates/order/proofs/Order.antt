@@ -1,19 +1,18 @@
 -- The settling order: question 30 is answered "no" exactly where the pairs go round in a circle, and elsewhere the order is the paper's.
 -- Assumes nothing.
-use Rattle.model.specs.Kit.{_≡_, refl, sym, ap, ap₂, _∙_, subst, Bool, true, false, not, List, [], _∷_, _++_, map, List·Memᴰ, List·Memᴰ·head, List·Memᴰ·tail, List·Memᴰ·not-nil}
-use Rattle.model.specs.Kit.{Memᴰ·cast, Memᴰ·map, Memᴰ·of-map, _↔_, _⊎_, inl, inr, ℕ, zero, suc, _+_, _-_, _%_, _≤_, _<_, ℕ-discrete, decLt, arith, T, T-not, not-T, leb, ltb, eqb}
-use Rattle.model.specs.Kit.{eqb→eq, eqb-refl, ltb→lt, lt→ltb, leb→le, length, take, length-append, take-all, ltb-false, eq-eqb}
+use Rattle.model.specs.Kit.{_≡_, refl, sym, ap, ap₂, _∙_, subst, Bool, true, false, not, List, [], _∷_, _++_, map, List·Memᴰ, List·Memᴰ·head, List·Memᴰ·tail, List·Memᴰ·not-nil, Memᴰ·cast, Memᴰ·map}
+use Rattle.model.specs.Kit.{Memᴰ·of-map, _↔_, _⊎_, inl, inr, ℕ, zero, suc, _+_, _-_, _%_, _≤_, _<_, ℕ-discrete, decLt, arith, T, T-not, not-T, leb, ltb, eqb, eqb→eq, eqb-refl, ltb→lt, lt→ltb, leb→le}
+use Rattle.model.specs.Kit.{length, take, length-append, take-all, ltb-false, eq-eqb}
+use Rattle.model.specs.Lists.{all, any, keep, below, upFrom, at, both}
+use Rattle.model.specs.{ValueSets.least, Problem.within, Sheet.distinct, Verdict.Verdict, Verdict.refused, Verdict.ask, Examples.Each}
 use mathlib.Core.Path.{fun-ext}
 use lib.Dec.{le→leb}
 use lib.Seq.{take-suc, take-append-le}
-use Rattle.model.specs.{Lists.all, Lists.any, Lists.keep, Lists.below, Lists.upFrom, Lists.at, Lists.both, ValueSets.least, Problem.within, Sheet.distinct, Verdict.Verdict}
-use Rattle.model.specs.{Verdict.refused, Verdict.ask, Examples.Each}
 use Rattle.order.specs.Order.{pairsIn, Before, Path, one, more, Circle, forerunners, canFollow, settledFirst, settlingOrder, settlesAll, orderVerdict, Settling}
 use Rattle.order.specs.{Claims.Order-passed, Claims.Question-30, Claims.Settling-unique, Claims.Same-pairs, Examples.testsOrder}
-use Rattle.model.proofs.Lists.{both-i, both-l, both-r, T-dec, T-of, of-T, not-of, of-not, stable, T-ext, all-cons, all-i, all-e, keep-i, keep-e, among-i, among-e, below-i, below-e}
-use Rattle.model.proofs.{Lists.length-below, Lists.at-below, Lists.upFrom-add, Lists.at-seam, Lists.at-ext, Lists.mem-at, Lists.at-mem, Lists.at-take, Masks.least-at}
-use Rattle.model.proofs.{Masks.least-below, Masks.least-is, Counting.distinct-below, Counting.no-more, Counting.onto, Counting.twice, Accepted.asked, Pairs.within-i}
-use Rattle.model.proofs.Pairs.{within-e}
+use Rattle.model.proofs.Lists.{both-i, both-l, both-r, T-dec, T-of, of-T, not-of, of-not, stable, T-ext, all-cons, all-i, all-e, keep-i, keep-e, among-i, among-e, below-i, below-e, length-below}
+use Rattle.model.proofs.Lists.{at-below, upFrom-add, at-seam, at-ext, mem-at, at-mem, at-take}
+use Rattle.model.proofs.{Masks.least-at, Masks.least-below, Masks.least-is, Counting.distinct-below, Counting.no-more, Counting.onto, Counting.twice, Accepted.asked, Pairs.within-i, Pairs.within-e}
 
 -- ---- the pairs
 -- the places of a pair are bytes of the lending

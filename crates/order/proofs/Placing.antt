@@ -1,9 +1,8 @@
 -- Pairs by their index, and the order one place after another. Assumes nothing.
-use Rattle.model.specs.Kit.{_≡_, refl, sym, ap, ap₂, _∙_, subst, Bool, true, false, _⊎_, inl, inr, List, [], _∷_, _++_, List·Memᴰ, List·Memᴰ·head, List·Memᴰ·tail}
-use Rattle.model.specs.Kit.{List·Memᴰ·not-nil, ℕ, zero, suc, _+_, _-_, _*_, _/_, _%_, _^_, _≤_, _<_, not-suc-le-zero, ℕ-discrete, arith, bitOr, or-lt, T, ltb, eqb, ltb→lt, lt→ltb}
-use Rattle.model.specs.Kit.{eqb-refl, length, take, drop, set, length-set, length-take, length-drop, getD-drop, le-leb, lt-leb, eq-eqb, ne-eqb, eqb-true}
-use Rattle.model.specs.{Lists.all, Lists.any, Lists.at, Lists.both, Lists.either, ValueSets.has, ValueSets.least, Verdict.Verdict, Verdict.accepted, Verdict.ask}
-use Rattle.model.specs.Verdict.{isAccepted}
+use Rattle.model.specs.Kit.{_≡_, refl, sym, ap, ap₂, _∙_, subst, Bool, true, false, _⊎_, inl, inr, List, [], _∷_, _++_, List·Memᴰ, List·Memᴰ·head, List·Memᴰ·tail, List·Memᴰ·not-nil, ℕ, zero, suc, _+_}
+use Rattle.model.specs.Kit.{_-_, _*_, _/_, _%_, _^_, _≤_, _<_, not-suc-le-zero, ℕ-discrete, arith, bitOr, or-lt, T, ltb, eqb, ltb→lt, lt→ltb, eqb-refl, length, take, drop, set, length-set}
+use Rattle.model.specs.Kit.{length-take, length-drop, getD-drop, le-leb, lt-leb, eq-eqb, ne-eqb, eqb-true}
+use Rattle.model.specs.{Lists.all, Lists.any, Lists.at, Lists.both, Lists.either, ValueSets.has, ValueSets.least, Verdict.Verdict, Verdict.accepted, Verdict.ask, Verdict.isAccepted}
 use Rattle.order.specs.Order.{pairsIn, Before, canFollow, settledFirst, settlingOrder, settlesAll, orderVerdict, Settling}
 use Rattle.order.specs.inner.Settled.{SetOf, Befores, Settled, Ordered}
 use Rattle.model.proofs.Lists.{T-of, of-T, not-of, of-not, all-i, all-e, any-cons, among-i, among-e, mem-at, at-mem, at-ext, at-take, at-set, at-set-other}

@@ -1,18 +1,18 @@
 -- The laws of the reordered problem. Assumes nothing.
-use Rattle.model.specs.Kit.{_≡_, refl, sym, ap, ap₂, _∙_, subst, subst₂, Bool, true, false, List, [], _∷_, map, List·Memᴰ, List·Memᴰ·head, List·Memᴰ·cases-cons, Memᴰ·cast}
-use Rattle.model.specs.Kit.{Memᴰ·map, Memᴰ·of-map, _↔_, _⊎_, inl, inr, ⊎-elim, ℕ, zero, suc, _*_, _/_, _%_, _^_, _≤_, _<_, not-suc-le-zero, le-of-suc-le-suc, lt-of-lt-of-le}
-use Rattle.model.specs.Kit.{ℕ-discrete, decLt, arith, T, eqb, ltb, eqb→eq, length, length-map, eq-eqb, ne-eqb, lt-ltb}
-use mathlib.Core.List.{List·Memᴰ·eq-of-singleton}
-use native.Mathlib.Nat.{div-lt-iff-lt-mul}
+use Rattle.model.specs.Kit.{_≡_, refl, sym, ap, ap₂, _∙_, subst, subst₂, Bool, true, false, List, [], _∷_, map, List·Memᴰ, List·Memᴰ·head, List·Memᴰ·cases-cons, Memᴰ·cast, Memᴰ·map, Memᴰ·of-map, _↔_}
+use Rattle.model.specs.Kit.{_⊎_, inl, inr, ⊎-elim, ℕ, zero, suc, _*_, _/_, _%_, _^_, _≤_, _<_, not-suc-le-zero, le-of-suc-le-suc, lt-of-lt-of-le, ℕ-discrete, decLt, arith, T, eqb, ltb, eqb→eq, length}
+use Rattle.model.specs.Kit.{length-map, eq-eqb, ne-eqb, lt-ltb}
 use Rattle.model.specs.Problem.{Problem, Constraint, pair, isPair, pairsOf, pairsAt, within, takes, forbidden, doubled, excluded, respects, assignments, valuesAt, satisfies, isSolution}
 use Rattle.model.specs.{Lists.both, Lists.all, Lists.any, Lists.below, Lists.at, Lists.same, Lists.ascending, ValueSets.has, ValueSets.least, ValueSets.members, Sheet.permutesPairs, Sheet.distinct}
+use mathlib.Core.List.{List·Memᴰ·eq-of-singleton}
+use native.Mathlib.Nat.{div-lt-iff-lt-mul}
 use Rattle.model.specs.inner.WellFormed.{WellFormed, GoodConstraint, GoodSymmetry, Respected}
-use Rattle.order.specs.{Order.Ordering, Reordered.position, Reordered.read, Reordered.write, Reordered.valueOf, Reordered.scopeIn, Reordered.rowIn, Reordered.constraintIn}
-use Rattle.order.specs.Reordered.{renamed, symmetryIn, reordered}
-use Rattle.model.proofs.Lists.{both-i, T-dec, T-of, of-not, T-ext, all-i, all-e, any-i, any-e, keep-i, keep-e, among-i, among-e, map-ext, below-i, below-e, length-below, at-below}
-use Rattle.model.proofs.Lists.{at-map, at-ext, mem-at, at-mem, same-eq, same-refl, Sorted, sorted-keep, sorted-below, sorted-ext, ascending-sorted}
-use Rattle.model.proofs.{Masks.least-at, Masks.least-below, Masks.least-is, Counting.distinct-below, Counting.no-more, Sets.members-e, Assignments.assign-i, Assignments.assign-e}
-use Rattle.model.proofs.Tree.{solution-i, solution-e}
+use Rattle.order.specs.Order.{Ordering}
+use Rattle.order.specs.Reordered.{position, read, write, valueOf, scopeIn, rowIn, constraintIn, renamed, symmetryIn, reordered}
+use Rattle.model.proofs.Lists.{both-i, T-dec, T-of, of-not, T-ext, all-i, all-e, any-i, any-e, keep-i, keep-e, among-i, among-e, map-ext, below-i, below-e, length-below, at-below, at-map, at-ext}
+use Rattle.model.proofs.Lists.{mem-at, at-mem, same-eq, same-refl, Sorted, sorted-keep, sorted-below, sorted-ext, ascending-sorted}
+use Rattle.model.proofs.Masks.{least-at, least-below, least-is}
+use Rattle.model.proofs.{Counting.distinct-below, Counting.no-more, Sets.members-e, Assignments.assign-i, Assignments.assign-e, Tree.solution-i, Tree.solution-e}
 use Rattle.model.proofs.Pairs as P
 use Rattle.model.proofs.Symmetry as S
 use Rattle.model.proofs.Leaders as H

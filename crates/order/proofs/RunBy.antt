@@ -1,17 +1,17 @@
 -- The run of any well-formed problem in any order (specs/RunBy): what it lists, its leaders, chains and counts. Assumes nothing.
-use Rattle.model.specs.Kit.{_≡_, refl, sym, ap, ap₂, _∙_, subst, Bool, true, false, _↔_, List, [], _∷_, map, List·Memᴰ, List·Memᴰ·head, List·Memᴰ·tail, List·Memᴰ·not-nil}
-use Rattle.model.specs.Kit.{Memᴰ·cast, Memᴰ·map, Memᴰ·of-map, ℕ, zero, suc, _≤_, _<_, arith, T, length, take, length-map}
-use mathlib.Core.Logic.{∥∥₁-elim, ∥∥₁-map}
-use mathlib.Core.List.{Sublistᴰ, Sublistᴰ·slnil, Sublistᴰ·cons, Sublistᴰ·cons-cons}
-use lib.Dec.{T-prop}
+use Rattle.model.specs.Kit.{_≡_, refl, sym, ap, ap₂, _∙_, subst, Bool, true, false, _↔_, List, [], _∷_, map, List·Memᴰ, List·Memᴰ·head, List·Memᴰ·tail, List·Memᴰ·not-nil, Memᴰ·cast, Memᴰ·map}
+use Rattle.model.specs.Kit.{Memᴰ·of-map, ℕ, zero, suc, _≤_, _<_, arith, T, length, take, length-map}
 use Rattle.model.specs.{Lists.keep, Lists.below, Lists.at, Lists.earlier, Lists.rowsAscend, Lists.total, Problem.Problem, Problem.pair, Problem.isSolution, Problem.assignments, Problem.withSymmetries}
 use Rattle.model.specs.{Search.nodes, Run.Ending, Run.finished, Run.plansIn, Run.nodesIn, Run.resultOf, Run.settledBy, Run.countsBy, Claims.Leader, Claims.isLeader, Claims.leaders, Claims.Chain}
 use Rattle.model.specs.{Claims.CountsAt, inner.WellFormed.WellFormed, inner.WellFormed.Respected}
-use Rattle.order.specs.{Order.Ordering, Reordered.read, Reordered.write, Reordered.earlierBy, Reordered.renamed, Reordered.symmetryIn, Reordered.reordered, RunBy.resultBy}
-use Rattle.order.specs.RunBy.{leadersBy, placeCounts}
-use Rattle.model.proofs.{Lists.both-l, Lists.T-ext, Lists.keep-i, Lists.keep-e, Lists.sorted-keep, Lists.rowsAscend-of, Lists.mem-at, Assignments.assignments-sorted}
-use Rattle.model.proofs.{Assignments.assign-e, Tree.solution-e, Tree.plans-of-tree, Tree.well-sized, Leaders.sol-drawn, Leaders.leader-e, Leaders.leader-i, More.FewerIn}
-use Rattle.model.proofs.{Demands.same-test, Tally.length-counts, Tally.counts-total, Tally.counts-none, Tally.counts-ext, Tally.settled-few}
+use mathlib.Core.Logic.{∥∥₁-elim, ∥∥₁-map}
+use mathlib.Core.List.{Sublistᴰ, Sublistᴰ·slnil, Sublistᴰ·cons, Sublistᴰ·cons-cons}
+use lib.Dec.{T-prop}
+use Rattle.order.specs.Reordered.{read, write, earlierBy, renamed, symmetryIn, reordered}
+use Rattle.order.specs.{Order.Ordering, RunBy.resultBy, RunBy.leadersBy, RunBy.placeCounts}
+use Rattle.model.proofs.Lists.{both-l, T-ext, keep-i, keep-e, sorted-keep, rowsAscend-of, mem-at}
+use Rattle.model.proofs.{Assignments.assignments-sorted, Assignments.assign-e, Tree.solution-e, Tree.plans-of-tree, Tree.well-sized, Leaders.sol-drawn, Leaders.leader-e, Leaders.leader-i}
+use Rattle.model.proofs.{More.FewerIn, Demands.same-test, Tally.length-counts, Tally.counts-total, Tally.counts-none, Tally.counts-ext, Tally.settled-few}
 use Rattle.order.proofs.Reordered as O
 use Rattle.order.proofs.LeadersBy as L
 use Rattle.model.proofs.More as M

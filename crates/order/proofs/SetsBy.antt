@@ -1,18 +1,18 @@
 -- The sets at a prefix of the reordered problem, written by place number, are the largest in paper 01's words (model's Largest). Assumes nothing.
-use Rattle.model.specs.Kit.{_≡_, refl, sym, ap, ap₂, _∙_, subst, subst₂, Bool, true, false, not, _⊎_, ⊎-elim, List, [], _∷_, _++_, map, List·Memᴰ, List·Memᴰ·head, List·Memᴰ·tail}
-use Rattle.model.specs.Kit.{List·Memᴰ·not-nil, List·Memᴰ·cases-cons, Memᴰ·map, Memᴰ·of-map, ℕ, _/_, _%_, _^_, _≤_, _<_, arith, T, T-not, ltb, eqb, eqb→eq, length, replicate}
-use Rattle.model.specs.Kit.{length-replicate, ltb-true, ltb-false, eq-eqb}
-use mathlib.Core.List.{List·Memᴰ·append-cases, List·Memᴰ·eq-of-singleton}
+use Rattle.model.specs.Kit.{_≡_, refl, sym, ap, ap₂, _∙_, subst, subst₂, Bool, true, false, not, _⊎_, ⊎-elim, List, [], _∷_, _++_, map, List·Memᴰ, List·Memᴰ·head, List·Memᴰ·tail, List·Memᴰ·not-nil}
+use Rattle.model.specs.Kit.{List·Memᴰ·cases-cons, Memᴰ·map, Memᴰ·of-map, ℕ, _/_, _%_, _^_, _≤_, _<_, arith, T, T-not, ltb, eqb, eqb→eq, length, replicate, length-replicate, ltb-true, ltb-false}
+use Rattle.model.specs.Kit.{eq-eqb}
 use Rattle.model.specs.{Lists.both, Lists.any, Lists.keep, Lists.flat, Lists.below, Lists.at, ValueSets.has, ValueSets.members, ValueSets.anyEmpty, Problem.Problem, Problem.Constraint, Problem.pair}
 use Rattle.model.specs.{Problem.assignments, Nogood.Entry, Nogood.equality, Nogood.disequality, Nogood.is, Nogood.obeysFrom, Nogood.obeys, Nogood.filtered, Search.entriesOf, Search.rowWith}
 use Rattle.model.specs.{Search.setsAt, Search.isLive, Claims.nogoodsIn, Claims.Consistent, Claims.Largest, inner.WellFormed.WellFormed, inner.WellFormed.GoodConstraint, inner.WellFormed.GoodSymmetry}
+use mathlib.Core.List.{List·Memᴰ·append-cases, List·Memᴰ·eq-of-singleton}
 use Rattle.model.specs.inner.Pruning.{Sets}
-use Rattle.order.specs.{Order.Ordering, Reordered.position, Reordered.read, Reordered.write, Reordered.valueOf, Reordered.scopeIn, Reordered.rowIn, Reordered.constraintIn}
-use Rattle.order.specs.{Reordered.renamed, Reordered.symmetryIn, Reordered.reordered, RunBy.setsBy, RunBy.isLiveBy}
-use Rattle.model.proofs.Lists.{both-i, both-l, both-r, T-of, stable, not-of, of-not, any-i, any-e, keep-e, flat-e, map-append, map-ext, map-flat-map, below-e, at-ext, at-out}
-use Rattle.model.proofs.{Lists.getD-at, Lists.at-replicate, Lists.ascending-sorted, Lists.map-map, Sets.inside-antisym, Sets.has-at-lt, Sets.member, Sets.empty-i, Sets.empty-e}
-use Rattle.model.proofs.{Sets.members-e, Assignments.assign-i, Assignments.assign-e, Filter.length-filtered, Filter.filtered-sets, Filter.filtered-i, Filter.filtered-e}
-use Rattle.model.proofs.{Prune.Sized, Consistent.live-consistent, Consistent.consistent-inside, Consistent.dead-none, Consistent.dead-empty, Tree.well-sized}
+use Rattle.order.specs.Reordered.{position, read, write, valueOf, scopeIn, rowIn, constraintIn, renamed, symmetryIn, reordered}
+use Rattle.order.specs.{Order.Ordering, RunBy.setsBy, RunBy.isLiveBy}
+use Rattle.model.proofs.{Lists.both-i, Lists.both-l, Lists.both-r, Lists.T-of, Lists.stable, Lists.not-of, Lists.of-not, Lists.any-i, Lists.any-e, Lists.keep-e, Lists.flat-e, Lists.map-append}
+use Rattle.model.proofs.{Lists.map-ext, Lists.map-flat-map, Lists.below-e, Lists.at-ext, Lists.at-out, Lists.getD-at, Lists.at-replicate, Lists.ascending-sorted, Lists.map-map, Sets.inside-antisym}
+use Rattle.model.proofs.{Sets.has-at-lt, Sets.member, Sets.empty-i, Sets.empty-e, Sets.members-e, Assignments.assign-i, Assignments.assign-e, Filter.length-filtered, Filter.filtered-sets}
+use Rattle.model.proofs.{Filter.filtered-i, Filter.filtered-e, Prune.Sized, Consistent.live-consistent, Consistent.consistent-inside, Consistent.dead-none, Consistent.dead-empty, Tree.well-sized}
 use Rattle.order.proofs.Reordered.{row-values, sorted-apart}
 use Rattle.model.proofs.Pairs as P
 use Rattle.order.proofs.Reordered as O

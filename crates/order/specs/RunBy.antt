@@ -1,9 +1,9 @@
 -- A run: what its questions answered, the order in which it settles the variables, and its problem (paper 01; paper 02, #107 and #108). What it answers, lists and
 -- counts, its leaders, and its sets at a prefix by place number. promises' `Demands` says what is claimed of it.
 use Rattle.model.specs.Kit.{Bool, List, map, ℕ, length, take}
-use Rattle.model.specs.{Lists.keep, Lists.below, Lists.at, Problem.Problem, Problem.assignments, Verdict.Verdict, Verdict.reply, Verdict.kept, Sheet.verdictOf, Sheet.problemOf}
-use Rattle.model.specs.{Search.setsAt, Search.isLive, Search.nodes, Run.Ending, Run.plansIn, Run.Result, Run.resultOf, Run.Answer, Run.written, Run.listedPlans, Run.settledBy}
-use Rattle.model.specs.{Run.countsBy, Run.Tally, Run.tallyFor, Claims.isLeader}
+use Rattle.model.specs.Run.{Ending, plansIn, Result, resultOf, Answer, written, listedPlans, settledBy, countsBy, Tally, tallyFor}
+use Rattle.model.specs.{Lists.keep, Lists.below, Lists.at, Problem.Problem, Problem.assignments, Verdict.Verdict, Verdict.reply, Verdict.kept, Sheet.verdictOf, Sheet.problemOf, Search.setsAt}
+use Rattle.model.specs.{Search.isLive, Search.nodes, Claims.isLeader}
 use Rattle.order.specs.Reordered.{read, write, earlierBy, reordered}
 
 -- ---- what a run is given

@@ -1,21 +1,20 @@
 -- The demands, of what `run`, `run_with` and `run_lent` answer, write and count: from their contracts and order's theorems about the definitions. Assumes nothing.
 use Rattle.model.specs.Kit.{_≡_, refl, sym, ap, _∙_, subst, subst₂, _↔_, List, [], _∷_, map, List·Memᴰ, ℕ, _*_, T, length, take, drop}
-use mathlib.Core.List.{Sublistᴰ}
 use Rattle.model.specs.{Lists.at, Lists.below, Lists.total, Lists.earlier, Lists.rowsAscend, Problem.Problem, Problem.isSolution, Problem.assignments, Verdict.accepted, Sheet.verdictOf}
 use Rattle.model.specs.{Sheet.problemOf, Run.ended, Run.refusal, Run.plansIn, Run.nodesIn, Run.listedPlans, Run.tallyAt, Claims.Leader, Claims.isLeader, Claims.leaders, Claims.Chain, Claims.CountsAt}
-use Rattle.model.proofs.{Lists.rowsAscend-take, Lists.rowsAscend-of, Lists.sorted-keep, Lists.keep-i, Lists.keep-e, Assignments.assignments-sorted, Lists.never}
-use Rattle.model.proofs.{Leaders.sol-drawn, Leaders.leader-i, Leaders.leader-e, Chains.chains, Demands.sets-largest}
-use Rattle.order.specs.{Reordered.read, Reordered.earlierBy, RunBy.Input, RunBy.sheetInput, RunBy.placeTally, RunBy.leadersBy, RunBy.answerBy, RunBy.listBy}
-use Rattle.order.specs.{RunBy.talliedBy, inner.Demanded.Demanded, inner.Demanded.Fewer}
-use Rattle.order.proofs.{RunBy.take-map, RunBy.same-counts, Demanded.Sound, Demanded.ran-by}
-use Rattle.order.proofs.Demanded.{sound-sheet, demanded-sheet, fewer-sheet, sheet-run}
+use mathlib.Core.List.{Sublistᴰ}
+use Rattle.model.proofs.Lists.{rowsAscend-take, rowsAscend-of, sorted-keep, keep-i, keep-e, never}
+use Rattle.model.proofs.{Assignments.assignments-sorted, Leaders.sol-drawn, Leaders.leader-i, Leaders.leader-e, Chains.chains, Demands.sets-largest}
+use Rattle.order.specs.RunBy.{Input, sheetInput, placeTally, leadersBy, answerBy, listBy, talliedBy}
+use Rattle.order.specs.{Reordered.read, Reordered.earlierBy, inner.Demanded.Demanded, inner.Demanded.Fewer}
+use Rattle.order.proofs.{RunBy.take-map, RunBy.same-counts, Demanded.Sound, Demanded.ran-by, Demanded.sound-sheet, Demanded.demanded-sheet, Demanded.fewer-sheet, Demanded.sheet-run}
 use Rattle.run_input.specs.Lent.{lentInput}
 use Rattle.run_input.proofs.Lent.{demanded-lent, fewer-lent}
-use Rattle.run_state.specs.{Meaning.tallyIn, Meaning.endingOf, declared.Tally.Tally, declared.Ending.Ending, declared.Ending.the-variants.Finished}
-use Rattle.run_state.specs.declared.Ending.the-variants.{Spent, Full}
+use Rattle.run_state.specs.declared.Ending.the-variants.{Finished, Spent, Full}
+use Rattle.run_state.specs.{Meaning.tallyIn, Meaning.endingOf, declared.Tally.Tally, declared.Ending.Ending}
 use Rattle.run.specs.{Meaning.means, Calls.CallRun, declared.Answer.Answer, declared.Answer.the-variants.Refused, declared.Answer.the-variants.Ended}
-use Rattle.promises.specs.{Demands.ofSheet, Demands.AtEnd, Demands.AtFinish, Demands.Demands, Demands.Tallied, Demands.TallyHeld, Demands.MoreHeld, Demands.Run-demands}
-use Rattle.promises.specs.{Demands.Tally-demands, Demands.More-demands, DemandsLent.ofInput, DemandsLent.Lent-demands, DemandsLent.More-demands-lent}
+use Rattle.promises.specs.Demands.{ofSheet, AtEnd, AtFinish, Demands, Tallied, TallyHeld, MoreHeld, Run-demands, Tally-demands, More-demands}
+use Rattle.promises.specs.DemandsLent.{ofInput, Lent-demands, More-demands-lent}
 use Rattle.model.specs.Run as Run
 
 -- ---- an answer is known by what it means

@@ -1,17 +1,17 @@
 -- Two runs and the merge of their lists (specs/EitherCalls). Assumes nothing.
-use Rattle.model.specs.Kit.{_≡_, refl, sym, ap, ap₂, _∙_, subst, Bool, true, false, _⊎_, inl, inr, _↔_, List, List·Memᴰ, ℕ, _+_, _*_, _%_, _≤_, arith, T, leb, ltb, eqb, length}
-use Rattle.model.specs.Kit.{take, drop, le-leb, eq-eqb}
+use Rattle.model.specs.Kit.{_≡_, refl, sym, ap, ap₂, _∙_, subst, Bool, true, false, _⊎_, inl, inr, _↔_, List, List·Memᴰ, ℕ, _+_, _*_, _%_, _≤_, arith, T, leb, ltb, eqb, length, take, drop, le-leb}
+use Rattle.model.specs.Kit.{eq-eqb}
+use Rattle.model.specs.Room.{wrote, refusal, outcomeOf, roomAfter, rowsIn}
+use Rattle.model.specs.{Lists.both, Lists.all, Lists.flat, Sheet.problemOf, Sheet.verdictOf, Verdict.Verdict, Verdict.accepted, Verdict.ask, Verdict.isAccepted, Run.written, Claims.Leader}
 use native.Mathlib.Nat.{mul-mod-left}
 use lib.Seq.{take-at, drop-at}
-use Rattle.model.specs.{Lists.both, Lists.all, Lists.flat, Sheet.problemOf, Sheet.verdictOf, Verdict.Verdict, Verdict.accepted, Verdict.ask, Verdict.isAccepted, Room.wrote}
-use Rattle.model.specs.{Room.refusal, Room.outcomeOf, Room.roomAfter, Room.rowsIn, Run.written, Claims.Leader}
-use Rattle.model.proofs.{Lists.of-T, Accepted.asked, Accepted.is-accepted, Demands.read-back, Room.Wide, Room.length-flat, Room.length-listed, Room.rows-back, Room.rows-wide, Lists.never}
+use Rattle.model.proofs.{Lists.of-T, Lists.never, Accepted.asked, Accepted.is-accepted, Demands.read-back, Room.Wide, Room.length-flat, Room.length-listed, Room.rows-back, Room.rows-wide}
 use Rattle.order.specs.{Order.settlingOrder, Order.settlesAll, Order.orderVerdict, Order.Ordering, Reordered.earlierBy, RunBy.resultBy, RunBy.leadersBy}
 use Rattle.order.proofs.Demanded.{RanBy, ran-by}
 use Rattle.block.specs.Block.{blockLent}
 use Rattle.run_input.specs.Lent.{verdictLent, problemWith, orderLent, lentInput}
-use Rattle.list_merge.specs.{Merge.ascends, Merge.mergedBy, Merge.merged, Merge.wholeLists, Merge.orderedVerdict, Merge.mergeVerdict, Meaning.means, Calls.CallMerge}
-use Rattle.list_merge.specs.{declared.Answer.Answer, declared.Answer.the-variants.Written, declared.Answer.the-variants.Refused}
+use Rattle.list_merge.specs.Merge.{ascends, mergedBy, merged, wholeLists, orderedVerdict, mergeVerdict}
+use Rattle.list_merge.specs.{Meaning.means, Calls.CallMerge, declared.Answer.Answer, declared.Answer.the-variants.Written, declared.Answer.the-variants.Refused}
 use Rattle.list_merge.proofs.{Asking.union-length, Claimed.holds-by, Claimed.ascends-by}
 use Rattle.run_state.specs.{declared.Tally.Tally, Meaning.endingOf, declared.Ending.Ending, declared.Ending.the-variants.Finished}
 use Rattle.run.specs.{Calls.CallLent, declared.Answer.the-variants.Ended}

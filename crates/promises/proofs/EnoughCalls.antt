@@ -1,14 +1,13 @@
 -- What a caller of `at_least` holds (paper 02, #101). Assumes nothing.
 use Rattle.model.specs.Kit.{_≡_, refl, sym, ap, _∙_, subst, List, ℕ, suc, _≤_, _<_, mul-le-mul-right, decLt, arith, length}
 use Rattle.model.specs.{Lists.keep, Problem.Problem, Sheet.problemOf, Search.nodes, Search.isPlan, Run.plansIn, Claims.plansAmong}
-use Rattle.model.proofs.Room.{length-listed}
-use Rattle.model.proofs.Lists.{never}
+use Rattle.model.proofs.{Room.length-listed, Lists.never}
 use Rattle.order.specs.RunBy.{leadersBy}
 use Rattle.order.proofs.Demanded.{ran-by}
 use Rattle.run_input.specs.Lent.{problemWith, orderLent, problemLent, lentInput, listLent}
 use Rattle.run_enough.specs.{AtLeast.enough, AtLeast.tooFew, AtLeast.unknown, Lent.enoughLent, inner.LentClaims.AgreesLent, inner.LentClaims.FiguresLent}
-use Rattle.run_enough.proofs.{AtLeast.among-all, AtLeast.among-most, LentEnough.tree-leaders, LentEnough.enough-refused-lent, LentEnough.enough-none-lent}
-use Rattle.run_enough.proofs.LentEnough.{enough-agrees-lent, enough-figures-lent, enough-more-lent}
+use Rattle.run_enough.proofs.AtLeast.{among-all, among-most}
+use Rattle.run_enough.proofs.LentEnough.{tree-leaders, enough-refused-lent, enough-none-lent, enough-agrees-lent, enough-figures-lent, enough-more-lent}
 use Rattle.run_state.specs.{declared.Tally.Tally, Meaning.endingOf, declared.Ending.Ending}
 use Rattle.run.specs.{Meaning.means, Meaning.saidEnough, Calls.CallLent, Calls.CallEnough, declared.Answer.Answer, declared.Answer.the-variants.Ended, declared.Enough.Enough}
 use Rattle.promises.specs.EnoughCalls.{Agrees, Roomy, EnoughHeld, Enough-calls}

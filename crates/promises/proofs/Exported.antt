@@ -1,10 +1,9 @@
 -- What callers of planner_question and planner_run hold (specs/Exported), from the contracts and `demands`. Assumes nothing.
-use Rattle.model.specs.Kit.{_≡_, refl, sym, ap, _∙_, subst, Bool, true, false, not, List, [], _∷_, ℕ, zero, suc, _+_, _*_, _^_, _<_, arith, leb, ltb, eqb, length, eq-eqb, eqb-true}
-use Rattle.model.specs.Kit.{eqb-false}
-use Rattle.model.specs.{Lists.choose, Lists.both, Lists.all, Lists.at, Lists.below, Lists.ascending, Lists.rowsAscend, Bytes.fourBytes, Problem.Problem, Problem.respects}
-use Rattle.model.specs.{Verdict.Verdict, Verdict.accepted, Verdict.refused, Verdict.ask, Verdict.reply, Verdict.kept, Sheet.Header, Sheet.word, Sheet.headerOf, Sheet.problemOf}
-use Rattle.model.specs.Sheet.{scopeAt, rowsAt, afterAt, headerVerdict, setsVerdict, constraintVerdict, constraintsVerdict, permutesPairs, offsetsFit, tablesFit, formVerdict}
-use Rattle.model.specs.{Sheet.symmetriesVerdict, Sheet.verdictOf, Run.refusal, Run.ended, Run.finished, Run.spent, Run.full, Run.answerOf, Run.written, Run.listOf}
+use Rattle.model.specs.Kit.{_≡_, refl, sym, ap, _∙_, subst, Bool, true, false, not, List, [], _∷_, ℕ, zero, suc, _+_, _*_, _^_, _<_, arith, leb, ltb, eqb, length, eq-eqb, eqb-true, eqb-false}
+use Rattle.model.specs.Sheet.{Header, word, headerOf, problemOf, scopeAt, rowsAt, afterAt, headerVerdict, setsVerdict, constraintVerdict, constraintsVerdict, permutesPairs, offsetsFit, tablesFit}
+use Rattle.model.specs.Sheet.{formVerdict, symmetriesVerdict, verdictOf}
+use Rattle.model.specs.{Lists.choose, Lists.both, Lists.all, Lists.at, Lists.below, Lists.ascending, Lists.rowsAscend, Bytes.fourBytes, Problem.Problem, Problem.respects, Verdict.Verdict}
+use Rattle.model.specs.{Verdict.accepted, Verdict.refused, Verdict.ask, Verdict.reply, Verdict.kept, Run.refusal, Run.ended, Run.finished, Run.spent, Run.full, Run.answerOf, Run.written, Run.listOf}
 use Rattle.run_state.specs.{Meaning.endingOf, declared.Ending.Ending, declared.Ending.the-variants.Finished, declared.Ending.the-variants.Spent, declared.Ending.the-variants.Full}
 use Rattle.run.specs.{Calls.CallRun, declared.Answer.Answer, declared.Answer.the-variants.Ended}
 use Rattle.promises.proofs.Demands.{demands}

@@ -1,27 +1,26 @@
 -- What callers of planner_run_lent, planner_at_least and planner_closed hold (specs/ExportedLent), from the contracts and the theorems about the calls inside.
 -- Assumes nothing.
-use Rattle.model.specs.Kit.{_≡_, refl, sym, ap, _∙_, subst, subst₂, Bool, true, false, List, [], _∷_, _++_, ℕ, zero, suc, _+_, _*_, _%_, _<_, not-suc-le-zero, arith, leb, ltb, eqb}
-use Rattle.model.specs.Kit.{length, eq-eqb, ne-eqb, eqb-true, eqb-false}
+use Rattle.model.specs.Kit.{_≡_, refl, sym, ap, _∙_, subst, subst₂, Bool, true, false, List, [], _∷_, _++_, ℕ, zero, suc, _+_, _*_, _%_, _<_, not-suc-le-zero, arith, leb, ltb, eqb, length, eq-eqb}
+use Rattle.model.specs.Kit.{ne-eqb, eqb-true, eqb-false}
+use Rattle.model.specs.{Lists.choose, Lists.all, Lists.both, Lists.at, Bytes.fourBytes, Problem.Problem, Problem.respects, Verdict.Verdict, Verdict.accepted, Verdict.refused, Verdict.ask}
+use Rattle.model.specs.{Sheet.problemOf, Sheet.permutesPairs, Sheet.symmetriesVerdict, Sheet.verdictOf, Run.ended, Run.finished, Run.spent, Run.full, Run.nodesIn}
 use lib.Seq.{getD-append-add}
-use Rattle.model.specs.{Lists.choose, Lists.all, Lists.both, Lists.at, Bytes.fourBytes, Problem.Problem, Problem.respects, Verdict.Verdict, Verdict.accepted, Verdict.refused}
-use Rattle.model.specs.{Verdict.ask, Sheet.problemOf, Sheet.permutesPairs, Sheet.symmetriesVerdict, Sheet.verdictOf, Run.ended, Run.finished, Run.spent, Run.full, Run.nodesIn}
 use Rattle.order.specs.{Order.settlesAll, Order.orderVerdict, RunBy.placeCounts, RunBy.placeTally, RunBy.talliedBy}
 use Rattle.block.specs.Block.{blockTables, isBlock, blockVerdict, blockLent}
 use Rattle.sheet.specs.Meaning.{andThen}
 use Rattle.run_input.specs.Lent.{verdictLent, problemWith, orderLent, answerLent, listLent}
 use Rattle.run_input.proofs.Lent.{demanded-lent}
-use Rattle.run_state.specs.{Meaning.tallyIn, declared.Tally.Tally, declared.Ending.Ending, declared.Ending.the-variants.Finished, declared.Ending.the-variants.Spent}
-use Rattle.run_state.specs.declared.Ending.the-variants.{Full}
+use Rattle.run_state.specs.{Meaning.tallyIn, declared.Tally.Tally, declared.Ending.Ending, declared.Ending.the-variants.Finished, declared.Ending.the-variants.Spent, declared.Ending.the-variants.Full}
 use Rattle.run_enough.specs.{AtLeast.enough, AtLeast.tooFew, AtLeast.unknown, Lent.EnoughAnswer, Lent.enoughLent}
 use Rattle.families_closed.specs.{Open.none, Open.two, Lent.Told, Lent.refusal, Lent.answered, Lent.closedLent, Lent.means as closedMeans}
 use Rattle.families_closed.proofs.Calls.{closed-calls}
 use Rattle.run.specs.{Meaning.saidEnough, declared.Enough.Enough, Calls.CallLent, Calls.noTally, declared.Answer.the-variants.Ended}
-use Rattle.promises.proofs.{EnoughCalls.enough-calls, Demands.demands-lent, Exported.question-code, Exported.first-of, Exported.second-of, Exported.third-of}
-use Rattle.promises.proofs.Exported.{endingAs, ending-as, is-finish}
+use Rattle.promises.proofs.Exported.{question-code, first-of, second-of, third-of, endingAs, ending-as, is-finish}
+use Rattle.promises.proofs.{EnoughCalls.enough-calls, Demands.demands-lent}
 use Rattle.wire.specs.Wire.{codeOf, wrongLength, threeNumbers, fourAt}
 use Rattle.export_run.specs.Run.{questionCode, endingBytes, answerCode}
-use Rattle.promises.specs.{Exported.Tells, ExportedLent.TellsCounts, ExportedLent.RunBytesHeld, ExportedLent.Run-bytes, ExportedLent.SaidTold, ExportedLent.Enough-bytes}
-use Rattle.promises.specs.ExportedLent.{ClosedTold, Closed-bytes}
+use Rattle.promises.specs.Exported.{Tells}
+use Rattle.promises.specs.ExportedLent.{TellsCounts, RunBytesHeld, Run-bytes, SaidTold, Enough-bytes, ClosedTold, Closed-bytes}
 use Rattle.export_counts.specs.Tallied.{numbersOf}
 use Rattle.export_lent.specs.{Lent.placedBytes, Lent.lentRunCode, Lent.lentRunList, Lent.lentRunAnswer, Calls.CallRunBytes}
 use Rattle.export_enough.specs.Enough.{saidCode, saidBytes, enoughCode, enoughBytes}

@@ -1,18 +1,17 @@
 -- What callers hold of families (specs/FamilyCalls). Assumes nothing.
 use Rattle.model.specs.Kit.{_≡_, refl, sym, ap, _∙_, subst, inr, List, [], ℕ, _*_, length}
+use Rattle.model.specs.{Verdict.Verdict, Verdict.accepted, Verdict.refused, Verdict.reply, Sheet.problemOf, Run.Ending, Run.finished, Run.spent, Run.full, Run.ended, Run.listedPlans}
 use Rattle.run_state.specs.{Meaning.endingOf, declared.Tally.Tally, declared.Ending.the-variants.Finished as Done}
-use Rattle.model.specs.{Verdict.Verdict, Verdict.accepted, Verdict.refused, Verdict.reply, Sheet.problemOf, Run.Ending, Run.finished, Run.spent, Run.full, Run.ended}
-use Rattle.model.specs.Run.{listedPlans}
 use Rattle.model.proofs.Lists.{never}
 use Rattle.run_input.specs.Lent.{verdictLent, problemWith}
 use Rattle.families.specs.Families.{FamilyCount, familiesOf}
-use Rattle.families_figure.specs.{Figure.Figure, Figure.number, Figure.dash, Figure.figureFor, Figure.bareSheet, Figure.familiesLent, inner.FigureClaims.ranWith, inner.FigureClaims.ranBare}
-use Rattle.families_figure.specs.{inner.FigureClaims.Finished, FigureClaims.OneListedEach}
+use Rattle.families_figure.specs.Figure.{Figure, number, dash, figureFor, bareSheet, familiesLent}
+use Rattle.families_figure.specs.{inner.FigureClaims.ranWith, inner.FigureClaims.ranBare, inner.FigureClaims.Finished, FigureClaims.OneListedEach}
 use Rattle.families_figure.proofs.FamiliesLent.{families-lent, bare-run, one-of-each-lent, block-alone-one-each}
 use Rattle.run.specs.{Calls.CallLent, declared.Answer.the-variants.Ended}
 use Rattle.promises.proofs.Demands.{is-ended, is-finished}
-use Rattle.families_count.specs.{Told.refusal, Told.told, Told.countedLent, Told.means, declared.Answer.Answer, declared.Answer.the-variants.Number}
-use Rattle.families_count.specs.declared.Answer.the-variants.{Dash, Refused}
+use Rattle.families_count.specs.Told.{refusal, told, countedLent, means}
+use Rattle.families_count.specs.{declared.Answer.Answer, declared.Answer.the-variants.Number, declared.Answer.the-variants.Dash, declared.Answer.the-variants.Refused}
 use Rattle.promises.specs.FamilyCalls.{Families-calls, One-of-each-calls, Block-calls}
 use Rattle.run.specs.Meaning as M
 use Rattle.run.specs.declared.Answer as SA

@@ -1,13 +1,13 @@
 -- The heads of finished ranges between cuts in order join (specs/JoinedClaims). Assumes nothing.
-use Rattle.model.specs.Kit.{_≡_, refl, sym, ap, _∙_, subst, Bool, true, false, _⊎_, inl, inr, List, [], _∷_, map, List·Memᴰ, List·Memᴰ·head, List·Memᴰ·tail, List·Memᴰ·not-nil}
-use Rattle.model.specs.Kit.{Memᴰ·map, ℕ, zero, suc, _≤_, _<_, arith, T, length, take}
+use Rattle.model.specs.Kit.{_≡_, refl, sym, ap, _∙_, subst, Bool, true, false, _⊎_, inl, inr, List, [], _∷_, map, List·Memᴰ, List·Memᴰ·head, List·Memᴰ·tail, List·Memᴰ·not-nil, Memᴰ·map, ℕ, zero, suc}
+use Rattle.model.specs.Kit.{_≤_, _<_, arith, T, length, take}
 use Rattle.model.specs.{Lists.choose, Verdict.Verdict, Verdict.accepted, Run.finished, Run.spent, Run.full, Run.Answer, Run.refusal, Run.answered, Run.ended}
 use Rattle.model.proofs.Lists.{place-of, mem-getD}
 use Rattle.run_cut.specs.{Parts.after, Parts.lastOf, Between.Cuts}
 use Rattle.run_cut.proofs.Parts.{after-e, after-i, after-total}
 use Rattle.run_ranges.specs.Claims.{Part, Done}
-use Rattle.run_join.specs.{Join.fromAt, Join.reachAt, Join.headsIn, Join.joinVerdict, Join.standPath, Join.beginOr, Join.stands, Join.joined, Join.nearest, Calls.answerFor}
-use Rattle.run_join.specs.declared.Answer.the-variants.{Joined, Missing}
+use Rattle.run_join.specs.Join.{fromAt, reachAt, headsIn, joinVerdict, standPath, beginOr, stands, joined, nearest}
+use Rattle.run_join.specs.{Calls.answerFor, declared.Answer.the-variants.Joined, declared.Answer.the-variants.Missing}
 use Rattle.promises.specs.{JoinedHeads.HeadOf, JoinedHeads.partAt, JoinedClaims.MissingHeld, JoinedClaims.rangesOf, JoinedClaims.Cuts-joined}
 use Rattle.promises.proofs.{JoinedHeads.many-held, JoinedHeads.heads-held, JoinedTaken.finished-reaches, JoinedStuck.missing-held, JoinedLays.laid}
 use Rattle.run_ranges.proofs.Joined.{done-goes}

@@ -2,8 +2,8 @@
 use Rattle.model.specs.Kit.{_≡_, refl, sym, ap, _∙_, subst, List, [], _∷_, map, List·Memᴰ, List·Memᴰ·head, List·Memᴰ·tail, List·Memᴰ·not-nil, ℕ, _<_, arith}
 use Rattle.model.specs.{Bytes.fourBytes, Lists.at, Lists.tabulate, Lists.total, Run.countsBy, Run.tallyAt, Examples.sheetA, Examples.Each, Verdict.Verdict, Verdict.accepted}
 use Rattle.model.proofs.{Examples.opened, Lists.at-tabulate, Lists.never}
-use Rattle.order.specs.{Order.pairsIn, Order.forerunners, Order.canFollow, Order.settledFirst, Order.settlingOrder, Order.settlesAll, Order.orderVerdict, Reordered.position}
-use Rattle.order.specs.Reordered.{read, write, valueOf, scopeIn, rowIn, renamed, symmetryIn}
+use Rattle.order.specs.Order.{pairsIn, forerunners, canFollow, settledFirst, settlingOrder, settlesAll, orderVerdict}
+use Rattle.order.specs.Reordered.{position, read, write, valueOf, scopeIn, rowIn, renamed, symmetryIn}
 use Rattle.block.specs.Block.{tablesLent, blockLent}
 use Rattle.run_input.specs.Lent.{verdictLent}
 use Rattle.run_cut.specs.{Parts.after, Parts.lastOf, Between.nodesBetween}
@@ -13,8 +13,8 @@ use Rattle.export_counts.specs.Tallied.{numbersOf}
 use Rattle.export_parts.specs.Head.{digestFrom, digest, nameBytes, pathBytes, headOf}
 use Rattle.run_join.specs.Join.{pathAt, wholeHeads, pathShaped, headShaped, alike, joinVerdict, countOf, comes, mayTake, bestOf, stepOf, takenFrom, taken, standAfter, nearestOf}
 use Rattle.run_join.specs.{Calls.answerFor, Calls.figureFor, Calls.CallJoin, declared.Answer.the-variants.Joined, declared.Joining.Joining}
-use Rattle.promises.specs.{JoinedHeads.takenParts, JoinedHeads.partAt, JoinedClaims.JoinedHeld, JoinedClaims.rangesOf, JoinedClaims.CutHeld, JoinedExamples.partA}
-use Rattle.promises.specs.JoinedExamples.{cutA, spentA, cutsA, headsA, joiningA, testsJoined, HeldA}
+use Rattle.promises.specs.JoinedExamples.{partA, cutA, spentA, cutsA, headsA, joiningA, testsJoined, HeldA}
+use Rattle.promises.specs.{JoinedHeads.takenParts, JoinedHeads.partAt, JoinedClaims.JoinedHeld, JoinedClaims.rangesOf, JoinedClaims.CutHeld}
 use Rattle.promises.proofs.{JoinedHeads.heads-held, JoinedHeld.joined-held, JoinedCut.cuts-joined}
 
 -- every definition of parts and heads that computes

@@ -1,9 +1,9 @@
 -- The bytes of a head read back are what its call said. Assumes nothing.
-use Rattle.model.specs.Kit.{_≡_, refl, sym, ap, _∙_, subst, List, [], _∷_, _++_, map, List·Memᴰ, List·Memᴰ·head, List·Memᴰ·tail, ℕ, zero, suc, _+_, _*_, _%_, _<_, arith, length}
-use Rattle.model.specs.Kit.{take, getD, length-append, length-take}
+use Rattle.model.specs.Kit.{_≡_, refl, sym, ap, _∙_, subst, List, [], _∷_, _++_, map, List·Memᴰ, List·Memᴰ·head, List·Memᴰ·tail, ℕ, zero, suc, _+_, _*_, _%_, _<_, arith, length, take, getD}
+use Rattle.model.specs.Kit.{length-append, length-take}
+use Rattle.model.specs.Run.{Ending, finished, spent, full, plansIn, nodesIn, search, Answer, ended, Tally, settledBy}
+use Rattle.model.specs.{Lists.at, Lists.flat, Lists.tabulate, Bytes.fourBytes, Verdict.Verdict, Verdict.accepted, Verdict.reply}
 use lib.Seq.{getD-append-add}
-use Rattle.model.specs.{Lists.at, Lists.flat, Lists.tabulate, Bytes.fourBytes, Verdict.Verdict, Verdict.accepted, Verdict.reply, Run.Ending, Run.finished, Run.spent, Run.full}
-use Rattle.model.specs.Run.{plansIn, nodesIn, search, Answer, ended, Tally, settledBy}
 use Rattle.model.proofs.{Lists.at-append, Lists.at-tabulate, Lists.at-take, Lists.at-ext, Lists.length-tabulate, Lists.mem-getD, Tally.length-counts}
 use Rattle.wire.specs.Wire.{threeNumbers}
 use Rattle.run_input.specs.Lent.{verdictLent, orderLent, problemLent}

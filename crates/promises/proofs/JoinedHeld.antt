@@ -1,8 +1,7 @@
 -- What the holder of joined heads has (specs/JoinedClaims). Assumes nothing.
-use Rattle.model.specs.Kit.{_≡_, refl, sym, ap, ap₂, _∙_, subst, true, _↔_, List, [], _∷_, map, List·Memᴰ, List·Memᴰ·head, List·Memᴰ·tail, ℕ, _+_, _*_, _≤_, _<_, arith, T, length}
-use Rattle.model.specs.Kit.{replicate, length-replicate}
-use Rattle.model.specs.{Lists.at, Lists.total, Lists.rowsAscend, Problem.isSolution, Sheet.problemOf, Verdict.Verdict, Verdict.accepted, Run.finished, Run.ended, Run.Tally}
-use Rattle.model.specs.Claims.{Leader}
+use Rattle.model.specs.Kit.{_≡_, refl, sym, ap, ap₂, _∙_, subst, true, _↔_, List, [], _∷_, map, List·Memᴰ, List·Memᴰ·head, List·Memᴰ·tail, ℕ, _+_, _*_, _≤_, _<_, arith, T, length, replicate}
+use Rattle.model.specs.Kit.{length-replicate}
+use Rattle.model.specs.{Lists.at, Lists.total, Lists.rowsAscend, Problem.isSolution, Sheet.problemOf, Verdict.Verdict, Verdict.accepted, Run.finished, Run.ended, Run.Tally, Claims.Leader}
 use Rattle.model.proofs.Room.{length-listed}
 use Rattle.order.specs.Reordered.{read, earlierBy}
 use Rattle.run_input.specs.Lent.{verdictLent, problemWith, orderLent, problemLent, answerLent, listLent, tallyLent}
@@ -10,10 +9,10 @@ use Rattle.run_input.proofs.Lent.{demanded-lent}
 use Rattle.run_ranges.specs.{Ranges.plansSaid, Ranges.nodesSaid, Claims.Part, Claims.Chain, Claims.allPlans, Claims.sumPlans, Claims.sumNodes, Claims.sumCounts, Claims.Together}
 use Rattle.run_ranges.proofs.Joined.{joined-run}
 use Rattle.run_join.specs.{Join.fourAt, Join.headsIn, Join.joinVerdict, Join.taken, Join.joined, Join.plansOf, Join.nodesOf, Join.countOf, Calls.figureFor}
-use Rattle.promises.specs.{JoinedHeads.cutTwelve, JoinedHeads.takenParts, JoinedClaims.Twelve-nodes, JoinedClaims.Twelve-values, JoinedClaims.Head-says}
-use Rattle.promises.specs.JoinedClaims.{Heads-say, RunHeld, DemandsHeld, Joined-held}
-use Rattle.promises.proofs.{JoinedTwelve.small-lent, JoinedTwelve.twelve-between, JoinedTwelve.call-twelve, JoinedHeads.own-head, JoinedHeads.length-bytes}
-use Rattle.promises.proofs.{JoinedHeads.heads-held, JoinedTaken.taken-inside, JoinedTaken.taken-chain, JoinedStuck.said-joined, JoinedStuck.joined-stands}
+use Rattle.promises.specs.JoinedHeads.{cutTwelve, takenParts}
+use Rattle.promises.specs.JoinedClaims.{Twelve-nodes, Twelve-values, Head-says, Heads-say, RunHeld, DemandsHeld, Joined-held}
+use Rattle.promises.proofs.{JoinedTwelve.small-lent, JoinedTwelve.twelve-between, JoinedTwelve.call-twelve, JoinedHeads.own-head, JoinedHeads.length-bytes, JoinedHeads.heads-held}
+use Rattle.promises.proofs.{JoinedTaken.taken-inside, JoinedTaken.taken-chain, JoinedStuck.said-joined, JoinedStuck.joined-stands}
 use Rattle.model.specs.Claims as Reads
 
 pub twelve-nodes : Twelve-nodes

@@ -1,8 +1,8 @@
 -- A spent part is a finished part of the range up to its last node, a full part is not (specs/JoinedClaims). Assumes nothing.
-use Rattle.model.specs.Kit.{_≡_, refl, sym, ap, ap₂, _∙_, subst, Bool, true, false, List, [], _∷_, append-nil, ℕ, suc, _+_, _*_, _≤_, arith, ltb, length, take, length-take}
-use Rattle.model.specs.Kit.{take-all, ltb-true, ltb-false}
-use Rattle.model.specs.{Lists.at, Lists.flat, Lists.keep, Lists.total, Problem.Problem, Search.isPlan, Sheet.problemOf, Run.Ending, Run.finished, Run.full, Run.plansIn, Run.search}
-use Rattle.model.specs.Run.{Answer, ended, listedPlans}
+use Rattle.model.specs.Kit.{_≡_, refl, sym, ap, ap₂, _∙_, subst, Bool, true, false, List, [], _∷_, append-nil, ℕ, suc, _+_, _*_, _≤_, arith, ltb, length, take, length-take, take-all, ltb-true}
+use Rattle.model.specs.Kit.{ltb-false}
+use Rattle.model.specs.Run.{Ending, finished, full, plansIn, search, Answer, ended, listedPlans}
+use Rattle.model.specs.{Lists.at, Lists.flat, Lists.keep, Lists.total, Problem.Problem, Search.isPlan, Sheet.problemOf}
 use Rattle.model.proofs.Runs.{Ended, Walk, walk}
 use Rattle.run_cut.specs.{Between.nodesBetween, Parts.lastOf}
 use Rattle.run_input.specs.Lent.{problemLent}

@@ -1,18 +1,16 @@
 -- Where `join` answers missing, no head goes on, and where it answers joined the heads taken come to the last path (specs/JoinedClaims): they reach further and further,
 -- so there are no more of them than heads. Assumes nothing.
-use Rattle.model.specs.Kit.{_≡_, refl, sym, ap, ap₂, _∙_, subst, _⊎_, inl, inr, Bool, true, false, List, [], _∷_, ℕ, zero, suc, _≤_, _<_, arith, T, ltb, length, ltb-true}
-use Rattle.model.specs.Kit.{ltb-false}
+use Rattle.model.specs.Kit.{_≡_, refl, sym, ap, ap₂, _∙_, subst, _⊎_, inl, inr, Bool, true, false, List, [], _∷_, ℕ, zero, suc, _≤_, _<_, arith, T, ltb, length, ltb-true, ltb-false}
 use Rattle.model.specs.{Lists.both, Lists.choose, Lists.same, Verdict.Verdict, Verdict.accepted, Verdict.refused}
 use Rattle.model.proofs.Lists.{T-of, of-T, of-not, both-i, both-r, same-eq, same-refl, never}
 use Rattle.run_cut.specs.Parts.{after}
 use Rattle.run_cut.proofs.Parts.{after-trans, after-not}
-use Rattle.run_join.specs.Join.{fromAt, reachAt, headsIn, joinVerdict, goesOn, comes, leads, mayTake, standPath, reachOr, bestOf, stepOf, takenFrom, taken, standAfter, stands}
-use Rattle.run_join.specs.{Join.joined, Join.nearer, Join.nearestOf, Join.beginOr, Join.nearest, Calls.answerFor, declared.Answer.the-variants.Joined}
-use Rattle.run_join.specs.declared.Answer.the-variants.{Missing}
+use Rattle.run_join.specs.Join.{fromAt, reachAt, headsIn, joinVerdict, goesOn, comes, leads, mayTake, standPath, reachOr, bestOf, stepOf, takenFrom, taken, standAfter, stands, joined, nearer}
+use Rattle.run_join.specs.Join.{nearestOf, beginOr, nearest}
+use Rattle.run_join.specs.{Calls.answerFor, declared.Answer.the-variants.Joined, declared.Answer.the-variants.Missing}
 use Rattle.run_join.proofs.{Fewer.further, Fewer.fewer, Fewer.further-few, Leads.Next, Leads.comes-end, Leads.comes-next, Leads.comes-all, Leads.comes-out}
 use Rattle.run_ranges.specs.Claims.{Chain}
-use Rattle.promises.specs.{JoinedHeads.takenParts, JoinedClaims.HeadChain, JoinedClaims.Joined-exactly, JoinedClaims.MissingHeld, JoinedClaims.Missing-held}
-use Rattle.promises.specs.JoinedClaims.{Missing-chain}
+use Rattle.promises.specs.{JoinedHeads.takenParts, JoinedClaims.HeadChain, JoinedClaims.Joined-exactly, JoinedClaims.MissingHeld, JoinedClaims.Missing-held, JoinedClaims.Missing-chain}
 use Rattle.promises.proofs.JoinedTaken.{betters, step-goes, taken-chain}
 
 -- ---- one stands where no head goes on
@@ -194,8 +192,7 @@ missing-held l r call stand near is =
     s = standPath l (stands l)
 
     before : joined l ≡ false → s ≡ 255 ∷ [] → ⊥
-    before j e =
-        of-not (joined l) j (T-of (joined l) (chain-joined l (taken l) (subst (HeadChain l [] (taken l)) e (taken-heads l (headsIn l) 0))))
+    before j e = of-not (joined l) j (T-of (joined l) (chain-joined l (taken l) (subst (HeadChain l [] (taken l)) e (taken-heads l (headsIn l) 0))))
 
     none : joined l ≡ false → (s ≡ 255 ∷ []) ⊎ (bestOf l s (headsIn l) ≡ 0) → (k : ℕ) → k < headsIn l → fromAt l k ≡ s → T (after s (reachAt l k)) → ⊥
     none j (inl e) k h f t = before j e

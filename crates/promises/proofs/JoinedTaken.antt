@@ -1,16 +1,15 @@
 -- The heads that `join` takes are parts one behind the other. Assumes nothing.
-use Rattle.model.specs.Kit.{_≡_, refl, sym, ap, _∙_, subst, Bool, true, false, _⊎_, inl, inr, List, [], _∷_, map, List·Memᴰ, List·Memᴰ·head, List·Memᴰ·tail, List·Memᴰ·not-nil, ℕ}
-use Rattle.model.specs.Kit.{zero, suc, _≤_, _<_, arith, T, leb, length, take, length-take, take-all, leb-true}
-use Rattle.model.specs.{Lists.all, Lists.below, Lists.both, Lists.choose, Lists.same, Problem.Problem, Verdict.Verdict, Verdict.accepted, Verdict.ask, Search.nodes, Run.Ending}
-use Rattle.model.specs.Run.{finished, spent, full, Answer, ended}
+use Rattle.model.specs.Kit.{_≡_, refl, sym, ap, _∙_, subst, Bool, true, false, _⊎_, inl, inr, List, [], _∷_, map, List·Memᴰ, List·Memᴰ·head, List·Memᴰ·tail, List·Memᴰ·not-nil, ℕ, zero, suc, _≤_, _<_}
+use Rattle.model.specs.Kit.{arith, T, leb, length, take, length-take, take-all, leb-true}
+use Rattle.model.specs.Run.{Ending, finished, spent, full, Answer, ended}
+use Rattle.model.specs.{Lists.all, Lists.below, Lists.both, Lists.choose, Lists.same, Problem.Problem, Verdict.Verdict, Verdict.accepted, Verdict.ask, Search.nodes}
 use Rattle.model.proofs.Lists.{T-of, keep-e, same-eq, both-second, never}
 use Rattle.run_cut.specs.{Parts.after, Parts.lastOf, Between.nodesBetween}
 use Rattle.run_cut.proofs.{Parts.after-trans, Parts.after-asym, Parts.after-not, Resume.node-values, Resume.last-in, Resume.taken}
 use Rattle.run_input.specs.Lent.{verdictLent, problemLent}
 use Rattle.run_ranges.specs.{Ranges.nodesSaid, Ranges.madeBy, Ranges.lastPart, Claims.Part, Claims.CallRange, Claims.Goes, Claims.reachedFor, Claims.reachedBy, Claims.Chain}
 use Rattle.run_ranges.proofs.Between.{between, between-not}
-use Rattle.run_join.specs.Join.{pathAt, kindAt, fromAt, reachAt, headsIn, headShaped, alike, wholeHeads, joinVerdict, standPath, mayTake, reachOr, bestOf, stepOf, takenFrom}
-use Rattle.run_join.specs.Join.{standAfter}
+use Rattle.run_join.specs.Join.{pathAt, kindAt, fromAt, reachAt, headsIn, headShaped, alike, wholeHeads, joinVerdict, standPath, mayTake, reachOr, bestOf, stepOf, takenFrom, standAfter}
 use Rattle.run_join.proofs.{Orders.each-below, Orders.both-first, Questions.place-end, Questions.place-last}
 use Rattle.promises.specs.JoinedHeads.{kindSaid, HeadOf, cutTwelve, HeldHeads}
 use Rattle.promises.proofs.{JoinedTwelve.small-lent, JoinedTwelve.twelve-again, JoinedTwelve.call-twelve, JoinedHeads.ends}

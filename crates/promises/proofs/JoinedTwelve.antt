@@ -1,7 +1,7 @@
 -- Twelve values of a path are enough: a call is a call with its paths cut to twelve values. Assumes nothing.
 use Rattle.model.specs.Kit.{_≡_, sym, ap, ap₂, _∙_, Bool, not, List, [], map, ℕ, _≤_, arith, length, take, length-take, take-all}
-use Rattle.model.specs.{Lists.both, Lists.at, Problem.Problem, Search.nodes, Verdict.accepted, Verdict.reply, Verdict.kept, Sheet.problemOf, Run.search, Run.Answer, Run.written}
-use Rattle.model.specs.Run.{Tally, settledBy, countsBy}
+use Rattle.model.specs.Run.{search, Answer, written, Tally, settledBy, countsBy}
+use Rattle.model.specs.{Lists.both, Lists.at, Problem.Problem, Search.nodes, Verdict.accepted, Verdict.reply, Verdict.kept, Sheet.problemOf}
 use Rattle.model.proofs.{Lists.keep-ext, Accepted.is-accepted}
 use Rattle.order.specs.Reordered.{write}
 use Rattle.run_cut.specs.{Between.nodesBetween, Parts.lastOf}

@@ -1,9 +1,7 @@
 -- A run stopped after k of its trials (specs/Moments). Assumes nothing.
-use Rattle.model.specs.Kit.{_≡_, refl, sym, ap, _∙_, subst, subst₂, Bool, true, false, List, [], _∷_, _++_, ℕ, suc, _+_, _*_, _≤_, arith, eqb, leb, length, take, length-append}
-use Rattle.model.specs.Kit.{eqb-true, eqb-false}
+use Rattle.model.specs.Kit.{_≡_, refl, sym, ap, _∙_, subst, subst₂, Bool, true, false, List, [], _∷_, _++_, ℕ, suc, _+_, _*_, _≤_, arith, eqb, leb, length, take, length-append, eqb-true, eqb-false}
+use Rattle.model.specs.{Lists.keep, Problem.Problem, Search.nodes, Search.isPlan, Run.Ending as Told, Run.spent, Run.full, Run.plansIn, Run.nodesIn, Run.Result, Run.search, Run.resultOf}
 use lib.Seq.{take-take}
-use Rattle.model.specs.{Lists.keep, Problem.Problem, Search.nodes, Search.isPlan, Run.Ending as Told, Run.spent, Run.full, Run.plansIn, Run.nodesIn, Run.Result, Run.search}
-use Rattle.model.specs.Run.{resultOf}
 use Rattle.model.proofs.Runs.{turn, search-turn, walk}
 use Rattle.order.specs.{Reordered.reordered, RunBy.resultBy, RunBy.placeCounts, RunBy.leadersBy}
 use Rattle.order.proofs.Demanded.{RanBy, ran-by}

@@ -1,16 +1,14 @@
 -- What the reader of a report holds (specs/Reported), from its definition and order's theorems. Assumes nothing.
-use Rattle.model.specs.Kit.{_≡_, refl, sym, ap, ap₂, _∙_, subst, subst₂, Bool, true, false, ⊎-elim, List, [], _∷_, _++_, map, List·Memᴰ, List·Memᴰ·head, List·Memᴰ·tail}
-use Rattle.model.specs.Kit.{List·Memᴰ·not-nil, Memᴰ·of-map, append-assoc, ℕ, zero, suc, _+_, _*_, _/_, _%_, _<_, arith, T, ltb, ltb→lt, length, take, replicate, length-append}
-use Rattle.model.specs.Kit.{length-map, length-replicate, ne-eqb}
+use Rattle.model.specs.Kit.{_≡_, refl, sym, ap, ap₂, _∙_, subst, subst₂, Bool, true, false, ⊎-elim, List, [], _∷_, _++_, map, List·Memᴰ, List·Memᴰ·head, List·Memᴰ·tail, List·Memᴰ·not-nil, Memᴰ·of-map}
+use Rattle.model.specs.Kit.{append-assoc, ℕ, zero, suc, _+_, _*_, _/_, _%_, _<_, arith, T, ltb, ltb→lt, length, take, replicate, length-append, length-map, length-replicate, ne-eqb}
+use Rattle.model.specs.Run.{Ending, finished, spent, full, plansIn, ended, resultOf}
+use Rattle.model.specs.{Lists.all, Lists.flat, Lists.at, Problem.Problem, Verdict.Verdict, Verdict.accepted, Verdict.refused, Sheet.verdictOf, Sheet.problemOf, Claims.CountsAt}
 use mathlib.Core.List.{List·Memᴰ·append-cases}
-use Rattle.model.specs.{Lists.all, Lists.flat, Lists.at, Problem.Problem, Verdict.Verdict, Verdict.accepted, Verdict.refused, Sheet.verdictOf, Sheet.problemOf}
-use Rattle.model.specs.{Run.Ending, Run.finished, Run.spent, Run.full, Run.plansIn, Run.ended, Run.resultOf, Claims.CountsAt}
 use Rattle.model.proofs.{Lists.all-e, Room.length-listed}
 use Rattle.order.specs.RunBy.{sheetInput, answerBy, listBy}
 use Rattle.order.proofs.{RunBy.same-result, Demanded.ran-by, Demanded.held as rows-held, Demanded.sound-sheet, Demanded.demanded-sheet, Demanded.sheet-run}
 use Rattle.families_figure.specs.Figure.{Figure, number, dash, reportFigure}
-use Rattle.report.specs.Report.{digits, decimal, line, planWord, finishedWord, spentWord, fullWord, refusedWord, figureLine, endingLine, resultText, reportFor, reportOf}
-use Rattle.report.specs.Report.{REPORT-LIMIT}
+use Rattle.report.specs.Report.{digits, decimal, line, planWord, finishedWord, spentWord, fullWord, refusedWord, figureLine, endingLine, resultText, reportFor, reportOf, REPORT-LIMIT}
 use Rattle.promises.proofs.Demands.{sheet-leaders, sheet-chains}
 use Rattle.promises.specs.Reported.{onto, linesIn, sheetIn, leadersOf, ReportEnds, ReportFinished, ReportHeld, Reported}
 

@@ -5,13 +5,11 @@ use Rattle.order.specs.RunBy.{resultBy, placeTally, answerBy, talliedBy}
 use Rattle.run_input.specs.Lent.{verdictLent, problemWith, orderLent, answerLent, listLent, tallyLent}
 use Rattle.run_input.proofs.Lent.{lent-passed}
 use Rattle.run_retyped.proofs.{Retyped.same-symmetries, LentRetyped.retyped-lent, LentRetyped.retyped-accepted-lent}
-use Rattle.run_state.specs.{Meaning.tallyIn, Meaning.endingOf, declared.Ending.Ending, declared.Ending.the-variants.Finished, declared.Ending.the-variants.Spent}
-use Rattle.run_state.specs.declared.Ending.the-variants.{Full}
+use Rattle.run_state.specs.{Meaning.tallyIn, Meaning.endingOf, declared.Ending.Ending, declared.Ending.the-variants.Finished, declared.Ending.the-variants.Spent, declared.Ending.the-variants.Full}
 use Rattle.run.specs.{declared.Answer.Answer, declared.Answer.the-variants.Refused, declared.Answer.the-variants.Ended, Meaning.means, Calls.CallLent}
 use Rattle.promises.specs.RetypedCalls.{Retyped-calls}
 use Rattle.promises.proofs.Demands.{demands-lent}
-use Rattle.model.proofs.Accepted.{is-accepted}
-use Rattle.model.proofs.Lists.{never}
+use Rattle.model.proofs.{Accepted.is-accepted, Lists.never}
 
 -- an answer is known by what it means
 ending-known : (d e : Ending) → endingOf d ≡ endingOf e → d ≡ e

@@ -2,10 +2,10 @@
 -- the tally as they came and at the end. It is said once, of how a run reads: paper 01's reads a sheet's rows as they stand (`ofSheet`), and `DemandsLent` has the run that is
 -- lent pairs and a block besides. proofs/Demands has the theorems.
 use Rattle.model.specs.Kit.{_≡_, _↔_, Bool, List, map, List·Memᴰ, ℕ, _*_, _≤_, length, take, drop, T}
+use Rattle.model.specs.Claims.{Leader, leaders, Chain, CountsAt, Largest, OneMore}
+use Rattle.model.specs.{Lists.at, Lists.total, Lists.earlier, Lists.rowsAscend, Problem.Problem, Problem.isSolution, Verdict.Verdict, Verdict.accepted, Verdict.refused, Sheet.verdictOf}
+use Rattle.model.specs.{Sheet.problemOf, Run.listedPlans, Run.plansIn, Run.nodesIn, Run.tallyAt, Search.setsAt, Search.isLive}
 use mathlib.Core.List.{Sublistᴰ}
-use Rattle.model.specs.{Lists.at, Lists.total, Lists.earlier, Lists.rowsAscend, Problem.Problem, Problem.isSolution, Verdict.Verdict, Verdict.accepted, Verdict.refused}
-use Rattle.model.specs.{Sheet.verdictOf, Sheet.problemOf, Run.listedPlans, Run.plansIn, Run.nodesIn, Run.tallyAt, Search.setsAt, Search.isLive, Claims.Leader, Claims.leaders, Claims.Chain}
-use Rattle.model.specs.Claims.{CountsAt, Largest, OneMore}
 use Rattle.run_state.specs.{Meaning.endingOf, declared.Tally.Tally, declared.Ending.Ending, declared.Ending.the-variants.Finished}
 use Rattle.run.specs.{Calls.CallRun, Calls.CallWith, declared.Answer.Answer, declared.Answer.the-variants.Refused, declared.Answer.the-variants.Ended}
 

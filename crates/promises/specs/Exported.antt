@@ -1,8 +1,8 @@
 -- What callers of planner_question and planner_run hold: the code that comes back, the list and the twelve bytes of the answer, as they came and at the
 -- end. proofs/Exported has the theorems.
 use Rattle.model.specs.Kit.{_≡_, _↔_, List, ℕ, _+_, _*_, length}
-use Rattle.export_run.specs.Calls.{CallCode, CallExported}
 use Rattle.model.specs.{Verdict.accepted, Verdict.refused, Sheet.verdictOf}
+use Rattle.export_run.specs.Calls.{CallCode, CallExported}
 use Rattle.run.specs.{Calls.CallRun, declared.Answer.the-variants.Ended}
 use Rattle.promises.specs.Demands.{ofSheet, AtEnd, AtFinish}
 use Rattle.run_state.specs.{declared.Ending.Ending, declared.Ending.the-variants.Finished, declared.Ending.the-variants.Spent, declared.Ending.the-variants.Full}

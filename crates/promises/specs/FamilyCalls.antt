@@ -1,9 +1,8 @@
 -- Families (paper 02, #104) and one plan of each (#112), of what callers hold: of `families`, and of `run_lent` with the same sheet, pairs and block.
 -- proofs/FamilyCalls has the theorems.
 use Rattle.model.specs.Kit.{_≡_, _↔_, List, [], ℕ, _*_, length}
-use Rattle.families_count.specs.{Calls.CallFamilies, declared.Answer.Answer, declared.Answer.the-variants.Number, declared.Answer.the-variants.Dash}
-use Rattle.families_count.specs.declared.Answer.the-variants.{Refused}
 use Rattle.model.specs.{Verdict.accepted, Verdict.refused, Sheet.headerOf, Sheet.problemOf}
+use Rattle.families_count.specs.{Calls.CallFamilies, declared.Answer.Answer, declared.Answer.the-variants.Number, declared.Answer.the-variants.Dash, declared.Answer.the-variants.Refused}
 use Rattle.run_input.specs.Lent.{verdictLent, problemWith}
 use Rattle.families.specs.Families.{Closed, FamilyCount, familiesOf}
 use Rattle.families_figure.specs.{Figure.bareSheet, FigureClaims.OneListedEach}

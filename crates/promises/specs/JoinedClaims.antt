@@ -1,14 +1,13 @@
 -- What the holder of all parts of a run has, by what `join` answered to their heads; the statements can be read without the proofs. That the heads are of calls
 -- of one sheet, one list of pairs and one block is supposed (HeldHeads): heads whose names differ are refused, and who has the bytes can compare them.
 use Rattle.model.specs.Kit.{_≡_, _↔_, List, [], _∷_, map, List·Memᴰ, ℕ, suc, _*_, _≤_, _<_, T, length, take}
-use Rattle.model.specs.{Lists.at, Lists.rowsAscend, Problem.isSolution, Sheet.problemOf, Verdict.accepted, Run.finished, Run.spent, Run.full, Run.ended, Run.written, Run.Tally}
-use Rattle.model.specs.Claims.{Leader}
+use Rattle.model.specs.{Lists.at, Lists.rowsAscend, Problem.isSolution, Sheet.problemOf, Verdict.accepted, Run.finished, Run.spent, Run.full, Run.ended, Run.written, Run.Tally, Claims.Leader}
 use Rattle.order.specs.Reordered.{read, earlierBy}
 use Rattle.run_input.specs.Lent.{verdictLent, problemWith, orderLent, problemLent, answerLent, listLent, tallyLent}
 use Rattle.run_ranges.specs.{Ranges.nodesSaid, Claims.Part, Claims.CallRange, Claims.plansHeld, Claims.Goes, Claims.Done, Claims.Chain, Claims.allPlans}
 use Rattle.run_cut.specs.{Parts.after, Parts.lastOf, Between.nodesBetween, Between.Cuts}
-use Rattle.run_join.specs.{Join.fromAt, Join.reachAt, Join.headsIn, Join.joinVerdict, Join.standPath, Join.beginOr, Calls.CallJoin, declared.Answer.the-variants.Joined}
-use Rattle.run_join.specs.{declared.Answer.the-variants.Missing, declared.Joining.Joining}
+use Rattle.run_join.specs.Join.{fromAt, reachAt, headsIn, joinVerdict, standPath, beginOr}
+use Rattle.run_join.specs.{Calls.CallJoin, declared.Answer.the-variants.Joined, declared.Answer.the-variants.Missing, declared.Joining.Joining}
 use Rattle.promises.specs.JoinedHeads.{HeadOf, cutTwelve, HeldHeads, takenParts, headBytes, HeldBytes, partAt}
 use Rattle.model.specs.Claims as Reads
 

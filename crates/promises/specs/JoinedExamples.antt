@@ -4,8 +4,8 @@ use Rattle.model.specs.Kit.{_≡_, true, false, List, [], _∷_, map, ℕ, leng
 use Rattle.model.specs.{Lists.flat, Lists.tabulate, Run.finished, Run.spent, Run.full, Run.ended, Verdict.accepted, Verdict.refused, Examples.sheetA}
 use Rattle.run_ranges.specs.Claims.{Part, allPlans}
 use Rattle.export_parts.specs.Parts.{partOf}
-use Rattle.run_join.specs.{Join.joinVerdict, Join.taken, Join.joined, Join.plansOf, Join.nodesOf, Join.countOf, Join.missingFrom, Join.missingUpto, Calls.CallJoin}
-use Rattle.run_join.specs.{declared.Answer.the-variants.Joined, declared.Joining.Joining}
+use Rattle.run_join.specs.Join.{joinVerdict, taken, joined, plansOf, nodesOf, countOf, missingFrom, missingUpto}
+use Rattle.run_join.specs.{Calls.CallJoin, declared.Answer.the-variants.Joined, declared.Joining.Joining}
 use Rattle.promises.specs.JoinedHeads.{headBytes, HeldBytes, takenParts, partAt}
 
 abbrev many : ℕ

@@ -1,8 +1,8 @@
 -- The report's text (paper 01, "The report"), of what its reader holds: bytes, by their lines. Demands 2 and 3 of these; `planner_report` leaves this text.
 -- proofs/Reported has the theorem.
 use Rattle.model.specs.Kit.{_≡_, true, false, _↔_, List, [], _∷_, _++_, map, List·Memᴰ, ℕ, _*_, _≤_, length, take, T, eqb}
-use Rattle.model.specs.{Lists.earlier, Problem.isSolution, Verdict.accepted, Verdict.refused, Sheet.verdictOf, Sheet.problemOf, Run.Ending, Run.plansIn, Run.nodesIn, Claims.CountsAt}
-use Rattle.model.specs.Claims.{Chain, leaders}
+use Rattle.model.specs.{Lists.earlier, Problem.isSolution, Verdict.accepted, Verdict.refused, Sheet.verdictOf, Sheet.problemOf, Run.Ending, Run.plansIn, Run.nodesIn, Claims.CountsAt, Claims.Chain}
+use Rattle.model.specs.{Claims.leaders}
 use Rattle.families_figure.specs.Figure.{reportFigure}
 use Rattle.report.specs.Report.{line, planWord, finishedWord, refusedWord, endingLine, reportOf, REPORT-LIMIT}
 

@@ -1,8 +1,8 @@
 -- Constraints on two variables by variable: what the search's tables say of them, and that they take nothing where the arcs hold. Assumes nothing.
-use Rattle.model.specs.Kit.{_≡_, refl, sym, subst, Bool, true, false, inl, inr, List, [], _∷_, List·Memᴰ, List·Memᴰ·head, List·Memᴰ·tail, List·Memᴰ·not-nil, ℕ, _<_, arith}
-use Rattle.model.specs.Kit.{ℕ-discrete, T, eqb, ltb, eqb→eq, length, ltb-true, ltb-false}
-use native.Mathlib.Nat.{le-of-lt}
+use Rattle.model.specs.Kit.{_≡_, refl, sym, subst, Bool, true, false, inl, inr, List, [], _∷_, List·Memᴰ, List·Memᴰ·head, List·Memᴰ·tail, List·Memᴰ·not-nil, ℕ, _<_, arith, ℕ-discrete, T, eqb, ltb}
+use Rattle.model.specs.Kit.{eqb→eq, length, ltb-true, ltb-false}
 use Rattle.model.specs.{Lists.any, Lists.at, Lists.same, ValueSets.has, ValueSets.Inside, Problem.Problem, Problem.constraintAt, Search.supported, inner.WellFormed.GoodConstraint}
+use native.Mathlib.Nat.{le-of-lt}
 use Rattle.model.proofs.Lists.{of-not, any-e, among-i, same-eq, list-2, ascending-sorted}
 use Rattle.arrays.specs.{inner.Places.LINKED, inner.Tables.linkOf, inner.Tables.byRows, inner.Tables.allowed, inner.Tables.goes, inner.Tables.Linked, inner.Pruning.Fixed}
 use Rattle.arrays.specs.inner.Pruning.{Arc}

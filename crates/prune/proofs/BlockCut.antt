@@ -1,13 +1,11 @@
 -- The values below one taken from some of sixteen sets: the loop of `cut`, and what it is for a block. Assumes nothing.
-use Rattle.model.specs.Kit.{_≡_, refl, sym, ap, _∙_, subst, Bool, true, false, not, List, ⊎-elim, ℕ, suc, _-_, _*_, _/_, _%_, _^_, _≤_, _<_, lt-of-le-of-lt, mod-eq-of-lt, arith}
-use Rattle.model.specs.Kit.{ℕ-discrete, T, T-not, eqb, ltb, bitAnd, bitOr, and-le-l, trailingZeros, length, set, take, length-set, pow-lt, eqb-true, eq-eqb, ne-eqb, ltb-true}
-use Rattle.model.specs.Kit.{ltb-false, lt-ltb, le-ltb}
-use lib.Pow.{pow-pos}
+use Rattle.model.specs.Kit.{_≡_, refl, sym, ap, _∙_, subst, Bool, true, false, not, List, ⊎-elim, ℕ, suc, _-_, _*_, _/_, _%_, _^_, _≤_, _<_, lt-of-le-of-lt, mod-eq-of-lt, arith, ℕ-discrete, T, T-not}
+use Rattle.model.specs.Kit.{eqb, ltb, bitAnd, bitOr, and-le-l, trailingZeros, length, set, take, length-set, pow-lt, eqb-true, eq-eqb, ne-eqb, ltb-true, ltb-false, lt-ltb, le-ltb}
 use Rattle.model.specs.{Lists.both, Lists.at, ValueSets.has, ValueSets.maskOf, ValueSets.fullMask, ValueSets.oneIf, inner.Pruning.Sets}
+use lib.Pow.{pow-pos}
 use Rattle.model.proofs.Lists.{both-l, both-r, T-of, of-T, of-not, not-of, at-ext, at-out, at-set, at-set-other, at-tabulate, length-tabulate, both-true}
-use Rattle.model.proofs.{Sets.has-none, Sets.pow2, Sets.has-mask, Sets.mask-lt, Sets.mask-ext, Masks.contains-op, Masks.has-and, Masks.has-not, Masks.has-one, Masks.has-ones}
-use Rattle.model.proofs.{Masks.has-oneIf, Masks.is-mask, Members.Rest, Members.rest-begin, Members.rest-low, Members.rest-turn, Members.rest-has, Members.rest-i, Members.or-e}
-use Rattle.model.proofs.Firsts.{take-at, take-length}
+use Rattle.model.proofs.{Sets.has-none, Sets.pow2, Sets.has-mask, Sets.mask-lt, Sets.mask-ext, Masks.contains-op, Masks.has-and, Masks.has-not, Masks.has-one, Masks.has-ones, Masks.has-oneIf}
+use Rattle.model.proofs.{Masks.is-mask, Members.Rest, Members.rest-begin, Members.rest-low, Members.rest-turn, Members.rest-has, Members.rest-i, Members.or-e, Firsts.take-at, Firsts.take-length}
 use Rattle.arrays.specs.inner.Places.{DEAD}
 use Rattle.prune_constraints.proofs.Stores.{Moves, moves-more}
 use Rattle.block.specs.inner.BlockSets.{cutAfter}

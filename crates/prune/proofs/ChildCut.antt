@@ -1,8 +1,8 @@
 -- The sets of a child once the block's later variables are cut: what may be pruned from there, and a set that is empty. Assumes nothing.
 use Rattle.model.specs.Kit.{_≡_, refl, sym, ap, _∙_, subst, Bool, true, false, not, List, ⊎-elim, ℕ, _+_, _-_, _*_, _≤_, _<_, arith, T, bitAnd, bitOr, length, take, eq-eqb}
 use Rattle.model.specs.{Lists.either, Lists.at, ValueSets.has, ValueSets.Inside, Problem.Problem, Problem.withSymmetries, inner.Pruning.Sets, inner.Pruning.Way}
-use Rattle.model.proofs.{Lists.T-of, Lists.T-ext, Lists.of-not, Lists.not-of, Lists.both-l, Lists.either-l, Lists.either-r, Lists.either-e, Sets.empty-i, Sets.mask-ext}
-use Rattle.model.proofs.{Masks.has-and, Masks.has-or, Firsts.take-at, Firsts.take-sets, Firsts.take-length, Firsts.take-full, Firsts.full-take, Tree.well-sized}
+use Rattle.model.proofs.Lists.{T-of, T-ext, of-not, not-of, both-l, either-l, either-r, either-e}
+use Rattle.model.proofs.{Sets.empty-i, Sets.mask-ext, Masks.has-and, Masks.has-or, Firsts.take-at, Firsts.take-sets, Firsts.take-length, Firsts.take-full, Firsts.full-take, Tree.well-sized}
 use Rattle.arrays.specs.{inner.Places.BLOCK, inner.Places.LINKED, inner.Places.MARKS, inner.Places.DEAD, inner.Pruning.Given, inner.Pruning.setsOf}
 use Rattle.prune_constraints.specs.inner.Steps.{Touched}
 use Rattle.prune_symmetries.proofs.Marks.{mark-mono}
@@ -10,8 +10,8 @@ use Rattle.block.specs.{inner.Claims.Ascends, inner.BlockSets.cutAfter}
 use Rattle.block.proofs.BlockSets.{cut-sets, cut-e, cut-i}
 use Rattle.prune.specs.{inner.Node.blockOf, inner.Steps.ArraysHold, inner.Steps.Blocked, inner.Steps.LiveSets, inner.Steps.Startable, inner.Steps.BeforeFixpoint}
 use Rattle.prune.specs.inner.Steps.{LastSettled, AfterFixpoint, CutOr}
-use Rattle.prune.proofs.{Pending.take-less, Pending.still-fixed, Pending.touched-known, Pending.still-arc, FilterLoop.kept-none, FixpointLoop.not-live, FixpointLoop.dead}
-use Rattle.prune.proofs.{FixpointLoop.same-at, BlockCut.after-take}
+use Rattle.prune.proofs.Pending.{take-less, still-fixed, touched-known, still-arc}
+use Rattle.prune.proofs.{FilterLoop.kept-none, FixpointLoop.not-live, FixpointLoop.dead, FixpointLoop.same-at, BlockCut.after-take}
 
 module _ {p : Problem} {gs : List (List ℕ)} {supports tables numbers : List ℕ} (st : ArraysHold p supports tables numbers) (bl : Blocked p gs numbers) {ds : List ℕ}
     (b : LiveSets p ds) (k v : ℕ) {cut : List ℕ} {changed : ℕ} (c : CutOr ds (cutAfter (blockOf numbers) k v ds) cut (at numbers BLOCK) changed) where

@@ -1,11 +1,10 @@
 -- The loop over the symmetries: what their filters have left before each turn, one turn, and both ends. Assumes nothing.
-use Rattle.model.specs.Kit.{_≡_, refl, sym, ap, _∙_, subst, Bool, true, false, List, [], ℕ, _+_, _*_, _%_, _≤_, _<_, arith, ℕ-discrete, T, ltb, length, set, take, length-set}
-use Rattle.model.specs.Kit.{length-take-le, ltb-true, ltb-false, ne-eqb, eq-eqb}
+use Rattle.model.specs.Kit.{_≡_, refl, sym, ap, _∙_, subst, Bool, true, false, List, [], ℕ, _+_, _*_, _%_, _≤_, _<_, arith, ℕ-discrete, T, ltb, length, set, take, length-set, length-take-le, ltb-true}
+use Rattle.model.specs.Kit.{ltb-false, ne-eqb, eq-eqb}
 use Rattle.model.specs.{Lists.at, ValueSets.has, ValueSets.anyEmpty, ValueSets.Inside, Problem.Problem, Problem.symmetryAt, Nogood.filtered, Search.nogoodsOf, inner.Pruning.Sets}
 use Rattle.model.specs.inner.Pruning.{Prunes}
-use Rattle.model.proofs.{Lists.T-of, Lists.at-ext, Lists.at-set, Lists.at-set-other, Lists.at-take, Lists.mem-getD, Lists.place-of, Sets.inside-antisym, Sets.has-at-lt}
-use Rattle.model.proofs.{Firsts.take-sets, Firsts.take-e, Firsts.take-i, Firsts.full-take, Filter.filtered-inside, Prune.filter-removal, Prunes.prunes-none, Prunes.prunes-then}
-use Rattle.model.proofs.Prunes.{removal-prunes}
+use Rattle.model.proofs.{Lists.T-of, Lists.at-ext, Lists.at-set, Lists.at-set-other, Lists.at-take, Lists.mem-getD, Lists.place-of, Sets.inside-antisym, Sets.has-at-lt, Firsts.take-sets}
+use Rattle.model.proofs.{Firsts.take-e, Firsts.take-i, Firsts.full-take, Filter.filtered-inside, Prune.filter-removal, Prunes.prunes-none, Prunes.prunes-then, Prunes.removal-prunes}
 use Rattle.arrays.specs.{inner.Places.ENTAILED, inner.Places.FAILED, inner.Places.MARKS, inner.Places.SYMMETRIES, inner.Places.WORK, inner.Pruning.setsOf}
 use Rattle.filter.specs.Marks.{Vacuous}
 use Rattle.prune_symmetries.specs.inner.Levels.{Mark, Resumes, FilterRequires, FilterEnsures, leaves}

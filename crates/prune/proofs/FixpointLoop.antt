@@ -1,13 +1,13 @@
 -- Filters and constraints by turns: the loop of `alternate` and its ends, and the look-ups, the cuts by variable and the constraints in front of it. Assumes nothing.
-use Rattle.model.specs.Kit.{_≡_, refl, sym, ap, _∙_, subst, Bool, true, false, not, ⊎-elim, List, [], List·Memᴰ·head, ℕ, _+_, _-_, _*_, _^_, _≤_, _<_, lt-of-le-of-lt, arith, T}
-use Rattle.model.specs.Kit.{eqb, ltb, length, take, bitAnd, bitOr, and-le-l, length-take-le, ltb-true, ltb-false, eqb-true, eq-eqb}
-use Rattle.model.specs.{Lists.at, Lists.ascending, ValueSets.has, ValueSets.anyEmpty, ValueSets.Inside, Problem.Problem, Problem.Constraint, Problem.withSymmetries}
-use Rattle.model.specs.{Problem.constraintAt, Search.pruned, Search.setsAt, Search.isLive, Search.supported, inner.Pruning.Sets, inner.Pruning.closed, inner.Pruning.Way}
+use Rattle.model.specs.Kit.{_≡_, refl, sym, ap, _∙_, subst, Bool, true, false, not, ⊎-elim, List, [], List·Memᴰ·head, ℕ, _+_, _-_, _*_, _^_, _≤_, _<_, lt-of-le-of-lt, arith, T, eqb, ltb, length, take}
+use Rattle.model.specs.Kit.{bitAnd, bitOr, and-le-l, length-take-le, ltb-true, ltb-false, eqb-true, eq-eqb}
+use Rattle.model.specs.{Lists.at, Lists.ascending, ValueSets.has, ValueSets.anyEmpty, ValueSets.Inside, Problem.Problem, Problem.Constraint, Problem.withSymmetries, Problem.constraintAt}
+use Rattle.model.specs.{Search.pruned, Search.setsAt, Search.isLive, Search.supported, inner.Pruning.Sets, inner.Pruning.closed, inner.Pruning.Way}
 use Rattle.model.specs.inner.Pruning.{Prunes}
 use Rattle.model.proofs.Lists.{T-of, of-T, not-of, of-not, at-ext, at-take, both-l, place-of, list-3, ascending-sorted}
-use Rattle.model.proofs.{Sets.has-none, Sets.mask-ext, Sets.member, Sets.empty-inside, Sets.inside-antisym, Sets.size, Sets.size-inside, Sets.size-strict, Masks.has-and}
-use Rattle.model.proofs.{Members.has-0, Members.or-e, Members.and-e, Firsts.take-sets, Firsts.take-i, Firsts.full-take, Prune.narrowed-e, Prune.Sized, Prune.Kept, Prune.fixed-i}
-use Rattle.model.proofs.{Prune.largest, Prune.live-is, Prune.way-live, Prune.way-end, Tree.well-sized}
+use Rattle.model.proofs.Sets.{has-none, mask-ext, member, empty-inside, inside-antisym, size, size-inside, size-strict}
+use Rattle.model.proofs.Prune.{narrowed-e, Sized, Kept, fixed-i, largest, live-is, way-live, way-end}
+use Rattle.model.proofs.{Masks.has-and, Members.has-0, Members.or-e, Members.and-e, Firsts.take-sets, Firsts.take-i, Firsts.full-take, Tree.well-sized}
 use Rattle.arrays.specs.{inner.Places.DEAD, inner.Places.LINKED, inner.Places.LOOKS, inner.Places.MARKS, inner.Places.SYMMETRIES, inner.Places.WORK, inner.Tables.LooksUp}
 use Rattle.arrays.specs.inner.Pruning.{Given, Ended, setsOf}
 use Rattle.arrays.proofs.Links.{good}
@@ -20,9 +20,8 @@ use Rattle.block.specs.inner.Claims.{Ascends}
 use Rattle.block.proofs.BlockSets.{ascends-less, way-prunes-own, fixed-whole}
 use Rattle.prune.specs.{inner.Node.MarksRight, inner.Node.blockOf, inner.Steps.ArraysHold, inner.Steps.Blocked, inner.Steps.Pending, inner.Steps.PrunedSoFar}
 use Rattle.prune.specs.inner.Steps.{AllConstrained, LiveSets, AllFiltered, EndedAt, OnlyMarks, Startable, BeforeFixpoint, LastSettled, AfterFixpoint, Differ}
-use Rattle.prune.proofs.Pending.{pruned-none, pruned-more, nothing-due, take-less, still-fixed, touched-known, still-arc, constraints-pending, looked-few, looks-turn}
-use Rattle.prune.proofs.{Pending.arcs-pruned, Pending.arcs-turn, FilterLoop.same-take, FilterLoop.kept-none, FilterLoop.kept-trans, FilterLoop.filtered-begin}
-use Rattle.prune.proofs.FilterLoop.{filtered-end}
+use Rattle.prune.proofs.Pending.{pruned-none, pruned-more, nothing-due, take-less, still-fixed, touched-known, still-arc, constraints-pending, looked-few, looks-turn, arcs-pruned, arcs-turn}
+use Rattle.prune.proofs.FilterLoop.{same-take, kept-none, kept-trans, filtered-begin, filtered-end}
 
 -- ---- a set is empty, so the prefix is dead
 pub not-live : (p : Problem) (prefix es : List ℕ) → Way p prefix es → Sized p → T (anyEmpty es) → isLive p prefix ≡ false

@@ -1,10 +1,10 @@
 -- The loop of `constrain`: constraints by variable and the others by turns, and its ends. Assumes nothing.
-use Rattle.model.specs.Kit.{_≡_, refl, sym, ap, _∙_, subst, Bool, true, false, not, inl, inr, ⊎-elim, List, List·Memᴰ, ℕ, _+_, _-_, _^_, _≤_, _<_, lt-of-le-of-lt, arith, T, eqb}
-use Rattle.model.specs.Kit.{length, bitAnd, bitOr, and-le-l, trailingZeros}
+use Rattle.model.specs.Kit.{_≡_, refl, sym, ap, _∙_, subst, Bool, true, false, not, inl, inr, ⊎-elim, List, List·Memᴰ, ℕ, _+_, _-_, _^_, _≤_, _<_, lt-of-le-of-lt, arith, T, eqb, length, bitAnd, bitOr}
+use Rattle.model.specs.Kit.{and-le-l, trailingZeros}
 use Rattle.model.specs.{Lists.both, Lists.either, Lists.any, Lists.at, ValueSets.has, ValueSets.Inside, Problem.Problem, Problem.constraintAt, inner.Pruning.Sets}
 use Rattle.model.proofs.Lists.{T-of, of-T, not-of, of-not, both-i, both-l, either-l, either-r, either-e, among-i}
-use Rattle.model.proofs.{Sets.has-none, Sets.has-lt, Sets.member, Sets.size, Sets.size-inside, Masks.has-or, Masks.has-and, Members.low-has, Members.or-i, Members.or-e}
-use Rattle.model.proofs.{Members.and-e, Firsts.take-at, Firsts.take-e, Firsts.take-i, Firsts.full-take, Prunes.prunes-none, Prunes.prunes-then}
+use Rattle.model.proofs.{Sets.has-none, Sets.has-lt, Sets.member, Sets.size, Sets.size-inside, Masks.has-or, Masks.has-and, Members.low-has, Members.or-i, Members.or-e, Members.and-e, Firsts.take-at}
+use Rattle.model.proofs.{Firsts.take-e, Firsts.take-i, Firsts.full-take, Prunes.prunes-none, Prunes.prunes-then}
 use Rattle.arrays.specs.{inner.Places.DEAD, inner.Places.LINKED, inner.Places.OTHERS, inner.Tables.byRows, inner.Pruning.Given, inner.Pruning.Lessened, inner.Pruning.Ended}
 use Rattle.arrays.specs.inner.Pruning.{Fixed, Arc, setsOf}
 use Rattle.arrays.proofs.Links.{good}

@@ -1,14 +1,14 @@
 -- The sets that `root`, `child` and `descend` start from are on the way to those at their prefix; what they leave on the stack. Assumes nothing.
-use Rattle.model.specs.Kit.{_≡_, refl, sym, ap, ap₂, _∙_, subst, Bool, true, false, not, List, [], List·Memᴰ, ℕ, _+_, _-_, _*_, _%_, _^_, _≤_, _<_, mod-eq-of-lt, add-one, arith}
-use Rattle.model.specs.Kit.{ℕ-discrete, T, eqb, ltb, eqb→eq, eqb-refl, bitAnd, length, set, take, pow-lt, length-take-le, ltb-true, ltb-false, eqb-true}
+use Rattle.model.specs.Kit.{_≡_, refl, sym, ap, ap₂, _∙_, subst, Bool, true, false, not, List, [], List·Memᴰ, ℕ, _+_, _-_, _*_, _%_, _^_, _≤_, _<_, mod-eq-of-lt, add-one, arith, ℕ-discrete, T, eqb}
+use Rattle.model.specs.Kit.{ltb, eqb→eq, eqb-refl, bitAnd, length, set, take, pow-lt, length-take-le, ltb-true, ltb-false, eqb-true}
+use Rattle.model.specs.{Lists.both, Lists.any, Lists.at, ValueSets.has, ValueSets.onlyMask, ValueSets.anyEmpty, ValueSets.Inside, Problem.Problem, Problem.withSymmetries, Problem.constraintAt}
+use Rattle.model.specs.{Search.narrowed, Search.setsAt, Search.isLive, inner.Pruning.Sets, inner.Pruning.closed, inner.Pruning.Way}
 use lib.Pow.{pow-pos}
 use lib.Seq.{take-suc, take-set-lt, set-getD}
-use Rattle.model.specs.{Lists.both, Lists.any, Lists.at, ValueSets.has, ValueSets.onlyMask, ValueSets.anyEmpty, ValueSets.Inside, Problem.Problem, Problem.withSymmetries}
-use Rattle.model.specs.{Problem.constraintAt, Search.narrowed, Search.setsAt, Search.isLive, inner.Pruning.Sets, inner.Pruning.closed, inner.Pruning.Way}
 use Rattle.model.proofs.Lists.{T-of, of-T, not-of, of-not, at-ext, at-out, both-i, both-l, both-r, among-i, mem-at, at-set, at-set-other, at-take}
-use Rattle.model.proofs.{Sets.has-none, Sets.has-lt, Sets.member, Sets.empty-i, Sets.inside-refl, Sets.set-sets, Masks.has-and, Masks.has-not, Masks.has-one, Members.one-bit}
-use Rattle.model.proofs.{Members.only-member, Firsts.take-at, Firsts.take-e, Firsts.take-i, Firsts.take-sets, Firsts.take-length, Firsts.take-full, Firsts.full-take}
-use Rattle.model.proofs.{Prune.narrowed-e, Prune.Largest, Prune.largest, Prune.fixed-e, Prune.way-start, Prune.setsAt-live, Prune.setsAt-sets, Prune.live-closed, Tree.well-sized}
+use Rattle.model.proofs.Prune.{narrowed-e, Largest, largest, fixed-e, way-start, setsAt-live, setsAt-sets, live-closed}
+use Rattle.model.proofs.{Sets.has-none, Sets.has-lt, Sets.member, Sets.empty-i, Sets.inside-refl, Sets.set-sets, Masks.has-and, Masks.has-not, Masks.has-one, Members.one-bit, Members.only-member}
+use Rattle.model.proofs.{Firsts.take-at, Firsts.take-e, Firsts.take-i, Firsts.take-sets, Firsts.take-length, Firsts.take-full, Firsts.full-take, Tree.well-sized}
 use Rattle.arrays.specs.inner.Places.{INITIAL, LINKED, MARKS, OTHERS, SYMMETRIES, VARIABLES, WORK}
 use Rattle.arrays.specs.{inner.Tables.byRows, inner.Pruning.Fixed, inner.Pruning.Arc, inner.Pruning.setsOf}
 use Rattle.arrays.proofs.Links.{is-one, good}

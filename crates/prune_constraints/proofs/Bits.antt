@@ -1,7 +1,7 @@
 -- A set of one or none, the members of a set without another's, and a set inside another. Assumes nothing.
 use Rattle.model.specs.Kit.{_≡_, ap, _∙_, subst, Bool, true, false, not, ℕ, _-_, _^_, _≤_, _<_, lt-of-le-of-lt, arith, T, bitAnd, and-le-l, pow-lt}
-use lib.Bits.{and-le-r}
 use Rattle.model.specs.{Lists.both, ValueSets.has, ValueSets.oneIf}
+use lib.Bits.{and-le-r}
 use Rattle.model.proofs.{Lists.T-ext, Sets.mask-ext, Masks.has-and, Masks.has-not, Members.and-i, Members.and-e}
 
 pub one-small : (b : Bool) (x : ℕ) → x < 16 → oneIf b x < 2 ^ 16

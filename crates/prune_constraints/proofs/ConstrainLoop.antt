@@ -1,20 +1,19 @@
 -- The loops of `constrain8` and `constrain16`: what holds before each turn, one turn, and both ends, whichever constraints a round takes. Assumes nothing.
-use Rattle.model.specs.Kit.{_≡_, refl, sym, ap, _∙_, subst, Bool, true, false, not, _⊎_, inl, inr, ⊎-elim, List, List·Memᴰ, ℕ, _+_, _-_, _*_, _^_, _≤_, _<_, lt-of-le-of-lt, arith}
-use Rattle.model.specs.Kit.{ℕ-discrete, T, eqb, ltb, eqb-refl, length, bitAnd, bitOr, and-le-l, or-lt, trailingZeros, ltb-true, ltb-false, eqb-true, eq-eqb}
+use Rattle.model.specs.Kit.{_≡_, refl, sym, ap, _∙_, subst, Bool, true, false, not, _⊎_, inl, inr, ⊎-elim, List, List·Memᴰ, ℕ, _+_, _-_, _*_, _^_, _≤_, _<_, lt-of-le-of-lt, arith, ℕ-discrete, T, eqb}
+use Rattle.model.specs.Kit.{ltb, eqb-refl, length, bitAnd, bitOr, and-le-l, or-lt, trailingZeros, ltb-true, ltb-false, eqb-true, eq-eqb}
+use Rattle.model.specs.{Lists.both, Lists.any, Lists.at, ValueSets.has, ValueSets.Inside, Problem.Problem, Problem.Constraint, Problem.constraintAt, inner.Pruning.Sets, inner.Pruning.Prunes}
+use Rattle.model.specs.{inner.WellFormed.GoodConstraint}
 use lib.Bits.{or-zero-r, or-disjoint}
 use lib.Pow.{pow-mono}
-use Rattle.model.specs.{Lists.both, Lists.any, Lists.at, ValueSets.has, ValueSets.Inside, Problem.Problem, Problem.Constraint, Problem.constraintAt, inner.Pruning.Sets}
-use Rattle.model.specs.{inner.Pruning.Prunes, inner.WellFormed.GoodConstraint}
-use Rattle.model.proofs.Lists.{T-of, of-T, T-ext, not-of, of-not, both-i, both-r, among-i, among-e, ascending-sorted}
-use Rattle.model.proofs.{Sets.has-none, Sets.has-lt, Sets.mask-ext, Sets.inside-antisym, Sets.size, Sets.size-inside, Sets.size-strict, Masks.has-one, Members.low-has}
-use Rattle.model.proofs.{Members.rest-e, Members.rest-i, Members.rest-less, Members.has-0, Members.or-i, Members.or-e, Members.and-e, Firsts.take-i, Firsts.take-full}
-use Rattle.model.proofs.{Firsts.take-empty, Firsts.full-take, Prunes.prunes-none, Prunes.prunes-then}
+use Rattle.model.proofs.{Lists.T-of, Lists.of-T, Lists.T-ext, Lists.not-of, Lists.of-not, Lists.both-i, Lists.both-r, Lists.among-i, Lists.among-e, Lists.ascending-sorted, Sets.has-none, Sets.has-lt}
+use Rattle.model.proofs.{Sets.mask-ext, Sets.inside-antisym, Sets.size, Sets.size-inside, Sets.size-strict, Masks.has-one, Members.low-has, Members.rest-e, Members.rest-i, Members.rest-less}
+use Rattle.model.proofs.{Members.has-0, Members.or-i, Members.or-e, Members.and-e, Firsts.take-i, Firsts.take-full, Firsts.take-empty, Firsts.full-take, Prunes.prunes-none, Prunes.prunes-then}
 use Rattle.arrays.specs.{inner.Places.VALUES, inner.Places.OTHERS, inner.Places.DEAD, inner.Tables.Linked, inner.Tables.byRows, inner.Pruning.Fixed, inner.Pruning.setsOf}
 use Rattle.arrays.proofs.Links.{is-one, good}
 use Rattle.prune_constraints.specs.{inner.Revised.revised, inner.Revised.Revision, inner.Revised.ConstraintsPending, inner.Revised.Constrained, inner.Steps.ConstraintsHeld}
 use Rattle.prune_constraints.specs.inner.Steps.{Nonempty, Narrow, Waiting, Round}
-use Rattle.prune_constraints.proofs.{Bits.without-has, Bits.inside-le, Rows.revised-sets, Rows.revised-inside, Rows.revised-fixed, Rows.revised-out, Rows.fixed-kept}
-use Rattle.prune_constraints.proofs.Removal.{fixed-take, fixed-all, revised-prunes}
+use Rattle.prune_constraints.proofs.Rows.{revised-sets, revised-inside, revised-fixed, revised-out, fixed-kept}
+use Rattle.prune_constraints.proofs.{Bits.without-has, Bits.inside-le, Removal.fixed-take, Removal.fixed-all, Removal.revised-prunes}
 
 -- ---- what a revision changed
 module _ (c : Constraint) (ds es : List ℕ) (changed : ℕ) (s : Sets 16 ds) (r : Revision c ds es changed) (l : changed ≡ DEAD → ⊥) where

@@ -1,10 +1,10 @@
 -- Numbers of eight lanes of eight bits, and the functions over them. Assumes nothing.
-use Rattle.model.specs.Kit.{_≡_, refl, sym, ap, _∙_, subst, Bool, true, false, _⊎_, inl, inr, ⊎-elim, List, ℕ, zero, suc, _+_, _-_, _*_, _/_, _%_, _^_, _<_, lt-of-le-of-lt, arith}
-use Rattle.model.specs.Kit.{T, ltb, lit<, bitAnd, bitOr, ltb-true, ltb-false, lt-ltb}
-use lib.Bits.{and-le-r, and-mask}
+use Rattle.model.specs.Kit.{_≡_, refl, sym, ap, _∙_, subst, Bool, true, false, _⊎_, inl, inr, ⊎-elim, List, ℕ, zero, suc, _+_, _-_, _*_, _/_, _%_, _^_, _<_, lt-of-le-of-lt, arith, T, ltb, lit<}
+use Rattle.model.specs.Kit.{bitAnd, bitOr, ltb-true, ltb-false, lt-ltb}
 use Rattle.model.specs.{Lists.both, Lists.either, Lists.at, ValueSets.has}
-use Rattle.model.proofs.{Lists.either-l, Lists.either-r, Lists.either-e, Lists.both-true, Lists.both-false, Sets.has-lt, Masks.has-and, Masks.has-or, Masks.has-ones, Masks.has-shr}
-use Rattle.model.proofs.{Masks.byte-has, Masks.byte-lt, Members.either-no, Members.or-i, Members.or-e, Members.and-i, Members.and-e}
+use lib.Bits.{and-le-r, and-mask}
+use Rattle.model.proofs.Masks.{has-and, has-or, has-ones, has-shr, byte-has, byte-lt}
+use Rattle.model.proofs.{Lists.either-l, Lists.either-r, Lists.either-e, Lists.both-true, Lists.both-false, Sets.has-lt, Members.either-no, Members.or-i, Members.or-e, Members.and-i, Members.and-e}
 use Rattle.arrays.specs.inner.Tables.{UnionOf}
 use Rattle.prune_constraints.specs.inner.Lanes.{FullLanes, LaneUnion, FullHeads, Halves, TogetherIn, InLanes, InLane}
 

@@ -1,16 +1,16 @@
 -- Look-ups: one constraint whose first two sets have one value each, and the loop over some of them. Assumes nothing.
-use Rattle.model.specs.Kit.{_≡_, refl, sym, ap, ap₂, _∙_, subst, false, not, _⊎_, inl, inr, ⊎-elim, List, [], _∷_, ℕ, _+_, _-_, _*_, _^_, _≤_}
-use Rattle.model.specs.Kit.{_<_, lt-of-le-of-lt, arith, T, eqb-refl, length, bitAnd, bitOr, and-le-l, trailingZeros, eq-eqb}
+use Rattle.model.specs.Kit.{_≡_, refl, sym, ap, ap₂, _∙_, subst, false, not, _⊎_, inl, inr, ⊎-elim, List, [], _∷_, ℕ, _+_, _-_, _*_, _^_, _≤_, _<_, lt-of-le-of-lt, arith, T, eqb-refl, length, bitAnd}
+use Rattle.model.specs.Kit.{bitOr, and-le-l, trailingZeros, eq-eqb}
 use Rattle.model.specs.{Lists.at, ValueSets.has, ValueSets.anyEmpty, Problem.Problem, Problem.constraintAt, inner.Pruning.Sets}
-use Rattle.model.proofs.{Lists.not-of, Lists.of-not, Lists.T-of, Lists.T-ext, Lists.both-i, Lists.mem-at, Sets.has-none, Sets.has-lt, Sets.mask-ext, Sets.member, Masks.has-one}
-use Rattle.model.proofs.{Members.has-0, Members.low-has, Members.or-i, Members.or-e, Members.and-e, Members.rest-e, Firsts.take-full}
+use Rattle.model.proofs.{Lists.not-of, Lists.of-not, Lists.T-of, Lists.T-ext, Lists.both-i, Lists.mem-at, Sets.has-none, Sets.has-lt, Sets.mask-ext, Sets.member, Masks.has-one, Members.has-0}
+use Rattle.model.proofs.{Members.low-has, Members.or-i, Members.or-e, Members.and-e, Members.rest-e, Firsts.take-full}
 use Rattle.arrays.specs.{inner.Places.SCOPES, inner.Places.OTHERS, inner.Places.DEAD, inner.Places.SUPPORTS, inner.Layout.variableIn, inner.Pruning.setsOf}
 use Rattle.arrays.proofs.Links.{good}
 use Rattle.prune_constraints.specs.{inner.Revised.Revision, inner.Steps.OneValue, inner.Steps.Scoped, inner.Steps.ConstraintsHeld, inner.Steps.SetCut, inner.Steps.Touched}
 use Rattle.prune_constraints.specs.inner.LookUps.{Alone, LookUp, LookUpsPending, LookedUp}
-use Rattle.prune_constraints.proofs.{Bits.without-has, Unions.single, Rows.revised-inside, Removal.fixed-take, Stores.three-last, Scopes.of-three}
-use Rattle.prune_constraints.proofs.{Scopes.read-3, Touching.touchedOf, Touching.touched-lt, Touching.touched-of, ConstrainLoop.without, ConstrainLoop.Chosen}
-use Rattle.prune_constraints.proofs.ConstrainLoop.{ConstrainedSoFar, constrained-begin, k-few, k-full, changed-lt, constrained-dead, constrained-more}
+use Rattle.prune_constraints.proofs.Touching.{touchedOf, touched-lt, touched-of}
+use Rattle.prune_constraints.proofs.ConstrainLoop.{without, Chosen, ConstrainedSoFar, constrained-begin, k-few, k-full, changed-lt, constrained-dead, constrained-more}
+use Rattle.prune_constraints.proofs.{Bits.without-has, Unions.single, Rows.revised-inside, Removal.fixed-take, Stores.three-last, Scopes.of-three, Scopes.read-3}
 
 -- ---- one constraint: x and z are what is read of its scope
 module _ {p : Problem} {numbers supports ds work : List ℕ} {k v : ℕ} (g : ConstraintsHeld p numbers supports) (l : LookUp p ds work k v) (s : Sets 16 ds) {x z : ℕ}

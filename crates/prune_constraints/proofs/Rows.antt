@@ -1,6 +1,6 @@
 -- A constraint's rows inside the sets: which values they support, what `revised` leaves, and that it leaves no more to do. Assumes nothing.
-use Rattle.model.specs.Kit.{_≡_, refl, sym, _∙_, subst, Bool, true, false, _⊎_, inl, inr, List, [], _∷_, List·Memᴰ, List·Memᴰ·head, List·Memᴰ·tail, List·Memᴰ·not-nil, ℕ, _^_, _≤_}
-use Rattle.model.specs.Kit.{_<_, arith, T, eqb, ltb, eqb→eq, eqb-refl, length, eqb-true, ltb-true, ltb-false}
+use Rattle.model.specs.Kit.{_≡_, refl, sym, _∙_, subst, Bool, true, false, _⊎_, inl, inr, List, [], _∷_, List·Memᴰ, List·Memᴰ·head, List·Memᴰ·tail, List·Memᴰ·not-nil, ℕ, _^_, _≤_, _<_, arith, T, eqb}
+use Rattle.model.specs.Kit.{ltb, eqb→eq, eqb-refl, length, eqb-true, ltb-true, ltb-false}
 use Rattle.model.specs.{Lists.both, Lists.any, Lists.at, ValueSets.has, ValueSets.maskOf, ValueSets.Inside, Problem.Constraint, Search.rowWith, Search.supported}
 use Rattle.model.specs.inner.Pruning.{Sets}
 use Rattle.model.proofs.Lists.{T-of, of-T, of-not, both-i, both-l, both-r, any-i, any-e, among-i, among-e, Sorted, at-tabulate, length-tabulate, at-out}

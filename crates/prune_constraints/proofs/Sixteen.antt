@@ -1,10 +1,10 @@
 -- Three sets by 256 sets of a table, sixteen at once. Assumes nothing.
-use Rattle.model.specs.Kit.{_≡_, refl, sym, ap, _∙_, subst, Bool, true, false, not, _⊎_, inl, inr, ⊎-elim, List, ℕ, _+_, _*_, _^_, _≤_, _<_, lt-of-le-of-lt, arith, ℕ-discrete, T, eqb, ltb}
-use Rattle.model.specs.Kit.{length, set, replicate, bitAnd, bitOr, or-lt, ltb-true, ltb-false}
-use lib.Bits.{and-le-r}
+use Rattle.model.specs.Kit.{_≡_, refl, sym, ap, _∙_, subst, Bool, true, false, not, _⊎_, inl, inr, ⊎-elim, List, ℕ, _+_, _*_, _^_, _≤_, _<_, lt-of-le-of-lt, arith, ℕ-discrete, T, eqb, ltb, length}
+use Rattle.model.specs.Kit.{set, replicate, bitAnd, bitOr, or-lt, ltb-true, ltb-false}
 use Rattle.model.specs.{Lists.at, Lists.choose, ValueSets.has, ValueSets.withoutMask, ValueSets.unionMask, ValueSets.lowestOf, ValueSets.oneIf, inner.Filling.Filled}
-use Rattle.model.proofs.{Lists.T-of, Lists.of-T, Lists.not-of, Lists.at-replicate, Sets.has-lt, Sets.member, Filling.filled-begin, Filling.filled-turn, Masks.union-op}
+use lib.Bits.{and-le-r}
 use Rattle.model.proofs.Members.{Rest, rest-begin, has-0, Union, union-begin, union-end, lowest-left, others-left, others-union, or-i, or-e, and-i, and-e}
+use Rattle.model.proofs.{Lists.T-of, Lists.of-T, Lists.not-of, Lists.at-replicate, Sets.has-lt, Sets.member, Filling.filled-begin, Filling.filled-turn, Masks.union-op}
 use Rattle.prune_constraints.specs.inner.Steps.{Together, Together3, Supported3, Masks, Met, FullSets}
 use Rattle.prune_constraints.proofs.Unions.{full-i, full-e, one-i, one-e, one-lt, small}
 

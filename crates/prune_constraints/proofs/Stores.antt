@@ -1,17 +1,16 @@
 -- One constraint prunes the sets: the stores of the three functions, for scopes of one, two and three variables. Assumes nothing.
-use Rattle.model.specs.Kit.{_≡_, refl, sym, ap, ap₂, _∙_, subst, Bool, true, false, not, inl, inr, List, [], _∷_, _++_, List·Memᴰ, List·Memᴰ·head, List·Memᴰ·tail}
-use Rattle.model.specs.Kit.{List·Memᴰ·not-nil, ℕ, suc, _+_, _*_, _^_, _<_, lt-of-le-of-lt, arith, ℕ-discrete, T, eqb, eqb-refl, lit<, length, set, length-set, bitAnd, bitOr}
-use Rattle.model.specs.Kit.{and-le-l, or-lt, eq-eqb, ne-eqb}
-use Rattle.model.specs.{Lists.both, Lists.either, Lists.any, Lists.at, Lists.same, Lists.ascending, ValueSets.has, ValueSets.lowestOf, ValueSets.oneIf, Problem.Constraint}
-use Rattle.model.specs.{Search.supported, inner.Pruning.Sets}
-use Rattle.model.proofs.Lists.{T-of, of-T, of-not, any-i, any-e, among-i, among-e, same-eq, same-refl, Sorted, ascending-sorted, at-set, at-set-other, set-at, both-true}
-use Rattle.model.proofs.{Lists.both-false, Lists.at-small-1, Lists.at-small-2, Sets.has-lt, Sets.mask-i, Sets.mask-e, Sets.member, Sets.set-sets, Masks.has-or, Masks.has-oneIf}
-use Rattle.model.proofs.Members.{either-no, rest-begin, has-0, and-i, and-e, lowest-left}
+use Rattle.model.specs.Kit.{_≡_, refl, sym, ap, ap₂, _∙_, subst, Bool, true, false, not, inl, inr, List, [], _∷_, _++_, List·Memᴰ, List·Memᴰ·head, List·Memᴰ·tail, List·Memᴰ·not-nil, ℕ, suc, _+_, _*_}
+use Rattle.model.specs.Kit.{_^_, _<_, lt-of-le-of-lt, arith, ℕ-discrete, T, eqb, eqb-refl, lit<, length, set, length-set, bitAnd, bitOr, and-le-l, or-lt, eq-eqb, ne-eqb}
+use Rattle.model.specs.Lists.{both, either, any, at, same, ascending}
+use Rattle.model.specs.{ValueSets.has, ValueSets.lowestOf, ValueSets.oneIf, Problem.Constraint, Search.supported, inner.Pruning.Sets}
+use Rattle.model.proofs.{Lists.T-of, Lists.of-T, Lists.of-not, Lists.any-i, Lists.any-e, Lists.among-i, Lists.among-e, Lists.same-eq, Lists.same-refl, Lists.Sorted, Lists.ascending-sorted}
+use Rattle.model.proofs.{Lists.at-set, Lists.at-set-other, Lists.set-at, Lists.both-true, Lists.both-false, Lists.at-small-1, Lists.at-small-2, Sets.has-lt, Sets.mask-i, Sets.mask-e, Sets.member}
+use Rattle.model.proofs.{Sets.set-sets, Masks.has-or, Masks.has-oneIf, Members.either-no, Members.rest-begin, Members.has-0, Members.and-i, Members.and-e, Members.lowest-left}
 use Rattle.arrays.specs.{inner.Places.DEAD, inner.Layout.place}
 use Rattle.prune_constraints.specs.{inner.Revised.revised, inner.Revised.Revision, inner.Steps.OneValue, inner.Steps.Together, inner.Steps.Supported2, inner.Steps.Together3}
 use Rattle.prune_constraints.specs.inner.Steps.{Supported3, Scoped, SetCut}
-use Rattle.prune_constraints.proofs.{Bits.one-small, Unions.single, Unions.supported3-none, Rows.RowIn, Rows.PairIn, Rows.alive, Rows.pair-has, Rows.supported-e}
-use Rattle.prune_constraints.proofs.Rows.{supported-i, supported-out, revised-is}
+use Rattle.prune_constraints.proofs.Rows.{RowIn, PairIn, alive, pair-has, supported-e, supported-i, supported-out, revised-is}
+use Rattle.prune_constraints.proofs.{Bits.one-small, Unions.single, Unions.supported3-none}
 
 -- ---- the sets that changed
 abbrev pub Moves : List ℕ → List ℕ → ℕ → Type 0

@@ -1,8 +1,8 @@
 -- The constraints, but those pruned by variable, that have one of some variables in their scope, as a number. Assumes nothing.
 use Rattle.model.specs.Kit.{_≡_, sym, subst, Bool, inl, inr, ⊎-elim, List, ℕ, _+_, _^_, _≤_, _<_, arith, bitOr, or-lt, T, length}
 use Rattle.model.specs.{Lists.any, Lists.at, Lists.both, Lists.below, ValueSets.has, ValueSets.maskBelow, Problem.Problem}
-use Rattle.model.proofs.{Lists.T-ext, Lists.both-i, Lists.both-l, Lists.both-r, Lists.any-i, Lists.any-e, Lists.below-i, Sets.has-lt, Sets.has-mask, Sets.mask-lt, Sets.mask-ext}
-use Rattle.model.proofs.Members.{or-i, or-e}
+use Rattle.model.proofs.Lists.{T-ext, both-i, both-l, both-r, any-i, any-e, below-i}
+use Rattle.model.proofs.{Sets.has-lt, Sets.has-mask, Sets.mask-lt, Sets.mask-ext, Members.or-i, Members.or-e}
 use Rattle.arrays.specs.{inner.Places.OTHERS, inner.Tables.Linked}
 use Rattle.prune_constraints.specs.inner.Steps.{Touched}
 

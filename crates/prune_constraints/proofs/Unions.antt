@@ -1,11 +1,10 @@
 -- The loops that run through the members of a set and unite what each of them gives. Assumes nothing.
-use Rattle.model.specs.Kit.{_≡_, refl, sym, ap, _∙_, subst, Bool, true, not, _⊎_, inl, inr, ⊎-elim, List, ℕ, _+_, _*_, _^_, _<_, lt-of-le-of-lt, arith, T, eqb, bitAnd}
-use Rattle.model.specs.Kit.{bitOr, trailingZeros, eqb-true, eq-eqb, ne-eqb}
-use lib.Bits.{and-le-r}
+use Rattle.model.specs.Kit.{_≡_, refl, sym, ap, _∙_, subst, Bool, true, not, _⊎_, inl, inr, ⊎-elim, List, ℕ, _+_, _*_, _^_, _<_, lt-of-le-of-lt, arith, T, eqb, bitAnd, bitOr, trailingZeros, eqb-true}
+use Rattle.model.specs.Kit.{eq-eqb, ne-eqb}
 use Rattle.model.specs.{Lists.at, ValueSets.has, ValueSets.maskOf, ValueSets.withoutMask, ValueSets.unionMask, ValueSets.lowestOf, ValueSets.oneIf}
-use Rattle.model.proofs.{Lists.T-of, Lists.both-i, Lists.both-l, Lists.both-r, Sets.has-lt, Sets.has-mask, Sets.mask-lt, Sets.member, Members.low-has, Members.rest-i, Members.without-lowest-op}
-use Rattle.model.proofs.Members.{Rest, rest-begin, has-0, Union, union-begin, union-end, lowest-left, others-left, others-union, and-i, and-e}
-use Rattle.model.proofs.Masks.{has-oneIf, lowest-op, union-op}
+use lib.Bits.{and-le-r}
+use Rattle.model.proofs.Members.{low-has, rest-i, without-lowest-op, Rest, rest-begin, has-0, Union, union-begin, union-end, lowest-left, others-left, others-union, and-i, and-e}
+use Rattle.model.proofs.{Lists.T-of, Lists.both-i, Lists.both-l, Lists.both-r, Sets.has-lt, Sets.has-mask, Sets.mask-lt, Sets.member, Masks.has-oneIf, Masks.lowest-op, Masks.union-op}
 use Rattle.arrays.specs.{inner.Places.OTHERS, inner.Tables.between}
 use Rattle.prune_constraints.specs.inner.Steps.{OneValue, Together, Supported2, Together3, Supported3, Touched}
 use Rattle.prune_constraints.specs.inner.Lanes.{FullLanes, LaneUnion, InLanes, InLane}

@@ -1,10 +1,10 @@
 -- The loop of `arcs`: what holds before each turn, one turn, and both ends. Assumes nothing.
-use Rattle.model.specs.Kit.{_≡_, refl, sym, ap, _∙_, subst, false, _⊎_, inl, inr, ⊎-elim, List, ℕ, _+_, _-_, _*_, _^_, _≤_, _<_, lt-of-le-of-lt, arith, decLt, T, bitAnd, bitOr}
-use Rattle.model.specs.Kit.{and-le-l, or-lt, trailingZeros}
-use lib.Bits.{or-zero-r}
+use Rattle.model.specs.Kit.{_≡_, refl, sym, ap, _∙_, subst, false, _⊎_, inl, inr, ⊎-elim, List, ℕ, _+_, _-_, _*_, _^_, _≤_, _<_, lt-of-le-of-lt, arith, decLt, T, bitAnd, bitOr, and-le-l, or-lt}
+use Rattle.model.specs.Kit.{trailingZeros}
 use Rattle.model.specs.{Lists.at, ValueSets.has, ValueSets.Inside, Problem.Problem}
-use Rattle.model.proofs.{Lists.T-dec, Lists.not-of, Lists.of-not, Sets.has-none, Sets.mask-ext, Sets.inside-antisym, Sets.size, Sets.size-strict, Members.has-0, Members.or-i}
-use Rattle.model.proofs.{Members.or-e, Members.low-has, Members.rest-e, Members.rest-i, Members.rest-less, Firsts.take-e, Firsts.take-i, Prunes.prunes-none, Prunes.prunes-then}
+use lib.Bits.{or-zero-r}
+use Rattle.model.proofs.{Lists.T-dec, Lists.not-of, Lists.of-not, Sets.has-none, Sets.mask-ext, Sets.inside-antisym, Sets.size, Sets.size-strict, Members.has-0, Members.or-i, Members.or-e}
+use Rattle.model.proofs.{Members.low-has, Members.rest-e, Members.rest-i, Members.rest-less, Firsts.take-e, Firsts.take-i, Prunes.prunes-none, Prunes.prunes-then}
 use Rattle.arrays.specs.{inner.Places.DEAD, inner.Places.LOOSE, inner.Pruning.Given, inner.Pruning.Lessened, inner.Pruning.Arc, inner.Pruning.setsOf}
 use Rattle.prune_pairs.specs.{inner.Links.ArcsPending, inner.Links.Settled, inner.Links.ArcsMade, inner.Steps.CanCut, inner.Steps.CutBy}
 use Rattle.prune_pairs.proofs.{Cuts.is-dead, Settled.settled-goes, Settled.settled-stays}

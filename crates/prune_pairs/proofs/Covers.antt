@@ -1,9 +1,9 @@
 -- The loops over sixteen sets that make the cover of a variable's set, and that compare sets with it. Assumes nothing.
-use Rattle.model.specs.Kit.{_≡_, refl, sym, ap, _∙_, subst, false, not, _⊎_, inl, inr, ⊎-elim, List, ℕ, _+_, _-_, _*_, _^_, _≤_, _<_, arith, ℕ-discrete, decLt, T, eqb, length, set}
-use Rattle.model.specs.Kit.{replicate, take, drop, length-drop, getD-take, getD-drop, length-take-le, bitAnd, bitOr, or-lt, eqb-true, not-false}
+use Rattle.model.specs.Kit.{_≡_, refl, sym, ap, _∙_, subst, false, not, _⊎_, inl, inr, ⊎-elim, List, ℕ, _+_, _-_, _*_, _^_, _≤_, _<_, arith, ℕ-discrete, decLt, T, eqb, length, set, replicate, take}
+use Rattle.model.specs.Kit.{drop, length-drop, getD-take, getD-drop, length-take-le, bitAnd, bitOr, or-lt, eqb-true, not-false}
 use Rattle.model.specs.{Lists.at, ValueSets.has, ValueSets.withoutMask, ValueSets.lowestOf, inner.Pruning.Sets}
-use Rattle.model.proofs.{Lists.T-of, Lists.T-dec, Lists.not-of, Lists.at-out, Lists.at-set, Lists.at-set-other, Lists.at-replicate, Sets.has-lt, Sets.set-sets, Masks.has-not}
 use Rattle.model.proofs.Members.{has-0, or-i, and-i, Rest, rest-begin, Union, union-begin, union-end, others-left, others-union}
+use Rattle.model.proofs.{Lists.T-of, Lists.T-dec, Lists.not-of, Lists.at-out, Lists.at-set, Lists.at-set-other, Lists.at-replicate, Sets.has-lt, Sets.set-sets, Masks.has-not}
 use Rattle.prune_pairs.specs.inner.Steps.{Narrow, Goes, Added, Cover, Covered}
 
 -- ---- sixteen sets of the tables are added to the cover, y of them so far

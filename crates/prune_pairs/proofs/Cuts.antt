@@ -1,6 +1,6 @@
 -- The loop that cuts the first twelve sets down to the cover, the last first. Assumes nothing.
-use Rattle.model.specs.Kit.{_≡_, refl, sym, ap, _∙_, subst, false, _⊎_, inl, inr, List, ℕ, _-_, _*_, _%_, _^_, _≤_, _<_, arith, ℕ-discrete, decLt, T, eqb, eqb→eq, eqb-refl, length}
-use Rattle.model.specs.Kit.{set, length-set, bitAnd, bitOr}
+use Rattle.model.specs.Kit.{_≡_, refl, sym, ap, _∙_, subst, false, _⊎_, inl, inr, List, ℕ, _-_, _*_, _%_, _^_, _≤_, _<_, arith, ℕ-discrete, decLt, T, eqb, eqb→eq, eqb-refl, length, set, length-set}
+use Rattle.model.specs.Kit.{bitAnd, bitOr}
 use Rattle.model.specs.{Lists.at, ValueSets.has}
 use Rattle.model.proofs.{Lists.T-dec, Lists.not-of, Lists.of-not, Lists.at-set, Lists.at-set-other, Members.has-0, Members.or-i, Members.or-e, Members.one-has}
 use Rattle.arrays.specs.inner.Places.{DEAD}

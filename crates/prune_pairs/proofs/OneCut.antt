@@ -1,16 +1,14 @@
 -- One cut by the set of a variable: the values that go are no loss, and those that stay go together with a value of that set. Assumes nothing.
-use Rattle.model.specs.Kit.{_≡_, refl, sym, _∙_, subst, Bool, true, false, _⊎_, inl, inr, ⊎-elim, List, ℕ, _+_, _*_, _/_, _^_, _≤_, _<_, lt-of-le-of-lt, arith, ℕ-discrete, decLt}
-use Rattle.model.specs.Kit.{T, length, bitAnd, and-le-l, eq-eqb}
+use Rattle.model.specs.Kit.{_≡_, refl, sym, _∙_, subst, Bool, true, false, _⊎_, inl, inr, ⊎-elim, List, ℕ, _+_, _*_, _/_, _^_, _≤_, _<_, lt-of-le-of-lt, arith, ℕ-discrete, decLt, T, length, bitAnd}
+use Rattle.model.specs.Kit.{and-le-l, eq-eqb}
 use Rattle.model.specs.{Lists.at, Lists.tabulate, ValueSets.has, ValueSets.withoutMask, ValueSets.lowestOf, ValueSets.Inside, Problem.Problem, inner.Pruning.Sets}
 use Rattle.model.specs.inner.Pruning.{Prunes}
-use Rattle.model.proofs.{Lists.T-of, Lists.T-ext, Lists.either-e, Lists.at-out, Lists.at-ext, Lists.at-tabulate, Lists.length-tabulate, Sets.has-lt, Sets.has-at-lt, Sets.mask-lt}
-use Rattle.model.proofs.{Sets.mask-ext, Sets.member, Sets.empty-i, Masks.contains-op, Members.has-0, Members.and-i, Members.and-e, Members.rest-begin, Members.lowest-left}
-use Rattle.model.proofs.{Lowest.without-i, Lowest.without-e, Firsts.take-length, Firsts.take-at, Firsts.take-e, Firsts.take-i, Firsts.take-full, Firsts.full-take, Prune.Removal}
-use Rattle.model.proofs.Prunes.{prunes-none, removal-prunes}
+use Rattle.model.proofs.{Lists.T-of, Lists.T-ext, Lists.either-e, Lists.at-out, Lists.at-ext, Lists.at-tabulate, Lists.length-tabulate, Sets.has-lt, Sets.has-at-lt, Sets.mask-lt, Sets.mask-ext}
+use Rattle.model.proofs.{Sets.member, Sets.empty-i, Masks.contains-op, Members.has-0, Members.and-i, Members.and-e, Members.rest-begin, Members.lowest-left, Lowest.without-i, Lowest.without-e}
+use Rattle.model.proofs.{Firsts.take-length, Firsts.take-at, Firsts.take-e, Firsts.take-i, Firsts.take-full, Firsts.full-take, Prune.Removal, Prunes.prunes-none, Prunes.removal-prunes}
 use Rattle.arrays.specs.{inner.Places.DEAD, inner.Tables.goes, inner.Pruning.Lessened, inner.Pruning.Ended, inner.Pruning.Arc, inner.Pruning.setsOf}
 use Rattle.prune_pairs.specs.inner.Steps.{Narrow, Cover, Covered, Spared, CutToCover, CanCut, CutBy}
-use Rattle.prune_pairs.proofs.{Covers.narrow-at, Covers.row, Covers.row-cover, Partners.goes-free, Partners.goes-kept, Partners.row-goes-e, Partners.row-goes-i}
-use Rattle.prune_pairs.proofs.Partners.{narrow}
+use Rattle.prune_pairs.proofs.{Covers.narrow-at, Covers.row, Covers.row-cover, Partners.goes-free, Partners.goes-kept, Partners.row-goes-e, Partners.row-goes-i, Partners.narrow}
 
 pub bit-in : (s v : ℕ) → bitAnd (s / 2 ^ v) 1 ≡ 1 → T (has s v)
 bit-in s v e = T-of (has s v) (sym (contains-op s v) ∙ eq-eqb (bitAnd (s / 2 ^ v) 1) 1 e)

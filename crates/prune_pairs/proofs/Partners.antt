@@ -1,11 +1,10 @@
 -- Values that go together: where there is no constraint all do, and a value that one round keeps goes together with a value of every other
 -- variable. The tables say so too. Assumes nothing.
-use Rattle.model.specs.Kit.{_≡_, refl, sym, ap, subst, Bool, true, false, _⊎_, inl, inr, ⊎-elim, List, [], _∷_, List·Memᴰ, List·Memᴰ·head, List·Memᴰ·tail, ℕ, _+_, _*_, _/_, _%_}
-use Rattle.model.specs.Kit.{_^_, _≤_, _<_, arith, decLt, T, eqb, ltb, leb, eqb→eq, eqb-refl, length, ltb-true, ltb-false}
+use Rattle.model.specs.Kit.{_≡_, refl, sym, ap, subst, Bool, true, false, _⊎_, inl, inr, ⊎-elim, List, [], _∷_, List·Memᴰ, List·Memᴰ·head, List·Memᴰ·tail, ℕ, _+_, _*_, _/_, _%_, _^_, _≤_, _<_, arith}
+use Rattle.model.specs.Kit.{decLt, T, eqb, ltb, leb, eqb→eq, eqb-refl, length, ltb-true, ltb-false}
 use Rattle.model.specs.{Lists.both, Lists.any, Lists.at, Lists.same, ValueSets.has, Problem.Problem, Problem.Constraint, Problem.constraintAt, Search.rowWith, Search.supported}
 use Rattle.model.specs.inner.WellFormed.{WellFormed}
-use Rattle.model.proofs.{Lists.of-T, Lists.both-l, Lists.both-r, Lists.either-r, Lists.any-i, Lists.any-e, Lists.same-refl, Sets.mask-i, Sets.mask-e, Sets.mask-lt}
-use Rattle.model.proofs.Prune.{supported-e}
+use Rattle.model.proofs.{Lists.of-T, Lists.both-l, Lists.both-r, Lists.either-r, Lists.any-i, Lists.any-e, Lists.same-refl, Sets.mask-i, Sets.mask-e, Sets.mask-lt, Prune.supported-e}
 use Rattle.arrays.specs.inner.Tables.{linkOf, allowed, goes, Rows}
 use Rattle.arrays.proofs.Links.{is-one, good, scope-order, link-scope, allowed-none}
 use Rattle.prune_pairs.specs.inner.Steps.{Narrow, Goes}

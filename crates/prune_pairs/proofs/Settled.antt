@@ -1,8 +1,8 @@
 -- A settled variable, whose set has one value, loses nothing: what others keep goes together with that value, and a cut that leaves no set empty leaves it
 -- as it is. Assumes nothing.
 use Rattle.model.specs.Kit.{_≡_, sym, subst, false, List, ℕ, _≤_, _<_, arith, decLt, T}
-use native.Mathlib.Nat.{le-of-lt}
 use Rattle.model.specs.{Lists.at, ValueSets.has, Problem.Problem, inner.Pruning.Sets}
+use native.Mathlib.Nat.{le-of-lt}
 use Rattle.model.proofs.{Lists.T-ext, Lists.not-of, Sets.mask-ext, Sets.member, Firsts.take-e, Firsts.take-i, Firsts.full-take}
 use Rattle.arrays.specs.{inner.Tables.goes, inner.Pruning.Lessened, inner.Pruning.Arc, inner.Pruning.setsOf}
 use Rattle.arrays.proofs.Links.{goes-up, goes-down}

@@ -1,8 +1,8 @@
 -- The two loops over the table's sixteen sets of a level: what each turn does. Assumes nothing.
-use Rattle.model.specs.Kit.{_≡_, refl, sym, ap, _∙_, subst, Bool, true, false, not, List, ℕ, _+_, _-_, _^_, _≤_, _<_, ℕ-discrete, arith, bitAnd, bitOr, T, eqb, length, set}
-use Rattle.model.specs.Kit.{length-set, eqb-true, eqb-false}
-use mathlib.Core.Bool.{_||_}
+use Rattle.model.specs.Kit.{_≡_, refl, sym, ap, _∙_, subst, Bool, true, false, not, List, ℕ, _+_, _-_, _^_, _≤_, _<_, ℕ-discrete, arith, bitAnd, bitOr, T, eqb, length, set, length-set, eqb-true}
+use Rattle.model.specs.Kit.{eqb-false}
 use Rattle.model.specs.Lists.{at}
+use mathlib.Core.Bool.{_||_}
 use Rattle.model.proofs.{Lists.at-set, Lists.at-set-other, Lists.set-each, Members.or-zero-e}
 use Rattle.prune_symmetries.specs.inner.Levels.{Missed, Taken}
 

@@ -1,10 +1,10 @@
 -- First parts of a list that are passed, one after another. Assumes nothing.
 use Rattle.model.specs.Kit.{_≡_, refl, sym, ap, _∙_, subst, List, [], _∷_, _++_, append-assoc, List·Memᴰ·head, Memᴰ·append-left, ℕ, _<_, T, eqb, length, take}
-use mathlib.Core.List.{Memᴰ·append-right}
 use Rattle.model.specs.{Lists.at, Lists.any, ValueSets.has, ValueSets.withoutMask, ValueSets.onlyMask, Nogood.Entry, Nogood.equality}
+use mathlib.Core.List.{Memᴰ·append-right}
 use Rattle.model.proofs.Sets.{inside-refl, inside-trans}
-use Rattle.filter.specs.{declared.entry.Step.Step, declared.entry.Step.the-variants.Next, declared.entry.Step.the-variants.Obeyed, inner.Scan.stepOf, inner.Scan.keepStep}
-use Rattle.filter.specs.{inner.Scan.Right, inner.Scan.None, inner.Scan.Live, inner.Scan.Passed, Marks.Vacuous}
+use Rattle.filter.specs.inner.Scan.{stepOf, keepStep, Right, None, Live, Passed}
+use Rattle.filter.specs.{declared.entry.Step.Step, declared.entry.Step.the-variants.Next, declared.entry.Step.the-variants.Obeyed, Marks.Vacuous}
 use Rattle.filter.proofs.Marks.{vacuous-append, for-good-append, vacuous-mono, vacuous-next, gone-step, for-good-equality, obeying-vacuous, obeying-for-good}
 use Rattle.prune_symmetries.specs.inner.Levels.{CutsMade, CutsObeyed, NoneObeys}
 use Rattle.filter.proofs.Front

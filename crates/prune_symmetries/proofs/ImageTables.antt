@@ -1,9 +1,8 @@
 -- The cuts that the table's sets make are the level's disequalities. Assumes nothing.
-use Rattle.model.specs.Kit.{_≡_, refl, sym, ap, ap₂, _∙_, subst, Bool, true, false, not, List, [], _∷_, _++_, map, List·Memᴰ, List·Memᴰ·head, List·Memᴰ·tail, List·Memᴰ·not-nil, ℕ}
-use Rattle.model.specs.Kit.{_+_, _-_, _*_, _/_, _%_, _^_, _≤_, _<_, lt-of-lt-of-le, lt-of-le-of-lt, decLt, arith, and-le-l, T, eqb, ltb, eqb→eq, length, take, getD, length-take-le}
-use Rattle.model.specs.Kit.{eq-eqb}
-use Rattle.model.specs.{Lists.at, Lists.any, Lists.both, ValueSets.has, ValueSets.members, ValueSets.Inside, Problem.Problem, Problem.pair, Problem.symmetryAt, Nogood.Entry}
-use Rattle.model.specs.{Nogood.is, Nogood.obeysFrom, Nogood.obeys, inner.WellFormed.GoodSymmetry}
+use Rattle.model.specs.Kit.{_≡_, refl, sym, ap, ap₂, _∙_, subst, Bool, true, false, not, List, [], _∷_, _++_, map, List·Memᴰ, List·Memᴰ·head, List·Memᴰ·tail, List·Memᴰ·not-nil, ℕ, _+_, _-_, _*_, _/_}
+use Rattle.model.specs.Kit.{_%_, _^_, _≤_, _<_, lt-of-lt-of-le, lt-of-le-of-lt, decLt, arith, and-le-l, T, eqb, ltb, eqb→eq, length, take, getD, length-take-le, eq-eqb}
+use Rattle.model.specs.Nogood.{Entry, is, obeysFrom, obeys}
+use Rattle.model.specs.{Lists.at, Lists.any, Lists.both, ValueSets.has, ValueSets.members, ValueSets.Inside, Problem.Problem, Problem.pair, Problem.symmetryAt, inner.WellFormed.GoodSymmetry}
 use Rattle.model.proofs.Lists.{T-of, not-of, of-not, of-T, T-ext, both-i, both-l, both-r, any-i, any-e, keep-e, getD-at, at-out, at-take, mem-getD, both-less}
 use Rattle.model.proofs.{Sets.has-none, Sets.has-lt, Sets.has-at-lt, Sets.mask-i, Sets.mask-e, Sets.mask-lt, Sets.mask-ext, Sets.members-e, Masks.has-and, Masks.has-not}
 use Rattle.arrays.specs.inner.Tables.{imageOf, smaller}

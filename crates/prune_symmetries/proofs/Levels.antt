@@ -1,9 +1,9 @@
 -- The levels that the tables hold are the nogoods of the symmetry at the prefix. Assumes nothing.
-use Rattle.model.specs.Kit.{_≡_, sym, ap, ap₂, _∙_, List, [], _∷_, _++_, map, append-nil, append-assoc, ℕ, suc, _+_, _-_, _*_, _/_, _%_, _≤_, _<_, lt-of-lt-of-le, arith, length}
-use Rattle.model.specs.Kit.{take, length-take-le, getD-take}
+use Rattle.model.specs.Kit.{_≡_, sym, ap, ap₂, _∙_, List, [], _∷_, _++_, map, append-nil, append-assoc, ℕ, suc, _+_, _-_, _*_, _/_, _%_, _≤_, _<_, lt-of-lt-of-le, arith, length, take, length-take-le}
+use Rattle.model.specs.Kit.{getD-take}
+use Rattle.model.specs.Lists.{at, flat, below, upFrom}
+use Rattle.model.specs.{Problem.Problem, Problem.pair, Problem.symmetryAt, Nogood.Entry, Nogood.equality, Nogood.disequality, Search.entriesAt, Search.nogoodsOf, inner.WellFormed.WellFormed}
 use native.Mathlib.Nat.{mod-lt}
-use Rattle.model.specs.{Lists.at, Lists.flat, Lists.below, Lists.upFrom, Problem.Problem, Problem.pair, Problem.symmetryAt, Nogood.Entry, Nogood.equality, Nogood.disequality}
-use Rattle.model.specs.{Search.entriesAt, Search.nogoodsOf, inner.WellFormed.WellFormed}
 use Rattle.model.proofs.Lists.{map-ext, map-append, flat-append, below-e, upFrom-add}
 use Rattle.arrays.specs.inner.Tables.{imageOf}
 use Rattle.prune_symmetries.specs.inner.Levels.{cutOf, keepOf, lower, cuts, levelOf, levels, ownAt}

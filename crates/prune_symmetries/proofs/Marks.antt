@@ -1,9 +1,8 @@
 -- The laws of marks: 0 is one at every prefix, and they stay as the sets shrink and the prefix grows; nogoods that are not due take nothing. Assumes nothing.
-use Rattle.model.specs.Kit.{_≡_, refl, sym, subst, Bool, true, false, List, [], _∷_, _++_, ℕ, _*_, _%_, _≤_, arith, eqb, ltb, length, take, length-append, ne-eqb, ltb-true}
-use Rattle.model.specs.Kit.{ltb-false}
+use Rattle.model.specs.Kit.{_≡_, refl, sym, subst, Bool, true, false, List, [], _∷_, _++_, ℕ, _*_, _%_, _≤_, arith, eqb, ltb, length, take, length-append, ne-eqb, ltb-true, ltb-false}
+use Rattle.model.specs.{Lists.flat, Lists.upFrom, Lists.below, ValueSets.anyEmpty, ValueSets.Inside, Problem.Problem, Problem.symmetryAt, Nogood.Entry, Nogood.obeysFrom, Nogood.filtered}
+use Rattle.model.specs.{NogoodClaims.Entails, Search.nogoodsOf, inner.Pruning.Sets}
 use lib.Seq.{take-append-le}
-use Rattle.model.specs.{Lists.flat, Lists.upFrom, Lists.below, ValueSets.anyEmpty, ValueSets.Inside, Problem.Problem, Problem.symmetryAt, Nogood.Entry, Nogood.obeysFrom}
-use Rattle.model.specs.{Nogood.filtered, NogoodClaims.Entails, Search.nogoodsOf, inner.Pruning.Sets}
 use Rattle.model.proofs.{Tree.nogoods-append, Endings.entails-mono}
 use Rattle.arrays.specs.inner.Places.{ENTAILED, OBEYED}
 use Rattle.filter.specs.Marks.{Vacuous, Skippable}

@@ -1,18 +1,18 @@
 -- What the passes and the split leave is what the filter leaves, and the answer is a mark. Assumes nothing.
-use Rattle.model.specs.Kit.{_≡_, refl, sym, ap, _∙_, subst, Bool, List, [], _++_, append-nil, append-assoc, List·Memᴰ, _⊎_, inl, inr, ℕ, _+_, _*_, _%_, _≤_, _<_, arith, length}
-use Rattle.model.specs.Kit.{take, length-take-le, ne-eqb}
+use Rattle.model.specs.Kit.{_≡_, refl, sym, ap, _∙_, subst, Bool, List, [], _++_, append-nil, append-assoc, List·Memᴰ, _⊎_, inl, inr, ℕ, _+_, _*_, _%_, _≤_, _<_, arith, length, take, length-take-le}
+use Rattle.model.specs.Kit.{ne-eqb}
+use Rattle.model.specs.Nogood.{Entry, equality, filtered, entailed, filterEnding}
+use Rattle.model.specs.{Lists.at, ValueSets.anyEmpty, Problem.Problem, Problem.symmetryAt, NogoodClaims.Entails, Search.nogoodsOf}
 use mathlib.Core.List.{Memᴰ·append-right}
 use lib.Seq.{take-take}
-use Rattle.model.specs.{Lists.at, ValueSets.anyEmpty, Problem.Problem, Problem.symmetryAt, Nogood.Entry, Nogood.equality, Nogood.filtered, Nogood.entailed, Nogood.filterEnding}
-use Rattle.model.specs.{NogoodClaims.Entails, Search.nogoodsOf}
 use Rattle.model.proofs.{Lists.not-of, Lists.of-T, Sets.empty-e, Endings.entailed-exactly}
 use Rattle.arrays.specs.inner.Places.{ENTAILED, OBEYED, FAILED}
 use Rattle.filter.specs.{inner.Scan.None, inner.Scan.Passed, inner.Scan.Remainder, Marks.Vacuous, Marks.NamesGone, Marks.Skippable}
 use Rattle.filter.proofs.{Marks.vacuous-mono, Marks.vacuous-append, Endings.none-failed, Endings.passed-ending, Endings.ended-entailed}
-use Rattle.prune_symmetries.specs.inner.Levels.{MarkBy, Mark, endingAt, FilterRequires, leaves, FilterEnsures, cuts, levels, CutsMade, CutsObeyed, NoneObeys, Ready}
-use Rattle.prune_symmetries.specs.inner.Levels.{splitEntries, SplitReached, PassResult, passFailed, passObeyed, passEnded, passSplit, SplitResult}
-use Rattle.prune_symmetries.proofs.{Levels.levels-append, Levels.levels-split, Levels.nogoods-are, Splits.short, Splits.at-obeyed, Splits.at-entailed, CutsMade.from-as}
-use Rattle.prune_symmetries.proofs.CutsMade.{same-length, vacuous-made, made-on, obeyed-on, none-on}
+use Rattle.prune_symmetries.specs.inner.Levels.{MarkBy, Mark, endingAt, FilterRequires, leaves, FilterEnsures, cuts, levels, CutsMade, CutsObeyed, NoneObeys, Ready, splitEntries, SplitReached}
+use Rattle.prune_symmetries.specs.inner.Levels.{PassResult, passFailed, passObeyed, passEnded, passSplit, SplitResult}
+use Rattle.prune_symmetries.proofs.CutsMade.{from-as, same-length, vacuous-made, made-on, obeyed-on, none-on}
+use Rattle.prune_symmetries.proofs.{Levels.levels-append, Levels.levels-split, Levels.nogoods-are, Splits.short, Splits.at-obeyed, Splits.at-entailed}
 use Rattle.filter.proofs.Front
 
 module _ {p : Problem} {sets work tables : List ℕ} {e k start : ℕ} (w : FilterRequires p sets work tables e k start) where

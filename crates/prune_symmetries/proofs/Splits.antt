@@ -1,15 +1,15 @@
 -- The level at which a pass stops, its own pair being one that some assignments have and some have not. Assumes nothing.
-use Rattle.model.specs.Kit.{_≡_, refl, sym, ap, ap₂, _∙_, subst, Bool, true, false, not, List, [], append-nil, List·Memᴰ·head, _⊎_, inl, inr, ℕ, _+_, _*_, _/_, _%_, _≤_, _<_}
-use Rattle.model.specs.Kit.{decLt, arith, T, take, ne-eqb, le-leb, lt-leb}
-use Rattle.model.specs.{Lists.at, Lists.choose, ValueSets.has, ValueSets.withoutMask, Problem.Problem, Nogood.Entry, Nogood.disequality, Nogood.failed, Nogood.entailed}
-use Rattle.model.specs.Nogood.{consistent, endingBy, everyObeys, filterEnding}
+use Rattle.model.specs.Kit.{_≡_, refl, sym, ap, ap₂, _∙_, subst, Bool, true, false, not, List, [], append-nil, List·Memᴰ·head, _⊎_, inl, inr, ℕ, _+_, _*_, _/_, _%_, _≤_, _<_, decLt, arith, T, take}
+use Rattle.model.specs.Kit.{ne-eqb, le-leb, lt-leb}
+use Rattle.model.specs.Nogood.{Entry, disequality, failed, entailed, consistent, endingBy, everyObeys, filterEnding}
+use Rattle.model.specs.{Lists.at, Lists.choose, ValueSets.has, ValueSets.withoutMask, Problem.Problem}
 use Rattle.model.proofs.{Lists.at-set, Lists.at-take, Sets.inside-refl}
 use Rattle.arrays.specs.inner.Places.{ENTAILED, OBEYED, FAILED}
-use Rattle.filter.specs.{declared.entry.Step.Step, inner.Scan.after, inner.Scan.Right, inner.Scan.Stepped, inner.Scan.None, inner.Scan.Some, inner.Scan.Live, inner.Scan.Passed}
-use Rattle.filter.specs.{inner.Scan.Remainder, inner.Scan.Changed, Marks.NamesGone}
+use Rattle.filter.specs.inner.Scan.{after, Right, Stepped, None, Some, Live, Passed, Remainder, Changed}
+use Rattle.filter.specs.{declared.entry.Step.Step, Marks.NamesGone}
 use Rattle.filter.proofs.Endings.{every-passed, every-changed, ended-every, unchanged, changed-front, front-consistent, front-remainder, kept-ending, gone-entailed}
-use Rattle.prune_symmetries.specs.inner.Levels.{imageAt, endingAt, cutOf, keepOf, levels, ownAt, Held, Ready, AtSplit, SplitReached, splitEntries, PassResult, passFailed}
-use Rattle.prune_symmetries.specs.inner.Levels.{passObeyed, passEnded, passSplit, forcedBy, SplitResult}
+use Rattle.prune_symmetries.specs.inner.Levels.{imageAt, endingAt, cutOf, keepOf, levels, ownAt, Held, Ready, AtSplit, SplitReached, splitEntries, PassResult, passFailed, passObeyed, passEnded}
+use Rattle.prune_symmetries.specs.inner.Levels.{passSplit, forcedBy, SplitResult}
 use Rattle.prune_symmetries.proofs.{Levels.levels-split, CutsMade.from-as, ImageTables.image-inside, ImageTables.image-asks, ImageTables.image-is}
 use Rattle.filter.proofs.Scan
 use Rattle.filter.proofs.Front

@@ -1,15 +1,14 @@
 -- The scan of a level and of the levels of a prefix: what each turn does, and what its end says. Assumes nothing.
 use Rattle.model.specs.Kit.{_≡_, refl, sym, ap, _∙_, subst, Bool, true, false, List, [], _∷_, _++_, ℕ, _+_, _*_, _/_, _%_, _≤_, _<_, arith, T, take}
 use Rattle.model.specs.{Lists.at, Problem.Problem, Nogood.Entry}
-use Rattle.filter.specs.{declared.entry.Step.Step, declared.entry.Step.the-variants.Next, declared.entry.Step.the-variants.Failed, declared.entry.Step.the-variants.Obeyed}
-use Rattle.filter.specs.{declared.entry.Step.the-variants.Split, inner.Scan.Right, inner.Scan.Stepped}
+use Rattle.filter.specs.declared.entry.Step.the-variants.{Next, Failed, Obeyed, Split}
+use Rattle.filter.specs.{declared.entry.Step.Step, inner.Scan.Right, inner.Scan.Stepped}
 use Rattle.filter.proofs.Marks.{vacuous-nil, vacuous-mono}
 use Rattle.arrays.specs.{inner.Places.ENTAILED, inner.Places.OBEYED, inner.Places.FAILED, inner.Tables.imageOf}
-use Rattle.prune_symmetries.specs.inner.Levels.{imageAt, keepOf, cuts, levelOf, levels, CutsMade, CutsObeyed, NoneObeys, Held, Level, CutResult, LevelResult, Ready}
-use Rattle.prune_symmetries.specs.inner.Levels.{PassResult, passFailed, passObeyed, passEnded, passSplit}
-use Rattle.prune_symmetries.proofs.{Levels.levels-none, Levels.levels-append, Levels.levels-one, CutsMade.same-length, CutsMade.vacuous-made, CutsMade.equality-next}
-use Rattle.prune_symmetries.proofs.CutsMade.{equality-obeyed, made-live, made-on, obeyed-on, none-on, obeyed-more, none-more}
-use Rattle.prune_symmetries.proofs.ImageTables.{image-inside, image-is}
+use Rattle.prune_symmetries.specs.inner.Levels.{imageAt, keepOf, cuts, levelOf, levels, CutsMade, CutsObeyed, NoneObeys, Held, Level, CutResult, LevelResult, Ready, PassResult, passFailed}
+use Rattle.prune_symmetries.specs.inner.Levels.{passObeyed, passEnded, passSplit}
+use Rattle.prune_symmetries.proofs.CutsMade.{same-length, vacuous-made, equality-next, equality-obeyed, made-live, made-on, obeyed-on, none-on, obeyed-more, none-more}
+use Rattle.prune_symmetries.proofs.{Levels.levels-none, Levels.levels-append, Levels.levels-one, ImageTables.image-inside, ImageTables.image-is}
 use Rattle.filter.proofs.Front
 
 -- ---- a level: its cuts, then its own pair

@@ -1,9 +1,9 @@
 -- Decimal digits: the last digit, and how many there are. Laws of `digits`. Assumes nothing.
-use Rattle.model.specs.Kit.{_≡_, refl, sym, ap, _∙_, subst, _⊎_, inl, inr, ⊎-elim, Bool, true, false, List, [], _∷_, _++_, ℕ, zero, suc, _+_, _/_, _%_, _^_, _≤_, _<_, arith}
-use Rattle.model.specs.Kit.{lt-ltb, le-ltb, ltb-true, ltb-false, ltb, length, length-append}
+use Rattle.model.specs.Kit.{_≡_, refl, sym, ap, _∙_, subst, _⊎_, inl, inr, ⊎-elim, Bool, true, false, List, [], _∷_, _++_, ℕ, zero, suc, _+_, _/_, _%_, _^_, _≤_, _<_, arith, lt-ltb, le-ltb, ltb-true}
+use Rattle.model.specs.Kit.{ltb-false, ltb, length, length-append}
+use Rattle.model.specs.Written.{Written}
 use native.Mathlib.Nat.{pow-succ'}
 use Rattle.report.specs.Report.{digits, decimal}
-use Rattle.model.specs.Written.{Written}
 use Rattle.model.proofs.Written.{written-then}
 
 pub below-ten : (n : ℕ) → (n < 10) ⊎ (10 ≤ n)

@@ -1,10 +1,10 @@
 -- Fields, lines and the lines of the listed plans, put one after the other. Assumes nothing.
-use Rattle.model.specs.Kit.{_≡_, refl, sym, ap, ap₂, _∙_, subst, List, [], _∷_, _++_, map, append-assoc, append-nil, ℕ, zero, suc, _+_, _*_, _-_, _≤_, _<_, suc-mul}
-use Rattle.model.specs.Kit.{mul-le-mul-right, add-one, arith, length, take, drop, getD, length-append, take-append-drop, take-all}
+use Rattle.model.specs.Kit.{_≡_, refl, sym, ap, ap₂, _∙_, subst, List, [], _∷_, _++_, map, append-assoc, append-nil, ℕ, zero, suc, _+_, _*_, _-_, _≤_, _<_, suc-mul, mul-le-mul-right, add-one, arith}
+use Rattle.model.specs.Kit.{length, take, drop, getD, length-append, take-append-drop, take-all}
+use Rattle.model.specs.{Lists.flat, Run.Ending, Run.plansIn, Run.listedPlans, Written.Written, Written.Fronted}
 use mathlib.Core.List.{map-append}
 use native.Mathlib.Nat.{zero-mul, mul-le-mul-left, add-comm, add-zero, add-sub-cancel-left}
 use lib.Seq.{take-suc, take-add, drop-drop, take-append-seam}
-use Rattle.model.specs.{Lists.flat, Run.Ending, Run.plansIn, Run.listedPlans, Written.Written, Written.Fronted}
 use Rattle.report.specs.{Report.decimal, Report.line, Report.planWord, Report.figureLine, Report.endingLine, Report.resultText, inner.Text.field, inner.Text.fields}
 use Rattle.report.specs.inner.Text.{planLines, endedText, room, Fitted}
 use Rattle.families_figure.specs.Figure.{Figure, dash}

@@ -1,7 +1,6 @@
 -- The text of the report, as bytes (paper 01, "The report"); its last figure is the number of families (paper 02, #104).
 use Rattle.model.specs.Kit.{true, false, List, [], _∷_, _++_, map, ℕ, zero, suc, _+_, _*_, _/_, _%_, take, ltb}
-use Rattle.model.specs.{Lists.flat, Verdict.Verdict, Verdict.accepted, Verdict.refused, Sheet.verdictOf, Sheet.problemOf, Run.Ending, Run.finished, Run.spent, Run.full, Run.Result}
-use Rattle.model.specs.Run.{resultOf}
+use Rattle.model.specs.{Lists.flat, Verdict.Verdict, Verdict.accepted, Verdict.refused, Sheet.verdictOf, Sheet.problemOf, Run.Ending, Run.finished, Run.spent, Run.full, Run.Result, Run.resultOf}
 use Rattle.families_figure.specs.Figure.{Figure, number, dash, reportFigure}
 
 -- the limit of a report's run, and the plans that it has room for

@@ -1,7 +1,7 @@
 -- What a run that counted up to one plan less than are asked for says. Assumes nothing.
 use Rattle.model.specs.Kit.{_≡_, refl, sym, ap, _∙_, Bool, true, false, List, ℕ, zero, suc, _*_, _-_, _≤_, arith, leb, length}
-use Rattle.model.specs.{Problem.Problem, Search.nodes, Verdict.Verdict, Verdict.accepted, Verdict.refused, Verdict.reply, Sheet.problemOf, Run.Ending, Run.finished, Run.spent}
-use Rattle.model.specs.{Run.full, Run.ended, Run.resultOf, Claims.plansAmong}
+use Rattle.model.specs.Run.{Ending, finished, spent, full, ended, resultOf}
+use Rattle.model.specs.{Problem.Problem, Search.nodes, Verdict.Verdict, Verdict.accepted, Verdict.refused, Verdict.reply, Sheet.problemOf, Claims.plansAmong}
 use Rattle.run_input.specs.Lent.{verdictLent, problemLent}
 use Rattle.run_input.proofs.Lent.{well-sheet}
 use Rattle.run_enough.specs.{AtLeast.Enough, AtLeast.enough, AtLeast.tooFew, AtLeast.unknown, AtLeast.enoughOf, AtLeast.nodesTo, Lent.answered, Lent.enoughLent}
@@ -39,8 +39,7 @@ module _ (p : Problem) (limit m : ℕ) (some : 1 ≤ p .variables) where
       go : (e : Ending) → enoughOf p limit (suc m) ≡ says e → enoughFor (ended e) (suc m) ≡ answered (enoughOf p limit (suc m))
       go (finished plans made) s = ap answered (sym s)
       go (spent plans made) s = ap answered (sym s)
-      go (full plans made) s =
-          ap answered (ap (λ (k : ℕ). enough k made) (sym (yes-exactly p limit (suc m)) ∙ ap (λ (y : Enough). yesFor y (suc m)) s) ∙ sym s)
+      go (full plans made) s = ap answered (ap (λ (k : ℕ). enough k made) (sym (yes-exactly p limit (suc m)) ∙ ap (λ (y : Enough). yesFor y (suc m)) s) ∙ sym s)
 
 module _ (b pairs block : List ℕ) (limit : ℕ) (r : Answer) where
   said-more : (m : ℕ) → Wanted (suc m) b pairs block limit r → enoughFor (means r) (suc m) ≡ enoughLent b pairs block limit (suc m)

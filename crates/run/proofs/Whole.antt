@@ -1,9 +1,8 @@
 -- A whole run: its answer, list and tally, of what the search leaves. Assumes nothing.
-use Rattle.model.specs.Kit.{_≡_, refl, sym, ap, ap₂, _∙_, Bool, true, false, List, [], map, ℕ, zero, suc, _*_, _-_, _≤_, _<_, arith, eqb, eqb-true, eqb-false, length, set}
-use Rattle.model.specs.Kit.{replicate, length-set}
-use Rattle.model.specs.{Lists.flat, Lists.at, Lists.choose, Problem.Problem, Search.nodes, Verdict.Verdict, Verdict.accepted, Verdict.refused, Verdict.reply, Run.finished}
-use Rattle.model.specs.{Run.spent, Run.full, Run.refusal, Run.ended, Run.Result, Run.resultOf, Run.written, Run.Tally, Run.tallyFor, Run.plansIn, Run.nodesIn, Sheet.problemOf}
-use Rattle.model.proofs.{Lists.length-none, Lists.at-set, Lists.at-set-other, Runs.rows-fit, Accepted.is-accepted, Lists.never}
+use Rattle.model.specs.Kit.{_≡_, refl, sym, ap, ap₂, _∙_, Bool, true, false, List, [], map, ℕ, zero, suc, _*_, _-_, _≤_, _<_, arith, eqb, eqb-true, eqb-false, length, set, replicate, length-set}
+use Rattle.model.specs.Run.{finished, spent, full, refusal, ended, Result, resultOf, written, Tally, tallyFor, plansIn, nodesIn}
+use Rattle.model.specs.{Lists.flat, Lists.at, Lists.choose, Problem.Problem, Search.nodes, Verdict.Verdict, Verdict.accepted, Verdict.refused, Verdict.reply, Sheet.problemOf}
+use Rattle.model.proofs.{Lists.length-none, Lists.at-set, Lists.at-set-other, Lists.never, Runs.rows-fit, Accepted.is-accepted}
 use Rattle.order.specs.{Reordered.write, RunBy.resultBy, RunBy.placeCounts, RunBy.placeTally, RunBy.answerBy, RunBy.listBy, RunBy.talliedBy}
 use Rattle.run_input.specs.Lent.{verdictLent, orderLent, problemWith, problemLent, answerLent, listLent, tallyLent}
 use Rattle.run_input.proofs.Lent.{well-sheet}

@@ -1,12 +1,11 @@
 -- Where two prefixes differ and their sets settle the images of their own pairs, a symmetry takes each one's own pairs there among themselves; so it takes
 -- no pair of another variable to one of these. This is what needs question 16. Assumes nothing.
-use Rattle.model.specs.Kit.{_≡_, refl, sym, ap, ap₂, _∙_, subst, Bool, true, false, _⊎_, inl, inr, ⊎-elim, List, [], _∷_, map, List·Memᴰ, List·Memᴰ·head, List·Memᴰ·tail}
-use Rattle.model.specs.Kit.{List·Memᴰ·cases-cons, Memᴰ·map, Memᴰ·of-map, ℕ, _/_, _%_, _^_, _≤_, _<_, decLt, ℕ-discrete, arith, lt-of-lt-of-le, T, eqb, ltb, length, length-map}
-use Rattle.model.specs.Kit.{eqb-true, eqb-false}
+use Rattle.model.specs.Kit.{_≡_, refl, sym, ap, ap₂, _∙_, subst, Bool, true, false, _⊎_, inl, inr, ⊎-elim, List, [], _∷_, map, List·Memᴰ, List·Memᴰ·head, List·Memᴰ·tail, List·Memᴰ·cases-cons}
+use Rattle.model.specs.Kit.{Memᴰ·map, Memᴰ·of-map, ℕ, _/_, _%_, _^_, _≤_, _<_, decLt, ℕ-discrete, arith, lt-of-lt-of-le, T, eqb, ltb, length, length-map, eqb-true, eqb-false}
+use Rattle.model.specs.{Lists.both, Lists.any, Lists.keep, Lists.below, Lists.at, Lists.same, ValueSets.has, ValueSets.members, Problem.Problem, Problem.Constraint, Problem.pair, Problem.pairsAt}
+use Rattle.model.specs.{Problem.doubled, Problem.excluded, Problem.forbidden, Nogood.Entry, Nogood.equality, Nogood.disequality, Search.entriesAt, Search.nogoodsOf, Search.rowWith, Search.setsAt}
+use Rattle.model.specs.{Search.isLive, Claims.Drawn, Claims.Consistent, inner.WellFormed.WellFormed, inner.WellFormed.GoodSymmetry}
 use mathlib.Core.List.{List·Memᴰ·append-cases, List·Memᴰ·eq-of-singleton, Memᴰ·append-right}
-use Rattle.model.specs.{Lists.both, Lists.any, Lists.keep, Lists.below, Lists.at, Lists.same, ValueSets.has, ValueSets.members, Problem.Problem, Problem.Constraint, Problem.pair}
-use Rattle.model.specs.{Problem.pairsAt, Problem.doubled, Problem.excluded, Problem.forbidden, Nogood.Entry, Nogood.equality, Nogood.disequality, Search.entriesAt}
-use Rattle.model.specs.{Search.nogoodsOf, Search.rowWith, Search.setsAt, Search.isLive, Claims.Drawn, Claims.Consistent, inner.WellFormed.WellFormed, inner.WellFormed.GoodSymmetry}
 use Rattle.model.specs.inner.WellFormed.{Respected}
 use Rattle.model.proofs.Lists.{both-l, both-r, any-i, any-e, flat-i, flat-e, below-i, below-e, at-mem, mem-at, at-map, same-refl, length-below, never}
 use Rattle.model.proofs.{Counting.onto, Counting.distinct-below, Assignments.drawn-e, Prune.Sized, Consistent.live-consistent, Tree.well-sized}

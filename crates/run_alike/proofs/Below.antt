@@ -1,9 +1,9 @@
 -- Prefixes that agree on what is left have the same nodes below them, up to the values settled before. Assumes nothing.
-use Rattle.model.specs.Kit.{_≡_, refl, sym, ap, ap₂, _∙_, subst, Bool, true, false, List, [], _∷_, _++_, map, List·Memᴰ, Memᴰ·of-map, append-assoc, append-nil, ℕ, zero, suc, _+_}
-use Rattle.model.specs.Kit.{_-_, ℕ-discrete, arith, eqb, length, drop, length-append, length-map, ne-eqb}
+use Rattle.model.specs.Kit.{_≡_, refl, sym, ap, ap₂, _∙_, subst, Bool, true, false, List, [], _∷_, _++_, map, List·Memᴰ, Memᴰ·of-map, append-assoc, append-nil, ℕ, zero, suc, _+_, _-_, ℕ-discrete}
+use Rattle.model.specs.Kit.{arith, eqb, length, drop, length-append, length-map, ne-eqb}
+use Rattle.model.specs.{Lists.both, Lists.keep, Lists.flat, Lists.at, ValueSets.members, Problem.Problem, Search.setsAt, Search.isLive, Search.nodesBelow, Search.isPlan, Run.settledBy, Run.countsBy}
+use Rattle.model.specs.{inner.WellFormed.WellFormed}
 use lib.Seq.{drop-at}
-use Rattle.model.specs.{Lists.both, Lists.keep, Lists.flat, Lists.at, ValueSets.members, Problem.Problem, Search.setsAt, Search.isLive, Search.nodesBelow}
-use Rattle.model.specs.{Search.isPlan, Run.settledBy, Run.countsBy, inner.WellFormed.WellFormed}
 use Rattle.model.proofs.{Lists.map-ext, Lists.map-flat-map, Lists.keep-ext, Tally.tabulate-ext}
 use Rattle.run_alike.specs.{inner.Alike.moved, inner.Claims.SameBelow}
 use Rattle.run_alike.proofs.Sets.{Agree, live-alike, sets-alike}

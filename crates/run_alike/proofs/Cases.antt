@@ -2,11 +2,10 @@
 -- Values 0 and 1; the table trades (0, 1) with (1, 1), and variables 2 and 3. The prefixes 0 and 1 leave the same sets and nothing of the list, not ended;
 -- but variable 1's own pair has the image (0, 1), which the prefix 1 has and the prefix 0 has not, so that the list ends there below 0 alone.
 use Rattle.model.specs.Kit.{_≡_, refl, true, false, List, [], _∷_, map, ℕ, length, drop}
-use Rattle.model.specs.{Lists.all, Lists.any, Lists.keep, Lists.flat, Lists.tabulate, Lists.upFrom, Lists.below, Lists.at, Lists.same, ValueSets.has, ValueSets.maskBelow}
-use Rattle.model.specs.{ValueSets.members, ValueSets.anyEmpty, Problem.Problem, Problem.assignments, Problem.pair, Problem.isPair, Problem.within, Problem.doubled, Problem.pairsAt}
-use Rattle.model.specs.{Problem.excluded, Problem.forbidden, Problem.respects, Sheet.distinct, Sheet.permutesPairs, Nogood.equality, Nogood.disequality, Nogood.obeysFrom}
-use Rattle.model.specs.{Nogood.obeying, Nogood.used, Nogood.filtered, Search.entriesAt, Search.nogoodsOf, Search.rowWith, Search.supported, Search.pruned, Search.narrowed}
-use Rattle.model.specs.Search.{rounds, setsAt, isLive, nodesBelow}
+use Rattle.model.specs.Problem.{Problem, assignments, pair, isPair, within, doubled, pairsAt, excluded, forbidden, respects}
+use Rattle.model.specs.Search.{entriesAt, nogoodsOf, rowWith, supported, pruned, narrowed, rounds, setsAt, isLive, nodesBelow}
+use Rattle.model.specs.{Lists.all, Lists.any, Lists.keep, Lists.flat, Lists.tabulate, Lists.upFrom, Lists.below, Lists.at, Lists.same, ValueSets.has, ValueSets.maskBelow, ValueSets.members}
+use Rattle.model.specs.{ValueSets.anyEmpty, Sheet.distinct, Sheet.permutesPairs, Nogood.equality, Nogood.disequality, Nogood.obeysFrom, Nogood.obeying, Nogood.used, Nogood.filtered}
 use Rattle.run_alike.specs.inner.Alike.{Residue, residue, moved}
 
 -- every definition that computes

@@ -1,15 +1,15 @@
 -- Prefixes whose first levels say nothing more, with the same values from there on, leave the same of a list (specs/Claims). Assumes nothing.
-use Rattle.model.specs.Kit.{_≡_, refl, sym, ap, ap₂, _∙_, subst, Bool, true, false, not, ⊎-elim, List, [], _∷_, _++_, map, List·Memᴰ, List·Memᴰ·head, List·Memᴰ·tail}
-use Rattle.model.specs.Kit.{List·Memᴰ·not-nil, List·Memᴰ·cases-cons, Memᴰ·append-left, ℕ, zero, suc, _+_, _-_, _/_, _%_, _^_, _≤_, _<_, decLt, ℕ-discrete, arith, T, eqb, length}
-use Rattle.model.specs.Kit.{getD, take, drop, take-append-drop, length-drop, pow-lt, length-take-le, eq-eqb, ne-eqb}
+use Rattle.model.specs.Kit.{_≡_, refl, sym, ap, ap₂, _∙_, subst, Bool, true, false, not, ⊎-elim, List, [], _∷_, _++_, map, List·Memᴰ, List·Memᴰ·head, List·Memᴰ·tail, List·Memᴰ·not-nil}
+use Rattle.model.specs.Kit.{List·Memᴰ·cases-cons, Memᴰ·append-left, ℕ, zero, suc, _+_, _-_, _/_, _%_, _^_, _≤_, _<_, decLt, ℕ-discrete, arith, T, eqb, length, getD, take, drop, take-append-drop}
+use Rattle.model.specs.Kit.{length-drop, pow-lt, length-take-le, eq-eqb, ne-eqb}
+use Rattle.model.specs.{Lists.both, Lists.flat, Lists.upFrom, Lists.at, ValueSets.has, Problem.Problem, Problem.pair, Nogood.Entry, Nogood.equality, Nogood.disequality, Nogood.is, Nogood.obeysFrom}
+use Rattle.model.specs.{Search.entriesAt, Search.nogoodsOf, Search.setsAt, Search.isLive, inner.WellFormed.WellFormed, inner.WellFormed.Respected}
 use lib.Seq.{take-take}
-use Rattle.model.specs.{Lists.both, Lists.flat, Lists.upFrom, Lists.at, ValueSets.has, Problem.Problem, Problem.pair, Nogood.Entry, Nogood.equality, Nogood.disequality, Nogood.is}
-use Rattle.model.specs.{Nogood.obeysFrom, Search.entriesAt, Search.nogoodsOf, Search.setsAt, Search.isLive, inner.WellFormed.WellFormed, inner.WellFormed.Respected}
-use Rattle.model.proofs.{Lists.of-T, Lists.T-ext, Lists.not-of, Lists.of-not, Lists.at-take, Sets.has-lt, Sets.has-none, Sets.member, Sets.mask-ext, Assignments.Filled, Obey.obeys-unheld}
-use Rattle.model.proofs.{Assignments.drawn-through, Assignments.drawn-i, Assignments.drawn-e, Prune.Sized, Prune.setsAt-sets, Tree.well-sized, Tree.nogoods-append}
+use Rattle.model.proofs.{Lists.of-T, Lists.T-ext, Lists.not-of, Lists.of-not, Lists.at-take, Sets.has-lt, Sets.has-none, Sets.member, Sets.mask-ext, Assignments.Filled, Assignments.drawn-through}
+use Rattle.model.proofs.{Assignments.drawn-i, Assignments.drawn-e, Obey.obeys-unheld, Prune.Sized, Prune.setsAt-sets, Tree.well-sized, Tree.nogoods-append}
 use Rattle.run_alike.specs.{inner.Alike.Residue, inner.Alike.front, inner.Alike.residue, inner.Alike.Vacuous, inner.Claims.Kept-left}
-use Rattle.run_alike.proofs.{Sets.behind-alike, Sets.some-value, Sets.own-only, Sets.own-set, Residue.varOf, Residue.single, Residue.single-has}
-use Rattle.run_alike.proofs.{Residue.drawn-is, Residue.is-gone, Residue.is-only, Apart.own-in, Apart.own-init, Apart.Settles, Apart.not-elsewhere, Law.entry-e, Law.bounded}
+use Rattle.run_alike.proofs.Residue.{varOf, single, single-has, drawn-is, is-gone, is-only}
+use Rattle.run_alike.proofs.{Sets.behind-alike, Sets.some-value, Sets.own-only, Sets.own-set, Apart.own-in, Apart.own-init, Apart.Settles, Apart.not-elsewhere, Law.entry-e, Law.bounded}
 
 -- ---- entries that the sets decide
 abbrev pub Dropped : List ℕ → Entry → Type 0

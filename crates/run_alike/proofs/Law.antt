@@ -1,19 +1,18 @@
 -- Two live prefixes that leave the same to do have the same subtree (specs/Claims). Assumes nothing.
-use Rattle.model.specs.Kit.{_≡_, refl, sym, ap, ap₂, _∙_, subst, Bool, true, false, _⊎_, inl, inr, ⊎-elim, List, _++_, map, List·Memᴰ, Memᴰ·of-map, ℕ, _+_, _-_, _/_, _%_, _^_, _≤_}
-use Rattle.model.specs.Kit.{_<_, decLt, ℕ-discrete, arith, T, eqb, ltb, length, getD, drop, length-append, ne-eqb}
+use Rattle.model.specs.Kit.{_≡_, refl, sym, ap, ap₂, _∙_, subst, Bool, true, false, _⊎_, inl, inr, ⊎-elim, List, _++_, map, List·Memᴰ, Memᴰ·of-map, ℕ, _+_, _-_, _/_, _%_, _^_, _≤_, _<_, decLt}
+use Rattle.model.specs.Kit.{ℕ-discrete, arith, T, eqb, ltb, length, getD, drop, length-append, ne-eqb}
+use Rattle.model.specs.{Lists.keep, Lists.flat, Lists.upFrom, Lists.below, Lists.at, ValueSets.has, ValueSets.members, Problem.Problem, Problem.pair, Nogood.Entry, Nogood.equality, Nogood.disequality}
+use Rattle.model.specs.{Nogood.is, Nogood.obeys, Search.entriesAt, Search.nogoodsOf, Search.setsAt, Search.isLive, Claims.Drawn, inner.WellFormed.WellFormed}
 use mathlib.Core.List.{List·Memᴰ·append-cases, List·Memᴰ·eq-of-singleton}
 use lib.ListN.{List·getD-append}
 use lib.Seq.{getD-append-add}
-use Rattle.model.specs.{Lists.keep, Lists.flat, Lists.upFrom, Lists.below, Lists.at, ValueSets.has, ValueSets.members, Problem.Problem, Problem.pair, Nogood.Entry, Nogood.equality}
-use Rattle.model.specs.{Nogood.disequality, Nogood.is, Nogood.obeys, Search.entriesAt, Search.nogoodsOf, Search.setsAt, Search.isLive, Claims.Drawn, inner.WellFormed.WellFormed}
 use Rattle.model.specs.inner.WellFormed.{Respected}
 use Rattle.model.proofs.Lists.{T-of, of-T, keep-e, flat-e, map-ext, below-e, upFrom-e, at-append, at-skip, getD-at}
-use Rattle.model.proofs.{Sets.members-e, Sets.has-at-lt, Assignments.drawn-i, Prune.Sized, Prune.setsAt-sets, Consistent.live-consistent, Tree.well-sized, Tree.nogoods-append}
-use Rattle.model.proofs.Child.{child-sets}
+use Rattle.model.proofs.{Sets.members-e, Sets.has-at-lt, Assignments.drawn-i, Prune.Sized, Prune.setsAt-sets, Consistent.live-consistent, Tree.well-sized, Tree.nogoods-append, Child.child-sets}
 use Rattle.run_alike.specs.inner.Alike.{Alike, SameList, obeyed, same-left, carried, Carries, Obeyed, Residue, residue, unsettled}
 use Rattle.run_alike.specs.inner.Claims.{Alike-below}
-use Rattle.run_alike.proofs.{Sets.Agree, Sets.behind-alike, Sets.own-value, Sets.own-only, Sets.own-set, Below.same-below, Residue.varOf, Residue.Same, Residue.obeys-same}
-use Rattle.run_alike.proofs.{Residue.after, Residue.residue-obeys, Residue.Undecided, Residue.kept-e, Apart.Settles, Apart.decided, Apart.not-elsewhere}
+use Rattle.run_alike.proofs.Residue.{varOf, Same, obeys-same, after, residue-obeys, Undecided, kept-e}
+use Rattle.run_alike.proofs.{Sets.Agree, Sets.behind-alike, Sets.own-value, Sets.own-only, Sets.own-set, Below.same-below, Apart.Settles, Apart.decided, Apart.not-elsewhere}
 use Rattle.model.proofs.Pairs as P
 use Rattle.model.proofs.Symmetry as S
 

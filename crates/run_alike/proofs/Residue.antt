@@ -1,8 +1,8 @@
 -- What is left of a list of nogoods decides whether it is obeyed, whatever follows it. Assumes nothing.
-use Rattle.model.specs.Kit.{_≡_, refl, sym, ap, ap₂, _∙_, subst, Bool, true, false, not, _⊎_, inl, inr, ⊎-elim, List, [], _∷_, _++_, List·Memᴰ, List·Memᴰ·head, List·Memᴰ·tail}
-use Rattle.model.specs.Kit.{List·Memᴰ·not-nil, List·Memᴰ·cases-cons, ℕ, _^_, _<_, arith, T, eqb, eqb→eq, eqb-refl, length, getD, eqb-true, eqb-false}
+use Rattle.model.specs.Kit.{_≡_, refl, sym, ap, ap₂, _∙_, subst, Bool, true, false, not, _⊎_, inl, inr, ⊎-elim, List, [], _∷_, _++_, List·Memᴰ, List·Memᴰ·head, List·Memᴰ·tail, List·Memᴰ·not-nil}
+use Rattle.model.specs.Kit.{List·Memᴰ·cases-cons, ℕ, _^_, _<_, arith, T, eqb, eqb→eq, eqb-refl, length, getD, eqb-true, eqb-false}
 use Rattle.model.specs.{Lists.both, Lists.at, ValueSets.has, Nogood.Entry, Nogood.equality, Nogood.disequality, Nogood.is, Nogood.obeysFrom, Claims.Drawn}
-use Rattle.model.proofs.{Lists.of-T, Lists.T-of, Lists.not-of, Lists.of-not, Lists.getD-at, Lists.both-true, Lists.both-false, Masks.has-one, Obey.obeys-unheld, Lists.never}
+use Rattle.model.proofs.{Lists.of-T, Lists.T-of, Lists.not-of, Lists.of-not, Lists.getD-at, Lists.both-true, Lists.both-false, Lists.never, Masks.has-one, Obey.obeys-unheld}
 use Rattle.run_alike.specs.inner.Alike.{Residue, front, residue}
 
 -- ---- entries

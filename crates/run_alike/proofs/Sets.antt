@@ -1,14 +1,12 @@
 -- Two prefixes that agree on what is left: behind them any values leave the same sets. Assumes nothing.
-use Rattle.model.specs.Kit.{_≡_, refl, sym, ap, _∙_, subst, Bool, true, false, _⊎_, inl, inr, List, [], _∷_, _++_, map, List·Memᴰ, List·Memᴰ·head, List·Memᴰ·tail}
-use Rattle.model.specs.Kit.{List·Memᴰ·not-nil, ℕ, _+_, _-_, _^_, _≤_, _<_, decLt, arith, T, eqb, leb, eqb→eq, eqb-refl, T-not, length, drop, length-append, length-drop, length-map}
-use Rattle.model.specs.Kit.{pow-lt, eqb-true, le-leb, leb-true}
-use Rattle.model.specs.{Lists.both, Lists.any, Lists.at, ValueSets.has, ValueSets.anyEmpty, Problem.Problem, Problem.Constraint, Nogood.Entry, Nogood.obeys, Nogood.filtered}
-use Rattle.model.specs.{Search.entriesAt, Search.nogoodsOf, Search.rowWith, Search.setsAt, Search.isLive, Claims.Drawn, Claims.Consistent, inner.WellFormed.WellFormed}
+use Rattle.model.specs.Kit.{_≡_, refl, sym, ap, _∙_, subst, Bool, true, false, _⊎_, inl, inr, List, [], _∷_, _++_, map, List·Memᴰ, List·Memᴰ·head, List·Memᴰ·tail, List·Memᴰ·not-nil, ℕ, _+_, _-_, _^_}
+use Rattle.model.specs.Kit.{_≤_, _<_, decLt, arith, T, eqb, leb, eqb→eq, eqb-refl, T-not, length, drop, length-append, length-drop, length-map, pow-lt, eqb-true, le-leb, leb-true}
+use Rattle.model.specs.{Lists.both, Lists.any, Lists.at, ValueSets.has, ValueSets.anyEmpty, Problem.Problem, Problem.Constraint, Nogood.Entry, Nogood.obeys, Nogood.filtered, Search.entriesAt}
+use Rattle.model.specs.{Search.nogoodsOf, Search.rowWith, Search.setsAt, Search.isLive, Claims.Drawn, Claims.Consistent, inner.WellFormed.WellFormed}
 use Rattle.model.proofs.Lists.{both-i, both-l, both-r, T-of, of-T, T-ext, T-dec, not-of, of-not, any-i, any-e, keep-i, keep-e, at-append, at-skip, at-drop, at-map, at-ext}
-use Rattle.model.proofs.{Sets.has-lt, Sets.has-at-lt, Sets.has-none, Sets.mask-ext, Sets.member, Sets.empty-i, Sets.empty-e, Sets.inside-antisym, Masks.has-one}
-use Rattle.model.proofs.{Assignments.drawn-i, Assignments.drawn-e, Filter.filtered-i, Filter.filtered-e, Filter.filtered-sets, Filter.filtered-inside, Prune.Sized}
-use Rattle.model.proofs.{Prune.setsAt-sets, Consistent.live-consistent, Consistent.consistent-inside, Consistent.dead-empty, Consistent.dead-none, Tree.well-sized}
-use Rattle.model.proofs.Child.{child-sets}
+use Rattle.model.proofs.Sets.{has-lt, has-at-lt, has-none, mask-ext, member, empty-i, empty-e, inside-antisym}
+use Rattle.model.proofs.{Masks.has-one, Assignments.drawn-i, Assignments.drawn-e, Filter.filtered-i, Filter.filtered-e, Filter.filtered-sets, Filter.filtered-inside, Prune.Sized, Prune.setsAt-sets}
+use Rattle.model.proofs.{Consistent.live-consistent, Consistent.consistent-inside, Consistent.dead-empty, Consistent.dead-none, Tree.well-sized, Child.child-sets}
 use Rattle.run_alike.specs.inner.Alike.{unsettled, SameSettled, Carries}
 
 -- ---- lists

@@ -1,6 +1,6 @@
 -- Before the walk along a part and after it: the path put in `work`, and what the call holds then. Assumes nothing.
-use Rattle.model.specs.Kit.{_≡_, refl, sym, ap, _∙_, subst, Bool, true, false, List, ℕ, _+_, _-_, _≤_, _<_, min, ℕ-discrete, decLt, arith, T, eqb, length, take, set, length-set}
-use Rattle.model.specs.Kit.{length-take, length-take-le, eqb-true, eqb-false}
+use Rattle.model.specs.Kit.{_≡_, refl, sym, ap, _∙_, subst, Bool, true, false, List, ℕ, _+_, _-_, _≤_, _<_, min, ℕ-discrete, decLt, arith, T, eqb, length, take, set, length-set, length-take}
+use Rattle.model.specs.Kit.{length-take-le, eqb-true, eqb-false}
 use Rattle.model.specs.{Lists.at, Problem.Problem, Search.setsAt, Search.isLive, Run.Tally}
 use Rattle.model.proofs.Lists.{at-set, at-set-other, at-take, at-out}
 use Rattle.arrays.specs.inner.Places.{ROOM, PLANS, LAST, DEEPER, WORK, MEMO}

@@ -1,12 +1,12 @@
 -- One value down a path, a node, and walks one behind the other (specs/Steps). Assumes nothing.
-use Rattle.model.specs.Kit.{_≡_, refl, sym, ap, ap₂, _∙_, subst, Bool, true, false, not, List, [], _∷_, _++_, ℕ, _+_, _-_, _*_, _^_, _<_, add-one, arith, bitAnd, T, eqb, ltb}
-use Rattle.model.specs.Kit.{eqb→eq, eqb-refl, length, set, length-set, not-true, not-false}
+use Rattle.model.specs.Kit.{_≡_, refl, sym, ap, ap₂, _∙_, subst, Bool, true, false, not, List, [], _∷_, _++_, ℕ, _+_, _-_, _*_, _^_, _<_, add-one, arith, bitAnd, T, eqb, ltb, eqb→eq, eqb-refl, length}
+use Rattle.model.specs.Kit.{set, length-set, not-true, not-false}
+use Rattle.model.specs.ValueSets.{has, maskOf, fullMask, members, lowestOf}
+use Rattle.model.specs.{Lists.at, Lists.both, Lists.keep, Lists.below, Problem.Problem, Search.setsAt, Search.isLive, Run.Tally}
 use native.Mathlib.Nat.{pos-of-ne-zero}
-use Rattle.model.specs.{Lists.at, Lists.both, Lists.keep, Lists.below, ValueSets.has, ValueSets.maskOf, ValueSets.fullMask, ValueSets.members, ValueSets.lowestOf, Problem.Problem}
-use Rattle.model.specs.{Search.setsAt, Search.isLive, Run.Tally}
 use Rattle.model.proofs.Lists.{T-of, not-of, of-not, both-l, among-i, among-e, keep-ext, below-e, at-set, at-set-other}
-use Rattle.model.proofs.{Tree.well-sized, Prune.setsAt-sets, Sets.has-none, Sets.has-lt, Sets.has-mask, Sets.mask-lt, Sets.mask-ext, Sets.mask-i, Sets.mask-e, Sets.members-i}
-use Rattle.model.proofs.{Sets.members-e, Masks.common-op, Lowest.lowest-in}
+use Rattle.model.proofs.Sets.{has-none, has-lt, has-mask, mask-lt, mask-ext, mask-i, mask-e, members-i, members-e}
+use Rattle.model.proofs.{Tree.well-sized, Prune.setsAt-sets, Masks.common-op, Lowest.lowest-in}
 use Rattle.run_cut.specs.inner.Paths.{nodesOf, candidatesAt}
 use Rattle.arrays.specs.inner.Places.{LIMIT, ROOM, PLANS, LAST, ALL, SPENT, DIAGONAL}
 use Rattle.prune.specs.inner.Node.{AtNode, Reached, longer}

@@ -1,6 +1,5 @@
 -- The walk along the nodes of a part below a prefix (specs/Steps): each function's turns. Assumes nothing.
-use Rattle.model.specs.Kit.{_≡_, refl, sym, ap, ap₂, _∙_, subst, Bool, true, false, not, List, [], _∷_, _++_, ℕ, suc, _+_, _-_, _*_, _≤_, _<_, add-one, arith, T, length, drop}
-use Rattle.model.specs.Kit.{not-true, not-false}
+use Rattle.model.specs.Kit.{_≡_, refl, sym, ap, ap₂, _∙_, subst, Bool, true, false, not, List, [], _∷_, _++_, ℕ, suc, _+_, _-_, _*_, _≤_, _<_, add-one, arith, T, length, drop, not-true, not-false}
 use Rattle.model.specs.{Lists.at, ValueSets.has, Problem.Problem, Run.Tally}
 use Rattle.model.proofs.Lists.{T-of, of-T, length-none}
 use Rattle.arrays.specs.inner.Places.{LIMIT, ROOM, PLANS, LAST, ALL, SPENT, DIAGONAL}

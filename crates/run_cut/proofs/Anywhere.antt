@@ -1,14 +1,13 @@
 -- A run that goes on from any path, cut and resumed (specs/Claims). Assumes nothing.
 use Rattle.model.specs.Kit.{_≡_, refl, sym, ap, ap₂, _∙_, subst, Bool, true, false, _⊎_, inl, inr, List, [], _∷_, List·Memᴰ, ℕ, _+_, _-_, _≤_, arith, T, take, drop}
+use Rattle.model.specs.{Lists.keep, Problem.Problem, Search.nodes, Run.Ending, Run.finished, Run.spent, Run.full, Run.nodesIn, Run.Result, Run.search, Run.settledBy, Run.countsBy, Run.tallyAt}
 use native.Mathlib.Nat.{sub-zero}
 use lib.Seq.{take-add}
-use Rattle.model.specs.{Lists.keep, Problem.Problem, Search.nodes, Run.Ending, Run.finished, Run.spent, Run.full, Run.nodesIn, Run.Result, Run.search, Run.settledBy, Run.countsBy}
-use Rattle.model.specs.Run.{tallyAt}
 use Rattle.model.proofs.{Lists.T-of, Lists.of-not, Lists.keep-yes, Lists.keep-no, Lists.keep-e, Lists.sorted-keep, Runs.Ended, Runs.walk}
-use Rattle.run_cut.specs.{Parts.after, Parts.nodesAfter, Parts.lastOf, Parts.Progress, Parts.start, Parts.goOn, Parts.lastAfter, Parts.added, Parts.progressAfter, Between.andNext}
-use Rattle.run_cut.specs.Claims.{From-anywhere, Stands-anywhere, Counts-from-start}
-use Rattle.run_cut.proofs.{Parts.after-trans, Parts.Later, Parts.nodes-ascend, Parts.nodes-start, Counts.counts-none, Counts.counts-added, Counts.added-assoc}
+use Rattle.run_cut.specs.Parts.{after, nodesAfter, lastOf, Progress, start, goOn, lastAfter, added, progressAfter}
+use Rattle.run_cut.specs.{Between.andNext, Claims.From-anywhere, Claims.Stands-anywhere, Claims.Counts-from-start}
 use Rattle.run_cut.proofs.Resume.{last-in, taken, after-lasts, after-last, last-append, then, walk-parts, from-start}
+use Rattle.run_cut.proofs.{Parts.after-trans, Parts.Later, Parts.nodes-ascend, Parts.nodes-start, Counts.counts-none, Counts.counts-added, Counts.added-assoc}
 
 -- of elements kept, the same are kept by a narrower test
 keep-narrow : {A : Type 0} (q r : A → Bool) (l : List A) → ((x : A) → T (q x) → T (r x)) → keep q (keep r l) ≡ keep q l

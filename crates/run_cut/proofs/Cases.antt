@@ -1,12 +1,12 @@
 -- Worked cases of a run in parts, by computation. Assumes nothing.
 use Rattle.model.specs.Kit.{_≡_, refl, [], _∷_, ℕ, replicate}
 use Rattle.model.specs.Lists.{all, any, keep, flat, tabulate, upFrom, below, at, same, earlier, ascending, rowsAscend}
-use Rattle.model.specs.{ValueSets.has, ValueSets.maskBelow, ValueSets.least, ValueSets.members, ValueSets.anyEmpty, Problem.valuesAt, Problem.satisfies, Problem.isSolution}
-use Rattle.model.specs.Problem.{assignments, pair, isPair, pairsOf, within, takes, doubled, pairsAt, excluded, forbidden, respects}
-use Rattle.model.specs.Sheet.{word, words, headerOf, scopeAt, rowsAt, afterAt, constraintsFrom, tableAt, problemOf, setsVerdict, constraintVerdict, constraintsVerdict, distinct}
-use Rattle.model.specs.{Sheet.permutesPairs, Sheet.symmetriesVerdict, Sheet.headerVerdict, Sheet.formVerdict, Sheet.verdictOf, Nogood.obeysFrom, Nogood.obeying, Nogood.used}
-use Rattle.model.specs.{Nogood.filtered, Search.entriesAt, Search.nogoodsOf, Search.rowWith, Search.supported, Search.pruned, Search.narrowed, Search.rounds, Search.setsAt}
-use Rattle.model.specs.{Search.isLive, Search.nodesBelow, Search.nodes, Search.isPlan, Run.search, Run.resultOf, Run.written, Run.countsBy, Examples.sheetA}
+use Rattle.model.specs.ValueSets.{has, maskBelow, least, members, anyEmpty}
+use Rattle.model.specs.Problem.{valuesAt, satisfies, isSolution, assignments, pair, isPair, pairsOf, within, takes, doubled, pairsAt, excluded, forbidden, respects}
+use Rattle.model.specs.Sheet.{word, words, headerOf, scopeAt, rowsAt, afterAt, constraintsFrom, tableAt, problemOf, setsVerdict, constraintVerdict, constraintsVerdict, distinct, permutesPairs}
+use Rattle.model.specs.Sheet.{symmetriesVerdict, headerVerdict, formVerdict, verdictOf}
+use Rattle.model.specs.Search.{entriesAt, nogoodsOf, rowWith, supported, pruned, narrowed, rounds, setsAt, isLive, nodesBelow, nodes, isPlan}
+use Rattle.model.specs.{Nogood.obeysFrom, Nogood.obeying, Nogood.used, Nogood.filtered, Run.search, Run.resultOf, Run.written, Run.countsBy, Examples.sheetA}
 use Rattle.run_cut.specs.{Parts.after, Parts.nodesAfter, Parts.lastOf, Parts.progressAt, Parts.goOn, Parts.added, Parts.progressAfter, Between.nodesBetween, inner.Paths.nodesOf}
 
 -- every definition that computes

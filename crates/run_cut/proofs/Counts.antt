@@ -1,6 +1,5 @@
 -- Twelve counts of two lists, place by place (specs/Parts, `added`). Assumes nothing.
-use Rattle.model.specs.Kit.{_≡_, refl, sym, ap, ap₂, _∙_, subst, Bool, true, false, List, [], _++_, ℕ, _+_, _≤_, _<_, arith, eqb, ltb, length, replicate, length-append, ltb-true}
-use Rattle.model.specs.Kit.{ltb-false}
+use Rattle.model.specs.Kit.{_≡_, refl, sym, ap, ap₂, _∙_, subst, Bool, true, false, List, [], _++_, ℕ, _+_, _≤_, _<_, arith, eqb, ltb, length, replicate, length-append, ltb-true, ltb-false}
 use Rattle.model.specs.{Lists.at, Lists.keep, Lists.tabulate, Run.countsBy}
 use Rattle.model.proofs.{Lists.keep-append, Lists.length-tabulate, Lists.at-tabulate, Lists.at-ext, Lists.at-out, Tally.length-counts, Tally.at-counts}
 use Rattle.run_cut.specs.Parts.{added}

@@ -1,11 +1,9 @@
 -- A run in parts (specs/Parts, specs/Between): the nodes of a tree ascend in the order of the search, so those after a path are a last part of them;
 -- a tree cut into ranges; and a run that goes on from its last node is the whole run. Holds of every problem. Assumes nothing.
-use Rattle.model.specs.Kit.{_≡_, refl, sym, ap, ap₂, _∙_, subst, Bool, true, false, not, _⊎_, inl, inr, List, [], _∷_, _++_, map, List·Memᴰ, List·Memᴰ·head, List·Memᴰ·tail}
-use Rattle.model.specs.Kit.{List·Memᴰ·not-nil, Memᴰ·of-map, append-nil, ℕ, zero, suc, _<_, arith, T, eqb, ltb, eqb-refl, ltb→lt, lt→ltb, length, ltb-true, ltb-false, eqb-true}
-use Rattle.model.specs.Kit.{eqb-false, ne-eqb}
+use Rattle.model.specs.Kit.{_≡_, refl, sym, ap, ap₂, _∙_, subst, Bool, true, false, not, _⊎_, inl, inr, List, [], _∷_, _++_, map, List·Memᴰ, List·Memᴰ·head, List·Memᴰ·tail, List·Memᴰ·not-nil}
+use Rattle.model.specs.Kit.{Memᴰ·of-map, append-nil, ℕ, zero, suc, _<_, arith, T, eqb, ltb, eqb-refl, ltb→lt, lt→ltb, length, ltb-true, ltb-false, eqb-true, eqb-false, ne-eqb}
+use Rattle.model.specs.{Lists.both, Lists.keep, Lists.flat, Lists.below, Lists.at, ValueSets.has, ValueSets.members, Problem.Problem, Search.setsAt, Search.nodesBelow, Search.nodes}
 use lib.Seq.{append-snoc}
-use Rattle.model.specs.{Lists.both, Lists.keep, Lists.flat, Lists.below, Lists.at, ValueSets.has, ValueSets.members, Problem.Problem, Search.setsAt, Search.nodesBelow}
-use Rattle.model.specs.Search.{nodes}
 use Rattle.run_cut.specs.{Parts.after, Parts.nodesAfter, Between.nodesBetween, Between.ranges, Between.Cuts, inner.Paths.candidatesAt, Claims.Ranges-whole}
 use Rattle.model.proofs.Lists.{T-of, of-T, of-not, both-r, both-true, keep-yes, keep-no, keep-all, keep-none, flat-e, Sorted, sorted-keep, sorted-flat-map, sorted-below}
 

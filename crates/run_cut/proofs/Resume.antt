@@ -1,12 +1,12 @@
 -- The nodes of a tree as paths, and a run that goes on from its last node (specs/Parts, specs/Between, specs/inner/Paths). Holds of every problem. Assumes nothing.
-use Rattle.model.specs.Kit.{_≡_, refl, sym, ap, ap₂, _∙_, subst, Bool, true, false, not, _⊎_, inl, inr, List, [], _∷_, _++_, map, List·Memᴰ, List·Memᴰ·head, List·Memᴰ·tail}
-use Rattle.model.specs.Kit.{List·Memᴰ·not-nil, Memᴰ·of-map, ℕ, zero, suc, _+_, _-_, _*_, _≤_, _<_, arith, T, eqb, leb, length, take, drop, eqb-true, eqb-false, ne-eqb}
+use Rattle.model.specs.Kit.{_≡_, refl, sym, ap, ap₂, _∙_, subst, Bool, true, false, not, _⊎_, inl, inr, List, [], _∷_, _++_, map, List·Memᴰ, List·Memᴰ·head, List·Memᴰ·tail, List·Memᴰ·not-nil}
+use Rattle.model.specs.Kit.{Memᴰ·of-map, ℕ, zero, suc, _+_, _-_, _*_, _≤_, _<_, arith, T, eqb, leb, length, take, drop, eqb-true, eqb-false, ne-eqb}
+use Rattle.model.specs.Search.{rounds, narrowed, setsAt, isLive, nodesBelow, nodes, isPlan}
+use Rattle.model.specs.Run.{Ending, finished, spent, full, plansIn, Result, search, resultOf, settledBy, countsBy}
+use Rattle.model.specs.{Lists.any, Lists.keep, Lists.flat, Lists.below, Lists.at, ValueSets.has, ValueSets.members, ValueSets.anyEmpty, Problem.Problem}
 use lib.Seq.{append-snoc, take-add}
-use Rattle.model.specs.{Lists.any, Lists.keep, Lists.flat, Lists.below, Lists.at, ValueSets.has, ValueSets.members, ValueSets.anyEmpty, Problem.Problem, Search.rounds}
-use Rattle.model.specs.{Search.narrowed, Search.setsAt, Search.isLive, Search.nodesBelow, Search.nodes, Search.isPlan, Run.Ending, Run.finished, Run.spent, Run.full, Run.plansIn}
-use Rattle.model.specs.Run.{Result, search, resultOf, settledBy, countsBy}
-use Rattle.run_cut.specs.{Parts.after, Parts.nodesAfter, Parts.lastOf, Parts.start, Parts.progressAt, Parts.goOn, inner.Paths.candidatesAt, inner.Paths.reached, Between.resumed, Claims.From-cut}
-use Rattle.run_cut.specs.Claims.{In-parts}
+use Rattle.run_cut.specs.Parts.{after, nodesAfter, lastOf, start, progressAt, goOn}
+use Rattle.run_cut.specs.{inner.Paths.candidatesAt, inner.Paths.reached, Between.resumed, Claims.From-cut, Claims.In-parts}
 use Rattle.model.proofs.Lists.{T-of, not-of, of-not, both-i, among-i, keep-no, keep-all, keep-none, flat-e, Sorted, both-l, both-r, among-e}
 use Rattle.model.proofs.{Sets.has-none, Sets.members-e, Runs.turn, Runs.search-turn, Runs.Ended, Runs.the-walk}
 use Rattle.run_cut.proofs.Parts.{after-not, after-asym, Later, branch, below-after, nodes-ascend, nodes-start}

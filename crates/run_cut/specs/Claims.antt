@@ -1,7 +1,6 @@
 -- What is claimed of a run in parts, as statements about any problem; they can be read without the proofs.
 use Rattle.model.specs.Kit.{_≡_, List, [], _∷_, map, ℕ, _≤_, length}
-use Rattle.model.specs.{Lists.keep, Lists.flat, Lists.total, Problem.Problem, Search.nodes, Search.isPlan, Run.spent, Run.finished, Run.nodesIn, Run.Result, Run.search}
-use Rattle.model.specs.Run.{resultOf, tallyAt}
+use Rattle.model.specs.{Lists.keep, Lists.flat, Lists.total, Problem.Problem, Search.nodes, Search.isPlan, Run.spent, Run.finished, Run.nodesIn, Run.Result, Run.search, Run.resultOf, Run.tallyAt}
 use Rattle.run_cut.specs.{Between.ranges, Between.Cuts, Between.andNext, Between.resumed, Parts.Progress, Parts.start, Parts.progressAt, Parts.goOn, Parts.countsAfter, Parts.progressAfter}
 
 -- a run cut after k nodes goes on from the last of them to what it is in one piece
@@ -27,8 +26,7 @@ Stands-anywhere =
 
 -- from the start the counts are those of the run's tally
 abbrev pub Counts-from-start : Type 0
-Counts-from-start =
-    (p : Problem) (limit room : ℕ) → countsAfter p start (goOn p limit room start) ≡ tallyAt p (nodesIn (resultOf p limit room .ending)) .counts
+Counts-from-start = (p : Problem) (limit room : ℕ) → countsAfter p start (goOn p limit room start) ≡ tallyAt p (nodesIn (resultOf p limit room .ending)) .counts
 
 -- ---- parts of one tree, run apart
 -- the parts of a tree cut at any paths, each bounded by two, are the whole tree, one behind the other

@@ -1,9 +1,9 @@
 -- Paper 02, #101: the answer from the nodes is what a run with room for m - 1 plans says; what it says of the complete list; its figures. Assumes nothing.
-use Rattle.model.specs.Kit.{_≡_, refl, sym, ap, ap₂, _∙_, subst, Bool, true, false, List, [], _∷_, ℕ, zero, suc, _-_, _*_, _≤_, _<_, mul-le-mul-right, not-suc-le-zero}
-use Rattle.model.specs.Kit.{le-of-suc-le-suc, arith, leb, ltb, length, take, take-all, leb-true, leb-false, ltb-true, ltb-false, le-leb, lt-leb}
+use Rattle.model.specs.Kit.{_≡_, refl, sym, ap, ap₂, _∙_, subst, Bool, true, false, List, [], _∷_, ℕ, zero, suc, _-_, _*_, _≤_, _<_, mul-le-mul-right, not-suc-le-zero, le-of-suc-le-suc, arith, leb}
+use Rattle.model.specs.Kit.{ltb, length, take, take-all, leb-true, leb-false, ltb-true, ltb-false, le-leb, lt-leb}
+use Rattle.model.specs.Run.{Ending, finished, spent, full, plansIn, nodesIn, resultOf}
+use Rattle.model.specs.{Lists.keep, ValueSets.least, Problem.Problem, Search.nodes, Search.isPlan, Claims.plansAmong, Claims.CountsAt}
 use native.Mathlib.Nat.{le-of-mul-le-mul-right}
-use Rattle.model.specs.{Lists.keep, ValueSets.least, Problem.Problem, Search.nodes, Search.isPlan, Run.Ending, Run.finished, Run.spent, Run.full, Run.plansIn, Run.nodesIn}
-use Rattle.model.specs.{Run.resultOf, Claims.plansAmong, Claims.CountsAt}
 use Rattle.run_enough.specs.AtLeast.{Enough, enough, tooFew, unknown, nodesTo, enoughOf}
 use Rattle.model.proofs.{Masks.least-none, Masks.least-at, Masks.least-below, Masks.least-is, Runs.counts, Runs.nodes-allowed, Runs.rows-fit, Runs.rows-counted}
 

@@ -1,7 +1,7 @@
 -- At least m plans (paper 02, #101), asked of a sheet, pairs and a block: what the answer says of the complete list, and its figures. Assumes nothing.
 use Rattle.model.specs.Kit.{_≡_, refl, sym, ap, ap₂, _∙_, subst, List, ℕ, _*_, _≤_, _<_, arith, length, length-map}
-use Rattle.model.specs.{Lists.keep, Problem.Problem, Verdict.Verdict, Verdict.accepted, Verdict.refused, Verdict.reply, Sheet.problemOf, Search.nodes, Search.isPlan, Run.Ending}
-use Rattle.model.specs.{Run.finished, Run.spent, Run.resultOf, Run.ended, Claims.plansAmong, Claims.leaders}
+use Rattle.model.specs.Run.{Ending, finished, spent, resultOf, ended}
+use Rattle.model.specs.{Lists.keep, Problem.Problem, Verdict.Verdict, Verdict.accepted, Verdict.refused, Verdict.reply, Sheet.problemOf, Search.nodes, Search.isPlan, Claims.plansAmong, Claims.leaders}
 use Rattle.model.proofs.{Runs.finished-rows, Runs.finishes, Demands.same-test, Demands.reply-so, Tree.plans-of-tree, Accepted.is-accepted}
 use Rattle.order.specs.{Reordered.write, RunBy.resultBy, RunBy.leadersBy, RunBy.answerBy}
 use Rattle.order.proofs.{Reordered.respected-reordered, RunBy.w2, RunBy.leadersBy-is, Demanded.ran-by, Demanded.held}

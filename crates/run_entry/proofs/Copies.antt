@@ -1,18 +1,17 @@
 -- Plans that are listed once more, with other values in front. Assumes nothing.
-use Rattle.model.specs.Kit.{_≡_, refl, sym, ap, ap₂, _∙_, subst, List, [], _∷_, _++_, List·Memᴰ, List·Memᴰ·head, List·Memᴰ·tail, map, ℕ, suc, _+_, _-_, _*_, _≤_, _<_, _⊎_, inl, inr, ℕ-discrete}
-use Rattle.model.specs.Kit.{decLt, mul-le-mul-right, arith, length, length-append, length-drop, drop, set, length-set}
+use Rattle.model.specs.Kit.{_≡_, refl, sym, ap, ap₂, _∙_, subst, List, [], _∷_, _++_, List·Memᴰ, List·Memᴰ·head, List·Memᴰ·tail, map, ℕ, suc, _+_, _-_, _*_, _≤_, _<_, _⊎_, inl, inr, ℕ-discrete, decLt}
+use Rattle.model.specs.Kit.{mul-le-mul-right, arith, length, length-append, length-drop, drop, set, length-set}
 use Rattle.model.specs.{Lists.at, Problem.Problem}
-use Rattle.model.proofs.{Lists.at-append, Lists.at-skip, Lists.at-set, Lists.at-set-other, Written.placed-before, Written.placed-in, Lists.at-drop}
-use Rattle.order.specs.{Reordered.position, Reordered.write}
+use Rattle.model.proofs.{Lists.at-append, Lists.at-skip, Lists.at-set, Lists.at-set-other, Lists.at-drop, Written.placed-before, Written.placed-in}
+use Rattle.order.specs.Reordered.{position, write}
 use Rattle.order.proofs.Reordered.{write-at, stand-place}
 use Rattle.arrays.specs.inner.Places.{VARIABLES, ROOM, PLANS, ALL, FULL, ROWS, FIRST, WORK}
 use Rattle.run_alike.specs.inner.Alike.{moved}
 use Rattle.run_passed.specs.inner.Passed.{notedAll}
 use Rattle.run_state.specs.{inner.Walk.State, inner.Walk.noNodes, inner.Walk.noted, inner.Walk.listed, inner.Memo.Stand, inner.Pair.prefixOf, inner.Pair.settling, inner.Pair.orderIn}
 use Rattle.run_state.specs.inner.Pair.{ListRoom, Listed}
-use Rattle.run_state.proofs.{Memo.Stay, Walk.noted-none, Walk.noted-over, Walk.length-noted, Walk.length-write, Walk.listed-kept, Walk.listed-full, Prefix.length-prefix, Prefix.prefix-at}
-use Rattle.run_state.proofs.{Prefix.prefix-is}
-use Rattle.run_state.proofs.Written.{order-at, length-order, settling-inside}
+use Rattle.run_state.proofs.Walk.{noted-none, noted-over, length-noted, length-write, listed-kept, listed-full}
+use Rattle.run_state.proofs.{Memo.Stay, Prefix.length-prefix, Prefix.prefix-at, Prefix.prefix-is, Written.order-at, Written.length-order, Written.settling-inside}
 use Rattle.run_entry.specs.inner.Entry.{Loaded, Copies, CopyLeft, CopiedTo, Copied, PlansPut}
 
 -- ---- rows that are noted

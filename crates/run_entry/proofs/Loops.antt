@@ -1,12 +1,10 @@
 -- One turn of each of the loops. Assumes nothing.
-use Rattle.model.specs.Kit.{_≡_, refl, sym, _∙_, subst, _⊎_, inl, inr, List, ℕ, _+_, _-_, _*_, _≤_, _<_, ℕ-discrete, arith}
-use Rattle.model.specs.Kit.{length, set, length-set}
+use Rattle.model.specs.Kit.{_≡_, refl, sym, _∙_, subst, _⊎_, inl, inr, List, ℕ, _+_, _-_, _*_, _≤_, _<_, ℕ-discrete, arith, length, set, length-set}
 use Rattle.model.specs.{Lists.at, Run.Tally}
-use Rattle.model.proofs.{Lists.at-set, Lists.at-set-other}
+use Rattle.model.proofs.Lists.{at-set, at-set-other}
 use Rattle.arrays.specs.inner.Places.{LAST, IDLE, DEPTH, LOW, GOOD, NODES, LENGTH, SETS, ENDS, COUNTS}
 use Rattle.run_key.specs.inner.Key.{Placed}
-use Rattle.run_entry.specs.inner.Entry.{Taken}
-use Rattle.run_entry.specs.inner.Entry.{FigureIn, Put}
+use Rattle.run_entry.specs.inner.Entry.{Taken, FigureIn, Put}
 
 -- ---- the last node of an entry
 abbrev pub TakenTo : List ℕ → ℕ → ℕ → ℕ → List ℕ → Type 0

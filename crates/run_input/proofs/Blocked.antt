@@ -1,8 +1,8 @@
 -- The block in the problem that the run walks: the positions of its variables in the order are a block of the compiled problem, whose orderings are those of the run.
 -- Assumes nothing.
 use Rattle.model.specs.Kit.{_≡_, refl, sym, ap, _∙_, List, map, ℕ, _<_, T, length, take}
-use lib.Seq.{take-at}
 use Rattle.model.specs.{Lists.at, ValueSets.has, Problem.pair, Verdict.isAccepted, Sheet.problemOf, inner.Filling.Gathered}
+use lib.Seq.{take-at}
 use Rattle.order.specs.Reordered.{renamed, symmetryIn, reordered}
 use Rattle.block.specs.{Block.tablesLent, Block.inLent, inner.BlockSets.BlockIn}
 use Rattle.run_input.specs.Lent.{verdictLent, orderLent, problemLent}

@@ -1,14 +1,12 @@
 -- The answers to the questions from those of the parts, and the compiled problem in the settling order. Assumes nothing.
 use Rattle.model.specs.Kit.{_≡_, refl, sym, ap, _∙_, subst, Bool, List, [], _∷_, ℕ, _≤_, arith, T, eqb, length, take, length-map, eq-eqb, ne-eqb}
 use Rattle.model.specs.{Lists.at, Problem.Problem, Verdict.Verdict, Verdict.accepted, Verdict.ask, Verdict.isAccepted, Sheet.verdictOf, Sheet.problemOf}
-use Rattle.model.proofs.Accepted.{stated, symmetries-are, passed, is-accepted}
-use Rattle.model.proofs.Lists.{never}
+use Rattle.model.proofs.{Accepted.stated, Accepted.symmetries-are, Accepted.passed, Accepted.is-accepted, Lists.never}
 use Rattle.order.specs.{Order.settlingOrder, Order.orderVerdict, Order.Ordering, Reordered.symmetryIn, Reordered.reordered, inner.Settled.Ordered}
 use Rattle.order.proofs.{Order.no-pairs, Reordered.well-reordered, LeadersBy.reordered-below}
 use Rattle.arrays.specs.{inner.Layout.Compiled, inner.Places.VARIABLES}
 use Rattle.arrays_order.specs.inner.Reorder.{Movable, Moved}
-use Rattle.sheet.specs.{inner.Form.Sized, inner.Form.Compilation, Meaning.means, Meaning.andThen, declared.Answer.Answer, declared.Answer.the-variants.Accepted}
-use Rattle.sheet.specs.declared.Answer.the-variants.{Refused}
+use Rattle.sheet.specs.{inner.Form.Sized, inner.Form.Compilation, Meaning.means, Meaning.andThen, declared.Answer.Answer, declared.Answer.the-variants.Accepted, declared.Answer.the-variants.Refused}
 use Rattle.block.specs.Block.{blockLent}
 use Rattle.arrays_block.specs.inner.Asked.{Held}
 use Rattle.run_input.specs.{Lent.verdictLent, Lent.orderLent, inner.Compile.WithinLimits, inner.Compile.CompiledLent, inner.Compile.Lendings, inner.Compile.AskedLent}

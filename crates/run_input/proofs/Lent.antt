@@ -1,11 +1,11 @@
 -- The demands of a run that is lent a sheet, pairs and a block, and an empty lending, which changes nothing (specs/LentClaims). Assumes nothing.
 use Rattle.model.specs.Kit.{_≡_, refl, ap, ap₂, _∙_, ⊎-elim, List, [], _++_, append-nil, List·Memᴰ, Memᴰ·append-left, ℕ, T}
+use Rattle.model.specs.{Problem.Problem, Problem.respects, Problem.withSymmetries, Verdict.Verdict, Verdict.accepted, Verdict.refused, Verdict.isAccepted, Sheet.verdictOf, Sheet.problemOf}
+use Rattle.model.specs.{inner.WellFormed.WellFormed, inner.WellFormed.GoodSymmetry, inner.WellFormed.Respected, Run.Ending, Run.ended, Claims.OneMore}
 use mathlib.Core.List.{List·Memᴰ·append-cases, Memᴰ·append-right}
-use Rattle.model.specs.{Problem.Problem, Problem.respects, Problem.withSymmetries, Verdict.Verdict, Verdict.accepted, Verdict.refused, Verdict.isAccepted, Sheet.verdictOf}
-use Rattle.model.specs.{Sheet.problemOf, inner.WellFormed.WellFormed, inner.WellFormed.GoodSymmetry, inner.WellFormed.Respected, Run.Ending, Run.ended, Claims.OneMore}
 use Rattle.model.proofs.{Accepted.Passed, Accepted.passed, Accepted.is-accepted, Asked.well-formed-with, Asked.respected-with, OneMore.one-more}
-use Rattle.order.specs.{Order.Ordering, Order.settlingOrder, Order.orderVerdict, Reordered.reordered, RunBy.Input, RunBy.sheetInput, RunBy.answerBy, RunBy.listBy, RunBy.talliedBy}
-use Rattle.order.specs.{Claims.OrderPassed, inner.Demanded.Demanded, inner.Demanded.Fewer}
+use Rattle.order.specs.RunBy.{Input, sheetInput, answerBy, listBy, talliedBy}
+use Rattle.order.specs.{Order.Ordering, Order.settlingOrder, Order.orderVerdict, Reordered.reordered, Claims.OrderPassed, inner.Demanded.Demanded, inner.Demanded.Fewer}
 use Rattle.order.proofs.{Order.order-passed, Order.no-pairs, Order.no-pairs-asked, Demanded.Sound, Demanded.ran-by, Demanded.demanded, Demanded.fewer, Demanded.sheet-run}
 use Rattle.sheet.specs.Meaning.{andThen}
 use Rattle.block.specs.Block.{tablesLent, blockLent}

@@ -2,9 +2,9 @@
 use Rattle.model.specs.Kit.{refl}
 use Rattle.model.specs.{Run.countsBy, Run.tallyAt, Examples.Each}
 use Rattle.model.proofs.Examples.{opened}
-use Rattle.order.specs.{Order.pairsIn, Order.forerunners, Order.canFollow, Order.settledFirst, Order.settlingOrder, Order.settlesAll, Order.orderVerdict, Reordered.position}
-use Rattle.order.specs.{Reordered.read, Reordered.write, Reordered.valueOf, Reordered.scopeIn, Reordered.rowIn, Reordered.renamed, Reordered.symmetryIn, RunBy.resultBy}
-use Rattle.order.specs.RunBy.{placeCounts, answerBy, listBy, talliedBy}
+use Rattle.order.specs.Order.{pairsIn, forerunners, canFollow, settledFirst, settlingOrder, settlesAll, orderVerdict}
+use Rattle.order.specs.Reordered.{position, read, write, valueOf, scopeIn, rowIn, renamed, symmetryIn}
+use Rattle.order.specs.RunBy.{resultBy, placeCounts, answerBy, listBy, talliedBy}
 use Rattle.block.specs.Block.{orderings, ordering, factorial, variableTable, inBlock, imageOf, orderingTable, blockTables, isBlock, blockVerdict, tablesLent, blockLent}
 use Rattle.run_input.specs.{Lent.verdictLent, LentExamples.testsLent}
 

@@ -1,8 +1,8 @@
 -- The questions put to a sheet, pairs and a block (specs/LentClaims): their order, and what 30 and 36 mean. Assumes nothing.
-use Rattle.model.specs.Kit.{_≡_, refl, sym, ap, ap₂, _∙_, subst, Bool, true, false, _↔_, _⊎_, inl, inr, ⊎-elim, List, [], _∷_, List·Memᴰ, ℕ, suc, _%_, _≤_, _<_, arith, T, leb, ltb}
-use Rattle.model.specs.Kit.{eqb, leb→le, ltb→lt, eqb→eq, length, le-leb, eq-eqb}
-use Rattle.model.specs.{Lists.both, Lists.all, Problem.Problem, Problem.respects, Verdict.Verdict, Verdict.accepted, Verdict.refused, Verdict.ask, Sheet.problemOf}
-use Rattle.model.specs.Sheet.{permutesPairs, symmetriesVerdict, verdictOf}
+use Rattle.model.specs.Kit.{_≡_, refl, sym, ap, ap₂, _∙_, subst, Bool, true, false, _↔_, _⊎_, inl, inr, ⊎-elim, List, [], _∷_, List·Memᴰ, ℕ, suc, _%_, _≤_, _<_, arith, T, leb, ltb, eqb, leb→le}
+use Rattle.model.specs.Kit.{ltb→lt, eqb→eq, length, le-leb, eq-eqb}
+use Rattle.model.specs.{Lists.both, Lists.all, Problem.Problem, Problem.respects, Verdict.Verdict, Verdict.accepted, Verdict.refused, Verdict.ask, Sheet.problemOf, Sheet.permutesPairs}
+use Rattle.model.specs.{Sheet.symmetriesVerdict, Sheet.verdictOf}
 use Rattle.model.proofs.Lists.{both-l, both-r, of-T, T-of, not-of, all-e}
 use Rattle.order.specs.Order.{Circle, settlesAll, orderVerdict}
 use Rattle.order.proofs.Order.{question-30, no-circle-passes}

@@ -1,6 +1,6 @@
 -- Marks as bits, and the heads that are marked. Assumes nothing.
-use Rattle.model.specs.Kit.{_≡_, refl, sym, ap, ap₂, _∙_, subst, Bool, true, false, not, List, ℕ, _+_, _-_, _/_, _%_, _≤_, _<_, arith, bitOr, T, eqb, ltb, length, set, replicate}
-use Rattle.model.specs.Kit.{length-set, length-replicate, eq-eqb, ne-eqb, eqb-true, eqb-false, ltb-true, ltb-false}
+use Rattle.model.specs.Kit.{_≡_, refl, sym, ap, ap₂, _∙_, subst, Bool, true, false, not, List, ℕ, _+_, _-_, _/_, _%_, _≤_, _<_, arith, bitOr, T, eqb, ltb, length, set, replicate, length-set}
+use Rattle.model.specs.Kit.{length-replicate, eq-eqb, ne-eqb, eqb-true, eqb-false, ltb-true, ltb-false}
 use Rattle.model.specs.{Lists.at, Lists.both, Lists.either, ValueSets.has}
 use Rattle.model.proofs.{Lists.T-of, Lists.of-T, Lists.of-not, Lists.at-set, Lists.at-set-other, Lists.at-replicate, Lists.either-l, Masks.has-or, Members.either-no, Sets.has-none}
 use Rattle.run_join.specs.inner.Inner.{marked, NoMarks, MarkedToo, Pending}

@@ -1,6 +1,5 @@
 -- Fewer of a list: those that pass a test that fewer pass. Assumes nothing.
-use Rattle.model.specs.Kit.{_≡_, refl, ap, subst, Bool, true, false, List, [], _∷_, map, List·Memᴰ, List·Memᴰ·head, List·Memᴰ·tail, List·Memᴰ·not-nil, Memᴰ·map, ℕ, _≤_, _<_, arith}
-use Rattle.model.specs.Kit.{T, length}
+use Rattle.model.specs.Kit.{_≡_, refl, ap, subst, Bool, true, false, List, [], _∷_, map, List·Memᴰ, List·Memᴰ·head, List·Memᴰ·tail, List·Memᴰ·not-nil, Memᴰ·map, ℕ, _≤_, _<_, arith, T, length}
 use Rattle.model.specs.Lists.{keep, below}
 use Rattle.model.proofs.Lists.{T-of, of-T, not-of, of-not, keep-yes, keep-no, keep-all, below-i, length-below}
 use Rattle.run_cut.specs.Parts.{after}

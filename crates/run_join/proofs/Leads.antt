@@ -1,6 +1,6 @@
 -- The heads that lead to the last path. Assumes nothing.
-use Rattle.model.specs.Kit.{_≡_, refl, sym, ap, _∙_, subst, Bool, true, false, not, _⊎_, inl, inr, List, [], _∷_, ℕ, zero, suc, _+_, _-_, _*_, _≤_, _<_, arith, T, eqb, ltb, length}
-use Rattle.model.specs.Kit.{eq-eqb, ne-eqb, eqb-true, eqb-false, ltb-true, ltb-false}
+use Rattle.model.specs.Kit.{_≡_, refl, sym, ap, _∙_, subst, Bool, true, false, not, _⊎_, inl, inr, List, [], _∷_, ℕ, zero, suc, _+_, _-_, _*_, _≤_, _<_, arith, T, eqb, ltb, length, eq-eqb, ne-eqb}
+use Rattle.model.specs.Kit.{eqb-true, eqb-false, ltb-true, ltb-false}
 use Rattle.model.specs.Lists.{any, at, below, both, either, choose, keep, same, tabulate}
 use Rattle.model.proofs.Lists.{T-of, of-T, not-of, of-not, T-ext, both-i, both-l, both-r, either-l, either-r, either-e, any-i, any-e, below-i, below-e, same-eq, same-refl}
 use Rattle.model.proofs.Members.{either-no}

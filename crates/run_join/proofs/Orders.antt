@@ -1,8 +1,8 @@
 -- Paths in bytes: the order of two paths by the first byte in which they differ, else by their lengths. Assumes nothing.
-use Rattle.model.specs.Kit.{_≡_, refl, sym, ap, ap₂, _∙_, subst, Bool, true, false, List, _∷_, ℕ, zero, suc, _+_, _≤_, _<_, arith, T, eqb, ltb, leb, length, eq-eqb, ne-eqb}
-use Rattle.model.specs.Kit.{eqb-true, eqb-false, lt-ltb, le-ltb, ltb-true, ltb-false, le-leb, lt-leb, leb-true}
-use native.Mathlib.Numerals.{lt-of-le-of-ne}
+use Rattle.model.specs.Kit.{_≡_, refl, sym, ap, ap₂, _∙_, subst, Bool, true, false, List, _∷_, ℕ, zero, suc, _+_, _≤_, _<_, arith, T, eqb, ltb, leb, length, eq-eqb, ne-eqb, eqb-true, eqb-false}
+use Rattle.model.specs.Kit.{lt-ltb, le-ltb, ltb-true, ltb-false, le-leb, lt-leb, leb-true}
 use Rattle.model.specs.Lists.{all, at, below, both, either, choose, same, tabulate}
+use native.Mathlib.Numerals.{lt-of-le-of-ne}
 use Rattle.model.proofs.Lists.{T-of, of-T, not-of, of-not, all-i, all-e, below-i, below-e, length-tabulate, at-tabulate, same-eq, same-refl, both-no-r, both-yes, both-second}
 use Rattle.run_cut.specs.Parts.{after}
 use Rattle.run_cut.proofs.Parts.{after-ne, after-eq}

@@ -5,7 +5,7 @@ use Rattle.run_cut.specs.Parts.{after}
 use Rattle.model.proofs.Lists.{at-replicate, never}
 use Rattle.run_join.specs.Join.{joinVerdict, headsIn, fromAt, joined, standPath, nearer, nearestOf, plansOf, nodesOf, countOf}
 use Rattle.run_join.specs.{inner.Inner.Said, inner.Inner.Summed, inner.Inner.numberIn, Calls.answerFor, Calls.figureFor, Calls.CallJoin, declared.Answer.Answer}
-use Rattle.run_join.specs.declared.Answer.the-variants.{Refused, Joined, Missing}
+use Rattle.run_join.specs.{declared.Answer.the-variants.Refused, declared.Answer.the-variants.Joined, declared.Answer.the-variants.Missing}
 
 module _ (l : List ℕ) (stand : ℕ) where
   nearest-few : (n : ℕ) → nearestOf l (standPath l stand) n ≤ n

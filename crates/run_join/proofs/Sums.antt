@@ -1,6 +1,6 @@
 -- The sums of the heads taken, turn by turn, and the answer. Assumes nothing.
-use Rattle.model.specs.Kit.{_≡_, refl, sym, ap, ap₂, _∙_, subst, Bool, true, false, List, [], _∷_, map, ℕ, zero, suc, _+_, _-_, _*_, _/_, _%_, _^_, _≤_, _<_, arith, eqb, ltb, leb}
-use Rattle.model.specs.Kit.{length, set, replicate, length-set, ltb-true, ltb-false, leb-true}
+use Rattle.model.specs.Kit.{_≡_, refl, sym, ap, ap₂, _∙_, subst, Bool, true, false, List, [], _∷_, map, ℕ, zero, suc, _+_, _-_, _*_, _/_, _%_, _^_, _≤_, _<_, arith, eqb, ltb, leb, length, set}
+use Rattle.model.specs.Kit.{replicate, length-set, ltb-true, ltb-false, leb-true}
 use Rattle.model.specs.{Lists.all, Lists.at, Lists.below, Lists.total, Verdict.Verdict, Verdict.accepted, Verdict.ask}
 use Rattle.model.proofs.Lists.{at-set, at-set-other, at-replicate, both-second}
 use Rattle.run_join.specs.Join.{fourAt, kindAt, headShaped, alike, headsIn, wholeHeads, joinVerdict, stepOf, takenFrom, taken, standAfter, stands, plansOf, nodesOf, countOf}

@@ -1,6 +1,6 @@
 -- The heads taken, turn by turn. Assumes nothing.
-use Rattle.model.specs.Kit.{_≡_, refl, sym, ap, ap₂, _∙_, subst, Bool, true, false, List, [], _∷_, ℕ, zero, suc, _+_, _-_, _*_, _≤_, _<_, add-one, arith, T, eqb, leb, length}
-use Rattle.model.specs.Kit.{eq-eqb, ne-eqb, eqb-true, eqb-false}
+use Rattle.model.specs.Kit.{_≡_, refl, sym, ap, ap₂, _∙_, subst, Bool, true, false, List, [], _∷_, ℕ, zero, suc, _+_, _-_, _*_, _≤_, _<_, add-one, arith, T, eqb, leb, length, eq-eqb, ne-eqb, eqb-true}
+use Rattle.model.specs.Kit.{eqb-false}
 use Rattle.model.specs.Lists.{all, at, below, upFrom, both, choose, same, tabulate}
 use Rattle.model.proofs.Lists.{T-of, not-of, same-eq, both-second}
 use Rattle.run_cut.specs.Parts.{after}
@@ -110,8 +110,7 @@ module _ (l s : List ℕ) where
 
   pub near-turn : (k near r : ℕ) → near ≡ nearestOf l s k → r ≡ choose (both (after s (fromAt l k)) (nearer l near (fromAt l k))) (suc k) near → r ≡ nearestOf l s (k + 1)
   unfolding nearestOf
-  near-turn k near r e f =
-      f ∙ ap (λ (b : ℕ). choose (both (after s (fromAt l k)) (nearer l b (fromAt l k))) (suc k) b) e ∙ ap (nearestOf l s) (sym (add-one k))
+  near-turn k near r e f = f ∙ ap (λ (b : ℕ). choose (both (after s (fromAt l k)) (nearer l b (fromAt l k))) (suc k) b) e ∙ ap (nearestOf l s) (sym (add-one k))
 
   pub near-first : (near k : ℕ) → near ≡ 0 → nearer l near (fromAt l k) ≡ true
   near-first near k e = ap (λ (i : ℕ). nearer l i (fromAt l k)) e

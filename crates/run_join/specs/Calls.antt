@@ -1,8 +1,8 @@
 -- What a caller of `join` holds.
 use Rattle.model.specs.Kit.{_≡_, List, ℕ, _≤_, _<_}
 use Rattle.model.specs.{Lists.at, Lists.choose, Verdict.Verdict, Verdict.accepted, Verdict.refused}
-use Rattle.run_join.specs.{Join.joinVerdict, Join.headsIn, Join.joined, Join.stands, Join.nearest, Join.plansOf, Join.nodesOf, Join.countOf, declared.Answer.Answer}
-use Rattle.run_join.specs.{declared.Answer.the-variants.Refused, declared.Answer.the-variants.Joined, declared.Answer.the-variants.Missing, declared.Joining.Joining}
+use Rattle.run_join.specs.Join.{joinVerdict, headsIn, joined, stands, nearest, plansOf, nodesOf, countOf}
+use Rattle.run_join.specs.{declared.Answer.Answer, declared.Answer.the-variants.Refused, declared.Answer.the-variants.Joined, declared.Answer.the-variants.Missing, declared.Joining.Joining}
 
 -- the refusal; or that one comes to the last path; or where one stands, and the nearest beginning after it
 unfoldable pub answerFor : Verdict → List ℕ → Answer

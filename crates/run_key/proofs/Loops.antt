@@ -1,9 +1,8 @@
 -- One turn of each of the loops. Assumes nothing.
-use Rattle.model.specs.Kit.{_≡_, refl, sym, ap, ap₂, _∙_, subst, Bool, true, false, not, List, ℕ, _+_, _-_, _*_, _%_, _≤_, _<_, ℕ-discrete, arith, bitAnd, bitOr, T}
-use Rattle.model.specs.Kit.{eqb, ltb, leb, eq-eqb, ne-eqb, ltb-true, ltb-false, lt-ltb, le-ltb, le-leb, lt-leb}
+use Rattle.model.specs.Kit.{_≡_, refl, sym, ap, ap₂, _∙_, subst, Bool, true, false, not, List, ℕ, _+_, _-_, _*_, _%_, _≤_, _<_, ℕ-discrete, arith, bitAnd, bitOr, T, eqb, ltb, leb, eq-eqb, ne-eqb}
+use Rattle.model.specs.Kit.{ltb-true, ltb-false, lt-ltb, le-ltb, le-leb, lt-leb}
 use Rattle.model.specs.{Lists.at, Lists.either, Lists.choose, ValueSets.has}
-use Rattle.model.proofs.{Lists.both-i, Lists.either-l, Lists.either-r, Masks.has-and}
-use Rattle.model.proofs.Masks.{has-or}
+use Rattle.model.proofs.{Lists.both-i, Lists.either-l, Lists.either-r, Masks.has-and, Masks.has-or}
 use Rattle.arrays.specs.inner.Places.{ENTAILED, OBEYED, SETS}
 use Rattle.run_key.specs.inner.Key.{Seen, Pending, lowered, compared, SameSets}
 

@@ -1,6 +1,6 @@
 -- An entry with the key of a prefix keeps the figures of its subtree. Assumes nothing.
-use Rattle.model.specs.Kit.{_≡_, refl, sym, ap, _∙_, subst, Bool, not, inl, inr, List, [], _∷_, List·Memᴰ, List·Memᴰ·head, List·Memᴰ·tail, ℕ, _+_, _-_, _*_, _%_, _≤_, _<_}
-use Rattle.model.specs.Kit.{ℕ-discrete, arith, bitAnd, T, eqb, leb, eqb-refl, leb→le, length, drop, length-drop, eqb-true, le-leb, eq-eqb, ne-eqb}
+use Rattle.model.specs.Kit.{_≡_, refl, sym, ap, _∙_, subst, Bool, not, inl, inr, List, [], _∷_, List·Memᴰ, List·Memᴰ·head, List·Memᴰ·tail, ℕ, _+_, _-_, _*_, _%_, _≤_, _<_, ℕ-discrete, arith, bitAnd}
+use Rattle.model.specs.Kit.{T, eqb, leb, eqb-refl, leb→le, length, drop, length-drop, eqb-true, le-leb, eq-eqb, ne-eqb}
 use Rattle.model.specs.{Lists.at, Lists.any, ValueSets.has, Problem.Problem, Problem.Constraint, Search.setsAt, Run.Tally}
 use Rattle.model.proofs.Lists.{T-of, both-i, either-l, either-r, any-i, keep-e, at-ext, place-of, Sorted, sorted-keep, ascending-sorted, at-drop}
 use Rattle.model.proofs.{Filling.gathered-is, Masks.has-and, Sets.has-none, Prune.Sized, Prune.setsAt-sets, Tree.well-sized}

@@ -6,8 +6,7 @@ use Rattle.run_alike.specs.inner.Claims.{SameBelow}
 use Rattle.run_state.specs.{inner.Memo.MarksRead, inner.Memo.Kept, inner.Pair.prefixOf, inner.Pair.orderIn, inner.Pair.ownIn, inner.Pair.AtPrefix}
 use Rattle.run_key.specs.inner.Key.{Pending, Placed}
 use Rattle.run_entry.specs.inner.Entry.{Compared, Copies, Copied, Taken}
-use Rattle.run_memo.specs.inner.Steps.{grownBy}
-use Rattle.run_memo.specs.inner.Steps.{AtLook, Looked}
+use Rattle.run_memo.specs.inner.Steps.{grownBy, AtLook, Looked}
 use Rattle.run_memo.proofs.{Found.found-below, Recalled.copies-ask, Recalled.grows, Recalled.recalled}
 
 -- few symmetries

@@ -1,8 +1,7 @@
 -- One turn of each of the memo's loops. Assumes nothing.
-use Rattle.model.specs.Kit.{_≡_, sym, ap, _∙_, subst, List, ℕ, _+_, _-_, _≤_, _<_, ℕ-discrete, arith}
-use Rattle.model.specs.Kit.{length, set, length-set}
-use Rattle.model.specs.{Lists.at, Lists.tabulate}
-use Rattle.model.proofs.{Lists.at-set, Lists.at-set-other, Lists.at-ext, Lists.at-tabulate, Lists.length-tabulate}
+use Rattle.model.specs.Kit.{_≡_, sym, ap, _∙_, subst, List, ℕ, _+_, _-_, _≤_, _<_, ℕ-discrete, arith, length, set, length-set}
+use Rattle.model.specs.Lists.{at, tabulate}
+use Rattle.model.proofs.Lists.{at-set, at-set-other, at-ext, at-tabulate, length-tabulate}
 use Rattle.arrays.specs.inner.Places.{MEMO, DEPTH, COUNTS}
 use Rattle.run_state.specs.inner.Memo.{entryAt}
 use Rattle.run_passed.specs.inner.Passed.{plus}

@@ -1,6 +1,6 @@
 -- What was walked along may be kept: the entry that is put, and the others. Assumes nothing.
-use Rattle.model.specs.Kit.{_≡_, refl, sym, ap, ap₂, _∙_, subst, List, List·Memᴰ, Memᴰ·of-map, map, length-map, ℕ, zero, suc, _+_, _-_, _*_, _≤_, _<_, mul-le-mul-right, decLt, ℕ-discrete}
-use Rattle.model.specs.Kit.{arith, length}
+use Rattle.model.specs.Kit.{_≡_, refl, sym, ap, ap₂, _∙_, subst, List, List·Memᴰ, Memᴰ·of-map, map, length-map, ℕ, zero, suc, _+_, _-_, _*_, _≤_, _<_, mul-le-mul-right, decLt, ℕ-discrete, arith}
+use Rattle.model.specs.Kit.{length}
 use Rattle.model.specs.{Lists.at, Lists.keep, Lists.tabulate, Problem.Problem, Search.setsAt, Search.nodesBelow, Search.isPlan, Run.Tally, Run.settledBy, Run.countsBy}
 use Rattle.order.specs.Reordered.{write}
 use Rattle.arrays.specs.inner.Places.{LIMIT, ROOM, PLANS, LAST, MARKS, ALL, IDLE, ENTRY, DEPTH, LOW, GOOD, NODES, LENGTH, ROWS, FIRST, SETS, ENDS, COUNTS}

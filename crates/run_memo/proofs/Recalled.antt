@@ -2,9 +2,8 @@
 use Rattle.model.specs.Kit.{_≡_, refl, sym, ap, ap₂, _∙_, subst, List, [], _++_, Memᴰ·of-map, map, length-map, ℕ, _+_, _-_, _^_, _*_, _≤_, _<_, decLt, arith, T, eqb, eqb→eq, length, drop}
 use Rattle.model.specs.Kit.{length-append, length-drop, mul-le-mul-right}
 use Rattle.model.specs.{Lists.at, Lists.keep, Lists.tabulate, Lists.total, Problem.Problem, Search.nodesBelow, Search.isPlan, Search.isLive, Run.Tally, Run.settledBy, Run.countsBy}
-use Rattle.model.proofs.Lists.{at-drop}
-use Rattle.model.proofs.{Lists.at-ext, Lists.at-append, Lists.at-skip, Lists.at-tabulate, Lists.length-tabulate, Lists.both-l, Lists.keep-e, Tally.length-counts, Tally.counts-total, Tally.at-total}
-use Rattle.model.proofs.Tree.{well-sized}
+use Rattle.model.proofs.Lists.{at-drop, at-ext, at-append, at-skip, at-tabulate, length-tabulate, both-l, keep-e}
+use Rattle.model.proofs.{Tally.length-counts, Tally.counts-total, Tally.at-total, Tree.well-sized}
 use Rattle.order.specs.{Order.Ordering, Reordered.write}
 use Rattle.arrays.specs.inner.Places.{VARIABLES, LIMIT, ROOM, PLANS, LAST, ALL, NODES, LENGTH, ROWS, FIRST, ENDS, COUNTS}
 use Rattle.run_cut.specs.Parts.{lastOf}

@@ -1,9 +1,9 @@
 -- What a call of `run_part` holds (crate run_ranges). Assumes nothing.
-use Rattle.model.specs.Kit.{_≡_, refl, sym, ap, ap₂, _∙_, subst, Bool, true, false, _⊎_, inl, inr, List, [], map, List·Memᴰ, ℕ, suc, _+_, _-_, _*_, _/_, _^_, _≤_, _<_}
-use Rattle.model.specs.Kit.{arith, eqb, length, take, eqb-true, eqb-false}
-use native.Mathlib.Nat.{sub-zero}
-use Rattle.model.specs.{Lists.at, Lists.choose, Lists.keep, Lists.flat, Problem.Problem, Search.nodes, Verdict.Verdict, Verdict.accepted, Verdict.reply, Sheet.problemOf}
+use Rattle.model.specs.Kit.{_≡_, refl, sym, ap, ap₂, _∙_, subst, Bool, true, false, _⊎_, inl, inr, List, [], map, List·Memᴰ, ℕ, suc, _+_, _-_, _*_, _/_, _^_, _≤_, _<_, arith, eqb, length, take}
+use Rattle.model.specs.Kit.{eqb-true, eqb-false}
 use Rattle.model.specs.Run.{Ending, finished, spent, full, plansIn, nodesIn, Result, search, Answer, refusal, ended, written, Tally, settledBy, countsBy}
+use Rattle.model.specs.{Lists.at, Lists.choose, Lists.keep, Lists.flat, Problem.Problem, Search.nodes, Verdict.Verdict, Verdict.accepted, Verdict.reply, Sheet.problemOf}
+use native.Mathlib.Nat.{sub-zero}
 use Rattle.model.proofs.{Lists.keep-e, Lists.length-none, Accepted.is-accepted}
 use Rattle.order.specs.Reordered.{write}
 use Rattle.run_cut.specs.{Between.nodesBetween, Parts.lastOf}
@@ -11,8 +11,7 @@ use Rattle.run_cut.proofs.{Resume.dead-below, Resume.last-in, Resume.taken, Res
 use Rattle.run_input.specs.Lent.{verdictLent, orderLent, problemLent}
 use Rattle.run_input.proofs.Lent.{well-sheet, ordering-lent}
 use Rattle.arrays.specs.inner.Places.{ROOM, PLANS, NUMBER, ITEM, LAST, ALL, SPENT, DEEPER, REFUSED, WANTED}
-use Rattle.run_state.specs.inner.Walk.{noNodes, State, walk, allNoted, stopIn, tallyBy}
-use Rattle.run_state.specs.inner.Pair.{prefixOf, orderIn, stateOf}
+use Rattle.run_state.specs.inner.{Walk.noNodes, Walk.State, Walk.walk, Walk.allNoted, Walk.stopIn, Walk.tallyBy, Pair.prefixOf, Pair.orderIn, Pair.stateOf}
 use Rattle.run_state.proofs.{Prefix.prefix-zero, Prefix.prefix-at, Prefix.length-prefix, Outcome.outcome-on, Outcome.noted-all-none, Outcome.noted-all-over, Outcome.nothing-noted}
 use Rattle.run_task.specs.inner.Task.{roomFor}
 use Rattle.run_search.specs.inner.Prepared.{Prepared}

@@ -1,8 +1,7 @@
 -- The law of specs/Block. Assumes nothing.
-use Rattle.model.specs.Kit.{_≡_, refl, sym, ap, _∙_, subst, Bool, List, _++_, map, ℕ, _+_, _-_, _^_, _≤_, _<_, decLt, arith, T, eqb→eq, eqb-refl, length, drop, length-append}
-use Rattle.model.specs.Kit.{length-map, pow-lt}
-use Rattle.model.specs.{Lists.at, ValueSets.has, ValueSets.Inside, Problem.Problem, Problem.withSymmetries, Nogood.Entry, Nogood.obeys, Search.nogoodsOf, Search.narrowed}
-use Rattle.model.specs.{Search.setsAt, Search.isLive, Claims.Drawn, inner.WellFormed.WellFormed}
+use Rattle.model.specs.Kit.{_≡_, refl, sym, ap, _∙_, subst, Bool, List, _++_, map, ℕ, _+_, _-_, _^_, _≤_, _<_, decLt, arith, T, eqb→eq, eqb-refl, length, drop, length-append, length-map, pow-lt}
+use Rattle.model.specs.Search.{nogoodsOf, narrowed, setsAt, isLive}
+use Rattle.model.specs.{Lists.at, ValueSets.has, ValueSets.Inside, Problem.Problem, Problem.withSymmetries, Nogood.Entry, Nogood.obeys, Claims.Drawn, inner.WellFormed.WellFormed}
 use Rattle.model.proofs.{Lists.at-append, Lists.at-skip, Lists.at-drop, Lists.at-map, Lists.at-out, Sets.has-lt, Sets.has-at-lt, Masks.has-one, Assignments.drawn-i, Prune.Sized, Prune.narrowed-i}
 use Rattle.model.proofs.{Prune.setsAt-sets, Consistent.live-consistent, Tree.well-sized, Child.child-sets}
 use Rattle.block.specs.{inner.BlockSets.Reorders, inner.BlockSets.BlockIn, inner.Claims.Ascends}

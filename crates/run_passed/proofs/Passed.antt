@@ -1,6 +1,5 @@
 -- The laws of specs/Passed. Assumes nothing.
-use Rattle.model.specs.Kit.{_≡_, refl, sym, ap, ap₂, _∙_, subst, Bool, true, false, List, [], _∷_, map, ℕ, suc, _+_, _*_, _≤_, _<_, arith, eqb, length, set, length-set, eqb-true}
-use Rattle.model.specs.Kit.{eqb-false}
+use Rattle.model.specs.Kit.{_≡_, refl, sym, ap, ap₂, _∙_, subst, Bool, true, false, List, [], _∷_, map, ℕ, suc, _+_, _*_, _≤_, _<_, arith, eqb, length, set, length-set, eqb-true, eqb-false}
 use Rattle.model.specs.{Lists.at, Lists.keep, Lists.tabulate, Search.isPlan, Search.nodesBelow, Run.settledBy, Run.countsBy}
 use Rattle.model.proofs.{Lists.at-ext, Lists.at-set, Lists.at-set-other, Lists.at-tabulate, Lists.length-tabulate, Lists.keep-yes, Lists.keep-no, Tally.at-counts}
 use Rattle.order.specs.Reordered.{write}

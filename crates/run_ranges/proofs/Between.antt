@@ -1,12 +1,12 @@
 -- The nodes between two paths (run_cut's `nodesBetween`): parts of the tree that join, a part up to its last node, the whole tree. Holds of every problem. Assumes nothing.
-use Rattle.model.specs.Kit.{_≡_, refl, sym, ap, ap₂, _∙_, subst, Bool, true, false, not, _⊎_, inl, inr, List, [], _∷_, _++_, List·Memᴰ, List·Memᴰ·head, List·Memᴰ·tail, ℕ, zero}
-use Rattle.model.specs.Kit.{suc, _≤_, _<_, arith, T, eqb, ltb, length, take, drop, length-append, take-append-drop, le-ltb}
-use lib.Seq.{take-append-seam}
+use Rattle.model.specs.Kit.{_≡_, refl, sym, ap, ap₂, _∙_, subst, Bool, true, false, not, _⊎_, inl, inr, List, [], _∷_, _++_, List·Memᴰ, List·Memᴰ·head, List·Memᴰ·tail, ℕ, zero, suc, _≤_, _<_, arith}
+use Rattle.model.specs.Kit.{T, eqb, ltb, length, take, drop, length-append, take-append-drop, le-ltb}
 use Rattle.model.specs.{Lists.both, Lists.keep, Lists.at, Problem.Problem, Search.nodes}
+use lib.Seq.{take-append-seam}
 use Rattle.model.proofs.Lists.{T-of, of-T, not-of, of-not, both-i, both-l, both-r, both-true, keep-yes, keep-no, keep-ext, keep-none, keep-e, Sorted, sorted-keep, T-ext}
 use Rattle.run_cut.specs.{Parts.after, Parts.nodesAfter, Parts.lastOf, Between.nodesBetween}
-use Rattle.run_cut.proofs.{Parts.after-trans, Parts.after-later, Parts.after-ne, Parts.nil-after, Parts.Later, Parts.nodes-ascend, Parts.nodes-start, Resume.node-values}
-use Rattle.run_cut.proofs.Resume.{last-in, taken, after-lasts}
+use Rattle.run_cut.proofs.Parts.{after-trans, after-later, after-ne, nil-after, Later, nodes-ascend, nodes-start}
+use Rattle.run_cut.proofs.Resume.{node-values, last-in, taken, after-lasts}
 
 -- after one path and not after another
 abbrev pub between : List ℕ → List ℕ → List ℕ → Bool

@@ -1,10 +1,9 @@
 -- Parts of a run that are run apart hold together what the run holds (specs/Claims). Assumes nothing.
-use Rattle.model.specs.Kit.{_≡_, refl, sym, ap, ap₂, _∙_, subst, _⊎_, inl, inr, List, [], _∷_, _++_, map, Memᴰ·of-map, ℕ, suc, _+_, _*_, _≤_, mul-le-mul-right, arith, T, length}
-use Rattle.model.specs.Kit.{take, drop, replicate, length-append, length-map, take-append-drop, take-all, length-take-le}
+use Rattle.model.specs.Kit.{_≡_, refl, sym, ap, ap₂, _∙_, subst, _⊎_, inl, inr, List, [], _∷_, _++_, map, Memᴰ·of-map, ℕ, suc, _+_, _*_, _≤_, mul-le-mul-right, arith, T, length, take, drop, replicate}
+use Rattle.model.specs.Kit.{length-append, length-map, take-append-drop, take-all, length-take-le}
+use Rattle.model.specs.Run.{Ending, finished, spent, full, plansIn, nodesIn, Result, search, resultOf, Answer, refusal, answered, ended, written, Tally, tallyFor, settledBy, countsBy, listedPlans}
+use Rattle.model.specs.{Lists.keep, Lists.flat, Lists.at, Lists.total, Problem.Problem, Search.nodes, Search.isPlan, Verdict.Verdict, Verdict.accepted, Verdict.reply, Verdict.kept, Sheet.problemOf}
 use lib.Seq.{take-append-seam, take-append-le}
-use Rattle.model.specs.{Lists.keep, Lists.flat, Lists.at, Lists.total, Problem.Problem, Search.nodes, Search.isPlan, Verdict.Verdict, Verdict.accepted, Verdict.reply, Verdict.kept}
-use Rattle.model.specs.{Sheet.problemOf, Run.Ending, Run.finished, Run.spent, Run.full, Run.plansIn, Run.nodesIn, Run.Result, Run.search, Run.resultOf, Run.Answer, Run.refusal}
-use Rattle.model.specs.Run.{answered, ended, written, Tally, tallyFor, settledBy, countsBy, listedPlans}
 use Rattle.model.proofs.{Lists.keep-append, Lists.map-append, Runs.Ended, Runs.Walk, Runs.walk, Demands.read-back, Accepted.is-accepted}
 use Rattle.order.specs.{Order.Ordering, Reordered.write, RunBy.resultBy, RunBy.placeCounts, RunBy.placeTally, RunBy.answerBy, RunBy.listBy, RunBy.talliedBy}
 use Rattle.run_cut.specs.{Parts.after, Parts.lastOf, Between.Cuts, Between.nodesBetween}
@@ -12,8 +11,8 @@ use Rattle.run_cut.proofs.Counts.{counts-append, counts-none}
 use Rattle.run_input.specs.Lent.{verdictLent, problemWith, orderLent, problemLent, answerLent, listLent, tallyLent}
 use Rattle.run_input.proofs.Lent.{well-lent, ordering-lent}
 use Rattle.run_ranges.specs.Ranges.{resultPart, answerPart, listPart, plansSaid, nodesSaid, madeBy, tallyPart, lastPart}
-use Rattle.run_ranges.specs.Claims.{Part, CallRange, plansHeld, Refused-part, Whole-run, Goes, reachedFor, reachedBy, Chain, allPlans, sumPlans, sumNodes, sumCounts, Together}
-use Rattle.run_ranges.specs.Claims.{Parts-join, Joined-run, One-piece, Done, CutAt, Cuts-run}
+use Rattle.run_ranges.specs.Claims.{Part, CallRange, plansHeld, Refused-part, Whole-run, Goes, reachedFor, reachedBy, Chain, allPlans, sumPlans, sumNodes, sumCounts, Together, Parts-join}
+use Rattle.run_ranges.specs.Claims.{Joined-run, One-piece, Done, CutAt, Cuts-run}
 use Rattle.run_ranges.proofs.Between.{Before, before-of, join-nodes, none-between, whole-between, stop}
 use Rattle.order.proofs.Reordered as O
 

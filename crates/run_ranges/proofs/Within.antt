@@ -1,11 +1,11 @@
 -- The nodes of a part below a prefix, one value at a time (specs/Within). Holds of every problem. Assumes nothing.
-use Rattle.model.specs.Kit.{_≡_, refl, sym, ap, ap₂, _∙_, subst, Bool, true, false, not, List, [], _∷_, _++_, map, List·Memᴰ, List·Memᴰ·head, List·Memᴰ·tail, append-nil, ℕ, suc}
-use Rattle.model.specs.Kit.{_+_, _≤_, _<_, arith, T, eqb, ltb, length, ltb-true, ltb-false, eqb-true, eqb-false, ne-eqb, lt-ltb, le-ltb}
+use Rattle.model.specs.Kit.{_≡_, refl, sym, ap, ap₂, _∙_, subst, Bool, true, false, not, List, [], _∷_, _++_, map, List·Memᴰ, List·Memᴰ·head, List·Memᴰ·tail, append-nil, ℕ, suc, _+_, _≤_, _<_, arith}
+use Rattle.model.specs.Kit.{T, eqb, ltb, length, ltb-true, ltb-false, eqb-true, eqb-false, ne-eqb, lt-ltb, le-ltb}
+use Rattle.model.specs.Lists.{both, either, any, keep, flat, below, at}
+use Rattle.model.specs.{ValueSets.has, ValueSets.members, Problem.Problem, Search.setsAt, Search.isLive, Search.nodesBelow, Search.nodes}
 use lib.Seq.{append-snoc}
-use Rattle.model.specs.{Lists.both, Lists.either, Lists.any, Lists.keep, Lists.flat, Lists.below, Lists.at, ValueSets.has, ValueSets.members, Problem.Problem, Search.setsAt}
-use Rattle.model.specs.Search.{isLive, nodesBelow, nodes}
-use Rattle.model.proofs.Lists.{T-of, of-T, not-of, of-not, both-l, both-r, any-cons, among-i, among-e, keep-yes, keep-no, keep-ext, keep-all, keep-none, keep-e, keep-i}
-use Rattle.model.proofs.Lists.{keep-flat-map, map-ext, below-e, Sorted, sorted-keep}
+use Rattle.model.proofs.Lists.{T-of, of-T, not-of, of-not, both-l, both-r, any-cons, among-i, among-e, keep-yes, keep-no, keep-ext, keep-all, keep-none, keep-e, keep-i, keep-flat-map, map-ext}
+use Rattle.model.proofs.Lists.{below-e, Sorted, sorted-keep}
 use Rattle.run_cut.specs.{Parts.after, Between.nodesBetween, inner.Paths.nodesOf, inner.Paths.candidatesAt, inner.Paths.reached}
 use Rattle.run_cut.proofs.Parts.{after-eq, after-ne, after-front, after-nil, nil-after, branch, branch-form, below-longer, sorted-candidates}
 use Rattle.run_cut.proofs.Resume.{dead-below, node-reached}

@@ -1,7 +1,7 @@
 -- What is claimed of parts of a run that are run apart, of what their callers hold; the statements can be read without the proofs.
 use Rattle.model.specs.Kit.{_≡_, _⊎_, List, [], _∷_, map, ℕ, _*_, _≤_, T, length, replicate}
-use Rattle.model.specs.{Lists.flat, Lists.at, Lists.total, Verdict.accepted, Verdict.refused, Sheet.problemOf, Run.finished, Run.spent, Run.full, Run.Answer, Run.refusal}
-use Rattle.model.specs.Run.{answered, ended, written, Tally, listedPlans}
+use Rattle.model.specs.Run.{finished, spent, full, Answer, refusal, answered, ended, written, Tally, listedPlans}
+use Rattle.model.specs.{Lists.flat, Lists.at, Lists.total, Verdict.accepted, Verdict.refused, Sheet.problemOf}
 use Rattle.run_cut.specs.{Parts.after, Parts.lastOf, Between.Cuts}
 use Rattle.run_input.specs.Lent.{verdictLent, answerLent, listLent, tallyLent}
 use Rattle.run_ranges.specs.Ranges.{answerPart, listPart, plansSaid, nodesSaid, tallyPart, lastPart}

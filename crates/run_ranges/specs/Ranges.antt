@@ -2,8 +2,8 @@
 -- walks along all of them, with a limit and a list of its own. A path is a list of values in the settling order, of any length; the empty path comes
 -- before every node, the path 255 after every node.
 use Rattle.model.specs.Kit.{List, [], map, ℕ, length, take}
-use Rattle.model.specs.{Lists.at, Verdict.reply, Verdict.kept, Run.plansIn, Run.nodesIn, Run.Result, Run.search, Run.Answer, Run.refusal, Run.answered, Run.written, Run.Tally}
-use Rattle.model.specs.Run.{settledBy, countsBy}
+use Rattle.model.specs.Run.{plansIn, nodesIn, Result, search, Answer, refusal, answered, written, Tally, settledBy, countsBy}
+use Rattle.model.specs.{Lists.at, Verdict.reply, Verdict.kept}
 use Rattle.order.specs.Reordered.{write}
 use Rattle.run_cut.specs.{Between.nodesBetween, Parts.lastOf}
 use Rattle.run_input.specs.Lent.{verdictLent, orderLent, problemLent}

@@ -1,24 +1,21 @@
 -- A run that has gone on from its last node is parts' `goOn`: how it stopped, its figures, its counts, its last node and its list; and what `go_on` asks
 -- follows from what `prepare_again` leaves (specs/Resume). Assumes nothing.
-use Rattle.model.specs.Kit.{_≡_, refl, sym, ap, ap₂, _∙_, subst, subst₂, Bool, true, false, _⊎_, inl, inr, List, [], _∷_, map, List·Memᴰ, ℕ, suc, _+_, _-_, _*_, _/_, _≤_, _<_}
-use Rattle.model.specs.Kit.{mul-le-mul-right, arith, eqb, eqb→eq, length, take, set, length-set, eqb-true, eqb-false}
+use Rattle.model.specs.Kit.{_≡_, refl, sym, ap, ap₂, _∙_, subst, subst₂, Bool, true, false, _⊎_, inl, inr, List, [], _∷_, map, List·Memᴰ, ℕ, suc, _+_, _-_, _*_, _/_, _≤_, _<_, mul-le-mul-right, arith}
+use Rattle.model.specs.Kit.{eqb, eqb→eq, length, take, set, length-set, eqb-true, eqb-false}
+use Rattle.model.specs.Run.{finished, plansIn, nodesIn, Result, search, written, Tally, settledBy, countsBy}
+use Rattle.model.specs.{Lists.at, Lists.choose, Lists.keep, Lists.flat, Lists.below, Problem.Problem, Search.isLive, Search.isPlan, Search.nodes, Sheet.problemOf}
 use mathlib.Core.List.{map-id, List·Memᴰ·append-cases}
 use native.Mathlib.Nat.{div-add-mod', sub-zero}
 use lib.Seq.{take-nil}
-use Rattle.model.specs.{Lists.at, Lists.choose, Lists.keep, Lists.flat, Lists.below, Problem.Problem, Search.isLive, Search.isPlan, Search.nodes, Sheet.problemOf, Run.finished}
-use Rattle.model.specs.Run.{plansIn, nodesIn, Result, search, written, Tally, settledBy, countsBy}
-use Rattle.model.proofs.{Lists.of-T, Lists.both-l, Lists.keep-e, Lists.map-ext, Lists.at-set, Lists.at-set-other, Tally.counts-ext, Room.Wide, Room.length-flat, Runs.Walk}
-use Rattle.model.proofs.Runs.{walk as run-walk}
+use Rattle.model.proofs.{Lists.of-T, Lists.both-l, Lists.keep-e, Lists.map-ext, Lists.at-set, Lists.at-set-other, Tally.counts-ext, Room.Wide, Room.length-flat, Runs.Walk, Runs.walk as run-walk}
 use Rattle.order.specs.Reordered.{write}
 use Rattle.order.proofs.LeadersBy.{ordering-below, write-below, below-at}
 use Rattle.run_cut.specs.Parts.{after, nodesAfter, lastOf, Progress, goOn, madeIn, lastAfter}
 use Rattle.run_cut.proofs.{Resume.node-values, Resume.last-in, Resume.taken, Counts.counts-none, Anywhere.no-fewer}
 use Rattle.arrays.specs.inner.Places.{LIMIT, ROOM, PLANS, LAST, ALL, DEEPER, WORK}
 use Rattle.sheet.specs.Meaning.{compilable}
-use Rattle.run_state.specs.inner.Walk.{State, noNodes, allNoted, walk, stopIn, tallyBy}
-use Rattle.run_state.specs.inner.Pair.{prefixOf, orderIn, ownIn, stateOf, AtPrefix, Walked}
-use Rattle.run_state.proofs.{Outcome.noted-all-none, Outcome.noted-all-over, Outcome.outcome-on, Prefix.length-prefix, Prefix.prefix-at, Prefix.prefix-ext, Prefix.prefix-zero}
-use Rattle.run_state.proofs.Prefix.{prefix-is}
+use Rattle.run_state.specs.inner.{Walk.State, Walk.noNodes, Walk.allNoted, Walk.walk, Walk.stopIn, Walk.tallyBy, Pair.prefixOf, Pair.orderIn, Pair.ownIn, Pair.stateOf, Pair.AtPrefix, Pair.Walked}
+use Rattle.run_state.proofs.{Outcome.noted-all-none, Outcome.noted-all-over, Outcome.outcome-on, Prefix.length-prefix, Prefix.prefix-at, Prefix.prefix-ext, Prefix.prefix-zero, Prefix.prefix-is}
 use Rattle.run_search.proofs.Prepared.{room-fits, room-most}
 use Rattle.run_ranges.specs.inner.Within.{within}
 use Rattle.run_ranges.proofs.{Within.within-whole, Between.rest-between}

@@ -1,12 +1,11 @@
 -- What is made of a sheet's bytes again, for a run that goes on (specs/Resume): the arrays hold its problem, with no block, and the variables in their order.
 -- Assumes nothing.
 use Rattle.model.specs.Kit.{_≡_, refl, sym, ap, _∙_, subst, Bool, true, false, List, [], ℕ, _*_, _/_, _^_, _≤_, _<_, arith, T, eqb, length, set, length-set, eqb-true, eqb-false}
-use native.Mathlib.Nat.{div-mul-le-self, div-le-self, le-div-iff-mul-le}
 use Rattle.model.specs.{Lists.at, Lists.below, Lists.choose, Problem.Problem, Search.nodes, Sheet.problemOf, inner.WellFormed.WellFormed}
+use native.Mathlib.Nat.{div-mul-le-self, div-le-self, le-div-iff-mul-le}
 use Rattle.model.proofs.{Accepted.symmetries-are, Accepted.no-nodes, Lists.T-of, Lists.at-set, Lists.at-set-other}
 use Rattle.run_input.specs.inner.Compile.{WithinLimits}
-use Rattle.arrays.specs.inner.Places.{VARIABLES, LIMIT, ROOM, PLANS, ALL, DEEPER, NUMBERS}
-use Rattle.arrays.specs.inner.Layout.{Compiled}
+use Rattle.arrays.specs.inner.{Places.VARIABLES, Places.LIMIT, Places.ROOM, Places.PLANS, Places.ALL, Places.DEEPER, Places.NUMBERS, Layout.Compiled}
 use Rattle.sheet.specs.{Meaning.compilable, inner.Form.Recompilation}
 use Rattle.sheet.proofs.Compilable.{compilable-fits, compilable-well}
 use Rattle.run_state.specs.inner.Pair.{ListRoom}

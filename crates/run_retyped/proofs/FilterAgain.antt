@@ -1,10 +1,10 @@
 -- What callers of the filter hold of a second call and of calls by turns (specs/FilterAgain). Assumes nothing.
 use Rattle.model.specs.Kit.{_≡_, refl, sym, ap, _∙_, subst, List, ℕ, eqb, leb, length}
-use Rattle.model.specs.{Lists.both, Verdict.Verdict, Verdict.accepted, Verdict.refused, Verdict.ask, Nogood.Entry, Nogood.filtered, Nogood.FilterAnswer, Nogood.refusal}
-use Rattle.model.specs.Nogood.{answered, failed, entailed, consistent, entries, firstWrong, filterVerdict, filterAnswer, setsAfter}
+use Rattle.model.specs.Nogood.{Entry, filtered, FilterAnswer, refusal, answered, failed, entailed, consistent, entries, firstWrong, filterVerdict, filterAnswer, setsAfter}
+use Rattle.model.specs.{Lists.both, Verdict.Verdict, Verdict.accepted, Verdict.refused, Verdict.ask}
 use Rattle.model.proofs.Filter.{length-filtered}
-use Rattle.filter.specs.{Meaning.means, FilterCalls.CallFilter, FilterCalls.ListsRight, declared.Answer.Answer, declared.Answer.the-variants.Failed}
-use Rattle.filter.specs.declared.Answer.the-variants.{Entailed, Consistent, Refused}
+use Rattle.filter.specs.declared.Answer.the-variants.{Failed, Entailed, Consistent, Refused}
+use Rattle.filter.specs.{Meaning.means, FilterCalls.CallFilter, FilterCalls.ListsRight, declared.Answer.Answer}
 use Rattle.filter.proofs.FilterCalls.{right-accepted}
 use Rattle.run_retyped.specs.FilterAgain.{Twice-calls, Within-calls, Turned, none, first, second, Still, TurnsHeld, Turns-calls}
 use Rattle.run_retyped.specs.{Retyped.Within, inner.Turns.byTurns, inner.Turns.Applied}

@@ -1,13 +1,13 @@
 -- Retyped exchanges (paper 02, #109) under the same pairs and block. Assumes nothing.
-use Rattle.model.specs.Kit.{_≡_, refl, sym, ap, ap₂, _∙_, subst, subst₂, Bool, true, false, _↔_, ⊎-elim, List, [], _∷_, _++_, map, List·Memᴰ, Memᴰ·append-left, Memᴰ·cast, Memᴰ·map}
-use Rattle.model.specs.Kit.{Memᴰ·of-map, ℕ, T, leb, length, take}
+use Rattle.model.specs.Kit.{_≡_, refl, sym, ap, ap₂, _∙_, subst, subst₂, Bool, true, false, _↔_, ⊎-elim, List, [], _∷_, _++_, map, List·Memᴰ, Memᴰ·append-left, Memᴰ·cast, Memᴰ·map, Memᴰ·of-map, ℕ, T}
+use Rattle.model.specs.Kit.{leb, length, take}
+use Rattle.model.specs.Run.{countsBy, settledBy, Answer, refusal, answered, Result, nodesIn, written, Tally, tallyFor}
+use Rattle.model.specs.{Lists.keep, Lists.at, ValueSets.least, Search.isPlan, Problem.Problem, Problem.pair, Problem.isPair, Problem.withSymmetries, Verdict.Verdict, Verdict.accepted}
+use Rattle.model.specs.{Verdict.isAccepted, Verdict.reply, Verdict.kept, Sheet.problemOf, Sheet.verdictOf, inner.WellFormed.WellFormed, inner.WellFormed.Respected}
 use mathlib.Core.List.{List·Memᴰ·append-cases, Memᴰ·append-right}
-use Rattle.model.specs.{Lists.keep, Lists.at, ValueSets.least, Search.isPlan, Run.countsBy, Run.settledBy, Run.Answer, Run.refusal, Run.answered, Run.Result, Run.nodesIn, Run.written, Run.Tally}
-use Rattle.model.specs.{Run.tallyFor, Problem.Problem, Problem.pair, Problem.isPair, Problem.withSymmetries, Verdict.Verdict, Verdict.accepted, Verdict.isAccepted, Verdict.reply, Verdict.kept}
-use Rattle.model.specs.{Sheet.problemOf, Sheet.verdictOf, inner.WellFormed.WellFormed, inner.WellFormed.Respected}
 use Rattle.model.proofs.Accepted.{Passed, accepted-is, is-accepted}
-use Rattle.order.specs.{Order.settlingOrder, Order.orderVerdict, Reordered.write, Reordered.renamed, Reordered.symmetryIn, Reordered.reordered, RunBy.resultBy, RunBy.placeCounts}
-use Rattle.order.specs.RunBy.{placeTally, answerBy, listBy, talliedBy}
+use Rattle.order.specs.RunBy.{resultBy, placeCounts, placeTally, answerBy, listBy, talliedBy}
+use Rattle.order.specs.{Order.settlingOrder, Order.orderVerdict, Reordered.write, Reordered.renamed, Reordered.symmetryIn, Reordered.reordered}
 use Rattle.sheet.specs.Meaning.{andThen}
 use Rattle.block.specs.Block.{factorial, variableTable, orderingTable, tablesLent, blockLent}
 use Rattle.block.proofs.{Block.is-block, Block.block-e, Block.block-i, Orderings.factorial-up}

@@ -1,16 +1,15 @@
 -- Paper 02, #109, sheets: two accepted sheets that differ only in the order of their exchanges have the same runs. Assumes nothing.
-use Rattle.model.specs.Kit.{_≡_, refl, sym, ap, ap₂, _∙_, subst, not, List, [], _∷_, map, List·Memᴰ, List·Memᴰ·head, List·Memᴰ·tail, Memᴰ·map, Memᴰ·of-map, ℕ, zero, suc, _+_, _*_}
-use Rattle.model.specs.Kit.{_^_, _≤_, _<_, arith, T, leb, ltb, eqb, leb→le, length, take, drop, getD-drop}
-use mathlib.Core.List.{List·Permᴰ, List·Permᴰ·nil, List·Permᴰ·cons, List·Permᴰ·swap, List·Permᴰ·trans, Permᴰ·symm, map-map}
+use Rattle.model.specs.Kit.{_≡_, refl, sym, ap, ap₂, _∙_, subst, not, List, [], _∷_, map, List·Memᴰ, List·Memᴰ·head, List·Memᴰ·tail, Memᴰ·map, Memᴰ·of-map, ℕ, zero, suc, _+_, _*_, _^_, _≤_, _<_}
+use Rattle.model.specs.Kit.{arith, T, leb, ltb, eqb, leb→le, length, take, drop, getD-drop}
 use Rattle.model.specs.Sheet.{Header, word, words, headerOf, scopeAt, rowsAt, afterAt, constraintsFrom, tableAt, problemOf, setsVerdict, constraintVerdict, constraintsVerdict, headerVerdict}
 use Rattle.model.specs.Sheet.{formVerdict, permutesPairs, symmetriesVerdict, verdictOf}
 use Rattle.model.specs.{Lists.all, Lists.both, Lists.at, Lists.below, Lists.ascending, Lists.rowsAscend, Problem.Problem, Problem.respects, Problem.withSymmetries, Verdict.Verdict, Verdict.accepted}
 use Rattle.model.specs.{Verdict.ask, Verdict.isAccepted, inner.WellFormed.WellFormed, inner.WellFormed.Respected}
+use mathlib.Core.List.{List·Permᴰ, List·Permᴰ·nil, List·Permᴰ·cons, List·Permᴰ·swap, List·Permᴰ·trans, Permᴰ·symm, map-map}
 use Rattle.run_retyped.specs.Retyped.{blockSize, blocks, SameButOrder}
 use Rattle.run_retyped.proofs.SameSearch.{SameSymmetries}
-use Rattle.model.proofs.{Lists.at-take, Lists.below-e, Lists.map-ext, Accepted.Passed, Accepted.passed, Accepted.asked, OneMore.after-low, OneMore.arity, OneMore.count}
-use Rattle.model.proofs.OneMore.{after-agree, scope-agree, rows-agree, Agree, word-same, words-same, word-agree, words-agree, constraints-agree}
-use Rattle.model.proofs.Asked.{symmetries-i, good-other, respects-other}
+use Rattle.model.proofs.OneMore.{after-low, arity, count, after-agree, scope-agree, rows-agree, Agree, word-same, words-same, word-agree, words-agree, constraints-agree}
+use Rattle.model.proofs.{Lists.at-take, Lists.below-e, Lists.map-ext, Accepted.Passed, Accepted.passed, Accepted.asked, Asked.symmetries-i, Asked.good-other, Asked.respects-other}
 
 -- ---- a member of a list is one of any order of it
 pub perm-mem : {A : Type 0} {x : A} {l m : List A} → List·Permᴰ l m → List·Memᴰ x l → List·Memᴰ x m
@@ -224,13 +223,3 @@ retyped-accepted b c hb s =
   where
     ok : Passed b
     ok = passed b (subst (λ (v : Verdict). T (isAccepted v)) (sym hb) tt)
-
--- and differs from it only so
-pub retyped-back : (b c : List ℕ) → verdictOf b ≡ accepted → SameButOrder b c → SameButOrder c b
-retyped-back b c hb s =
-    let e = same-header b c (passed b (subst (λ (v : Verdict). T (isAccepted v)) (sym hb) tt)) s in
-    record {
-      long = sym (s .long);
-      front = subst (λ (h : Header). take (h .third) b ≡ take (h .third) c) (sym e) (sym (s .front));
-      permuted = subst (λ (h : Header). List·Permᴰ (blocks h c) (blocks h b)) (sym e) (Permᴰ·symm (s .permuted));
-    }

@@ -1,7 +1,7 @@
 -- The examples of specs/inner/RetypedExamples, and worked cases of two lists by turns and of a sheet's exchanges as bytes, by computation. Assumes nothing.
 use Rattle.model.specs.Kit.{_≡_, refl, List, [], _∷_}
-use mathlib.Core.List.{List·Permᴰ·swap}
 use Rattle.model.specs.{Sheet.headerOf, Nogood.Entry, Nogood.equality, Nogood.disequality, Examples.Each, Examples.sheetA, Examples.placesTraded}
+use mathlib.Core.List.{List·Permᴰ·swap}
 use Rattle.model.proofs.Examples.{opened}
 use Rattle.run_retyped.specs.{inner.Turns.turns, inner.Turns.byTurns, Retyped.blocks, inner.RetypedExamples.testsRetyped}
 

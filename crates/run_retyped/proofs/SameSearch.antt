@@ -1,8 +1,8 @@
 -- Paper 02, #109, problems: two that have the same symmetries, in whatever order, have the same sets, nodes, plans and runs. Assumes nothing.
 use Rattle.model.specs.Kit.{_≡_, refl, sym, ap, _∙_, subst, Bool, true, false, not, List, [], _∷_, _++_, map, List·Memᴰ, _↔_, ℕ, zero, suc, _*_, T, eqb, leb, length}
-use Rattle.model.specs.{Lists.at, Lists.same, Lists.both, Lists.flat, ValueSets.has, ValueSets.members, ValueSets.anyEmpty, Problem.Problem, Problem.pair, Problem.withSymmetries}
-use Rattle.model.specs.{Nogood.Entry, Nogood.filtered, Search.entriesAt, Search.nogoodsOf, Search.pruned, Search.narrowed, Search.rounds, Search.setsAt, Search.isLive}
-use Rattle.model.specs.{Search.nodesBelow, Search.nodes, Search.isPlan, Run.Result, Run.spent, Run.full, Run.search, Run.resultOf}
+use Rattle.model.specs.Search.{entriesAt, nogoodsOf, pruned, narrowed, rounds, setsAt, isLive, nodesBelow, nodes, isPlan}
+use Rattle.model.specs.{Lists.at, Lists.same, Lists.both, Lists.flat, ValueSets.has, ValueSets.members, ValueSets.anyEmpty, Problem.Problem, Problem.pair, Problem.withSymmetries, Nogood.Entry}
+use Rattle.model.specs.{Nogood.filtered, Run.Result, Run.spent, Run.full, Run.search, Run.resultOf}
 use Rattle.run_retyped.specs.Retyped.{SameSearch}
 use Rattle.model.proofs.{Lists.map-ext, Sets.inside-antisym, Prune.Kept, Prune.pruned-i, Prune.pruned-e, Prune.pruned-sets}
 

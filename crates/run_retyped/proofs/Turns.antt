@@ -3,8 +3,8 @@ use Rattle.model.specs.Kit.{_≡_, refl, sym, ap, _∙_, subst, Bool, true, fal
 use Rattle.model.specs.{Lists.at, Lists.same, ValueSets.has, ValueSets.Inside, Nogood.Entry, Nogood.filtered, inner.Pruning.Sets}
 use Rattle.run_retyped.specs.Retyped.{Within}
 use Rattle.run_retyped.specs.inner.Turns.{Filter-twice, Filter-within, turns, byTurns, Applied, none, first, second, LargestLeft, Turns-largest, Turns-either, Turns-any}
-use Rattle.model.proofs.{Lists.T-of, Lists.of-not, Lists.same-eq, Lists.same-refl, Sets.inside-refl, Sets.inside-trans, Sets.inside-antisym, Sets.size, Sets.size-le}
-use Rattle.model.proofs.{Sets.size-strict, Filter.length-filtered, Filter.filtered-sets, Filter.filtered-inside, Filter.filtered-mono, Filter.filtered-idem}
+use Rattle.model.proofs.Sets.{inside-refl, inside-trans, inside-antisym, size, size-le, size-strict}
+use Rattle.model.proofs.{Lists.T-of, Lists.of-not, Lists.same-eq, Lists.same-refl, Filter.length-filtered, Filter.filtered-sets, Filter.filtered-inside, Filter.filtered-mono, Filter.filtered-idem}
 
 pub filter-twice : Filter-twice
 filter-twice = filtered-idem

@@ -1,8 +1,8 @@
 -- Paper 02, #109: sets inside others; problems and sheets that differ only in the order of their symmetries (the paper's exchanges). The proofs are in
 -- proofs/SameSearch.antt and proofs/Retyped.antt.
 use Rattle.model.specs.Kit.{_≡_, List, map, ℕ, _+_, _*_, length, take, drop, T}
-use mathlib.Core.List.{List·Permᴰ}
 use Rattle.model.specs.{Lists.at, Lists.below, ValueSets.has, Problem.Problem, Sheet.Header, Sheet.headerOf, Search.setsAt, Search.isLive, Search.isPlan, Search.nodes, Run.resultOf}
+use mathlib.Core.List.{List·Permᴰ}
 
 -- the sets ds lie inside the sets es
 abbrev pub Within : List ℕ → List ℕ → Type 0

@@ -1,7 +1,7 @@
 -- What is made of a compiled problem before the search (specs/Begun): the search's tables, the order, the block, and the sets at the empty prefix.
 -- Assumes nothing.
-use Rattle.model.specs.Kit.{_≡_, refl, sym, ap, _∙_, subst, subst₂, Bool, true, false, inl, List, [], ℕ, suc, _+_, _/_, _%_, _^_, _≤_, _<_, arith, T, not-true, not-false, length}
-use Rattle.model.specs.Kit.{set, take, length-set, length-take-le, take-all}
+use Rattle.model.specs.Kit.{_≡_, refl, sym, ap, _∙_, subst, subst₂, Bool, true, false, inl, List, [], ℕ, suc, _+_, _/_, _%_, _^_, _≤_, _<_, arith, T, not-true, not-false, length, set, take}
+use Rattle.model.specs.Kit.{length-set, length-take-le, take-all}
 use Rattle.model.specs.{Lists.at, Lists.below, ValueSets.has, Problem.Problem, Problem.withSymmetries, Search.isLive, Search.setsAt, inner.WellFormed.Respected}
 use Rattle.model.proofs.{Lists.T-of, Lists.at-set, Lists.at-set-other, Lists.at-ext, Lists.at-take, Members.has-0}
 use Rattle.order.specs.Order.{Ordering}

@@ -1,14 +1,13 @@
 -- The walk from the empty prefix comes to the run's end. Assumes nothing.
 use Rattle.model.specs.Kit.{_≡_, refl, sym, ap, ap₂, _∙_, subst, subst₂, Bool, true, false, List, [], ℕ, suc, _*_, _^_, _≤_, _<_, arith, eqb, eqb-true, eqb-false, length}
+use Rattle.model.specs.Run.{finished, spent, full, ended, resultOf, Tally}
+use Rattle.model.specs.{Lists.at, Problem.Problem, Search.isLive, Search.nodes, Search.nodesBelow, Verdict.accepted, Verdict.refused, Sheet.problemOf}
 use native.Mathlib.Nat.{sub-zero}
-use Rattle.model.specs.{Lists.at, Problem.Problem, Search.isLive, Search.nodes, Search.nodesBelow, Verdict.accepted, Verdict.refused, Run.finished, Run.spent, Run.full, Run.ended}
-use Rattle.model.specs.{Run.resultOf, Run.Tally, Sheet.problemOf}
 use Rattle.run_input.specs.Lent.{verdictLent, orderLent, problemLent}
 use Rattle.run_input.proofs.Lent.{well-sheet, ordering-lent}
 use Rattle.arrays.specs.inner.Places.{LIMIT, ROOM, PLANS, LAST, ALL, DEEPER, REFUSED, WANTED, DIAGONAL}
 use Rattle.run_state.specs.{inner.Walk.noNodes, inner.Walk.State, inner.Walk.walk, inner.Walk.stopIn, inner.Pair.prefixOf, inner.Pair.orderIn, inner.Pair.Cleared, inner.Pair.stateOf}
-use Rattle.run_state.specs.inner.Pair.{ListRoom}
-use Rattle.run_state.specs.inner.Pair.{AtPrefix, AtValues, Walked, tried}
+use Rattle.run_state.specs.inner.Pair.{ListRoom, AtPrefix, AtValues, Walked, tried}
 use Rattle.run_task.specs.inner.Task.{roomFor}
 use Rattle.run_search.specs.{inner.Begun.Begun, inner.Begun.Ended, inner.Prepared.bytesFor, inner.Prepared.Prepared, inner.Explored.resultFor, inner.Explored.RunTo}
 use Rattle.run_search.specs.inner.Explored.{Explored}

@@ -1,17 +1,14 @@
 -- What is made of an accepted lending before the search. Assumes nothing.
-use Rattle.model.specs.Kit.{_≡_, refl, sym, ap, ap₂, _∙_, subst, subst₂, Bool, true, false, List, ℕ, suc, _-_, _*_, _/_, _%_, _^_, _≤_, _<_, arith, T, eqb, eqb-false, length, set}
-use Rattle.model.specs.Kit.{length-set}
+use Rattle.model.specs.Kit.{_≡_, refl, sym, ap, ap₂, _∙_, subst, subst₂, Bool, true, false, List, ℕ, suc, _-_, _*_, _/_, _%_, _^_, _≤_, _<_, arith, T, eqb, eqb-false, length, set, length-set}
+use Rattle.model.specs.{Lists.at, Lists.choose, Problem.Problem, Problem.withSymmetries, Verdict.accepted, Verdict.refused, Verdict.isAccepted, inner.Filling.Gathered, Sheet.problemOf}
 use native.Mathlib.Nat.{div-add-mod', mod-lt}
-use Rattle.model.specs.{Lists.at, Lists.choose, Problem.Problem, Problem.withSymmetries, Verdict.accepted, Verdict.refused, Verdict.isAccepted, inner.Filling.Gathered}
-use Rattle.model.specs.Sheet.{problemOf}
 use Rattle.model.proofs.{Lists.at-set, Lists.at-set-other, Accepted.is-accepted}
 use Rattle.order.specs.Reordered.{reordered}
 use Rattle.block.specs.Block.{inLent}
 use Rattle.run_input.specs.{Lent.verdictLent, Lent.orderLent, Lent.problemWith, Lent.problemLent, inner.Compile.WithinLimits, inner.Compile.CompiledLent}
 use Rattle.order.proofs.Reordered.{well-reordered, respected-reordered}
 use Rattle.run_input.proofs.{Lent.well-lent, Lent.respected-lent, Lent.ordering-lent, Blocked.own-first, Blocked.block-walked, Blocked.block-inside}
-use Rattle.arrays.specs.inner.Places.{VARIABLES, LIMIT, ROOM, PLANS, NUMBER, ITEM, REFUSED, NUMBERS, WORK, WANTED}
-use Rattle.arrays.specs.inner.Layout.{Compiled}
+use Rattle.arrays.specs.inner.{Places.VARIABLES, Places.LIMIT, Places.ROOM, Places.PLANS, Places.NUMBER, Places.ITEM, Places.REFUSED, Places.NUMBERS, Places.WORK, Places.WANTED, Layout.Compiled}
 use Rattle.sheet.specs.{declared.Answer.Answer as Verdicts, declared.Answer.the-variants.Accepted}
 use Rattle.run_state.specs.inner.Pair.{ListRoom}
 use Rattle.run_task.specs.inner.Task.{roomFor}

@@ -1,12 +1,12 @@
 -- A walk along nodes, from nothing counted and after rows that stand in the list, is model's `search`: it comes to that ending, the tally has the
 -- nodes made, counted in the order, the list the rows, written in the order, at its front and all bytes after them as they came, and the last node
 -- made is the last of them. Along the nodes of the tree it is the run. Assumes nothing.
-use Rattle.model.specs.Kit.{_≡_, refl, sym, ap, ap₂, _∙_, subst, Bool, true, false, List, [], _∷_, _++_, map, append-nil, ℕ, zero, suc, _+_, _-_, _*_, _≤_, _<_, mul-le-mul-right}
-use Rattle.model.specs.Kit.{decLt, add-one, arith, eqb, leb, length, take, drop, length-append, length-drop, leb-true, leb-false, eqb-true, eqb-false, eq-eqb, ne-eqb}
+use Rattle.model.specs.Kit.{_≡_, refl, sym, ap, ap₂, _∙_, subst, Bool, true, false, List, [], _∷_, _++_, map, append-nil, ℕ, zero, suc, _+_, _-_, _*_, _≤_, _<_, mul-le-mul-right, decLt, add-one}
+use Rattle.model.specs.Kit.{arith, eqb, leb, length, take, drop, length-append, length-drop, leb-true, leb-false, eqb-true, eqb-false, eq-eqb, ne-eqb}
+use Rattle.model.specs.Run.{spent, full, plansIn, nodesIn, Result, search, resultOf, written, Tally, settledBy, countsBy}
+use Rattle.model.specs.{Written.placed, Lists.flat, Lists.keep, Lists.choose, Lists.tabulate, Lists.at, Problem.Problem, Search.isPlan, Search.nodes}
 use native.Mathlib.Nat.{sub-zero}
 use lib.Seq.{take-at, drop-append-add, drop-drop}
-use Rattle.model.specs.{Written.placed, Lists.flat, Lists.keep, Lists.choose, Lists.tabulate, Lists.at, Problem.Problem, Search.isPlan, Search.nodes, Run.spent, Run.full}
-use Rattle.model.specs.Run.{plansIn, nodesIn, Result, search, resultOf, written, Tally, settledBy, countsBy}
 use Rattle.model.proofs.{Lists.flat-append, Lists.map-append, Runs.turn, Runs.search-turn, Tally.counts-snoc}
 use Rattle.order.specs.Reordered.{write}
 use Rattle.run_cut.specs.Parts.{lastOf}
@@ -163,8 +163,7 @@ module _ (p : Problem) (order : List ℕ) (sized : length order ≡ p .variables
           ap (walk p order limit room ts) (visit-spent p order limit room t s refl (nodes-by made ∙ (let q = eqb-true so (limit + d) e in omega arith)))
           ∙ walk-stopped p order limit room ts _ (λ q. omega arith)
           ∙ ended-at made so sum (length rows) SPENT rows
-      go ih jh false e false e′ d′ e″ =
-          ap (walk p order limit room ts) (visit-other p order limit room t s refl (due e) e′ ∙ next) ∙ ih
+      go ih jh false e false e′ d′ e″ = ap (walk p order limit room ts) (visit-other p order limit room t s refl (due e) e′ ∙ next) ∙ ih
       go ih jh false e true e′ false e″ =
           let l = leb-false (suc (length rows) * p .variables) bytes e″ in
           ap (walk p order limit room ts)

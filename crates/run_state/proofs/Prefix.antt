@@ -1,9 +1,8 @@
 -- Laws of the prefix in `work`: it has k values, goes by them alone, and grows by the next. Assumes nothing.
-use Rattle.model.specs.Kit.{_≡_, refl, sym, ap, _∙_, subst, List, [], _∷_, _++_, ℕ, suc, _+_, _≤_, _<_, add-one, decLt, arith, length, take, getD, length-append, length-take-le}
-use Rattle.model.specs.Kit.{getD-take}
+use Rattle.model.specs.Kit.{_≡_, refl, sym, ap, _∙_, subst, List, [], _∷_, _++_, ℕ, suc, _+_, _≤_, _<_, add-one, decLt, arith, length, take, getD, length-append, length-take-le, getD-take}
+use Rattle.model.specs.Lists.{at, tabulate}
 use lib.ListN.{List·getD-append}
 use lib.Seq.{getD-at}
-use Rattle.model.specs.Lists.{at, tabulate}
 use Rattle.model.proofs.Lists.{length-tabulate, at-tabulate, at-ext}
 use Rattle.run_state.specs.inner.Pair.{prefixOf}
 

@@ -1,8 +1,8 @@
 -- Laws of the walk: it goes on where a first part of it left off, and a stopped run changes nothing. Assumes nothing.
-use Rattle.model.specs.Kit.{_≡_, refl, sym, ap, _∙_, subst, Bool, true, false, List, [], _∷_, _++_, ℕ, suc, _+_, _*_, _≤_, _<_, mul-le-mul-right, arith, eqb, leb, length}
-use Rattle.model.specs.Kit.{length-set, length-replicate, leb-true, leb-false, eqb-true, eqb-false, eq-eqb, ne-eqb, le-leb, lt-leb}
-use Rattle.model.proofs.{Written.length-placed, Lists.length-below, Tally.total-set}
+use Rattle.model.specs.Kit.{_≡_, refl, sym, ap, _∙_, subst, Bool, true, false, List, [], _∷_, _++_, ℕ, suc, _+_, _*_, _≤_, _<_, mul-le-mul-right, arith, eqb, leb, length, length-set, length-replicate}
+use Rattle.model.specs.Kit.{leb-true, leb-false, eqb-true, eqb-false, eq-eqb, ne-eqb, le-leb, lt-leb}
 use Rattle.model.specs.{Written.placed, Lists.at, Lists.total, Problem.Problem, Search.isPlan, Run.Tally, Run.settledBy}
+use Rattle.model.proofs.{Written.length-placed, Lists.length-below, Tally.total-set}
 use Rattle.order.specs.Reordered.{position, write}
 use Rattle.arrays.specs.inner.Places.{ALL, FULL}
 use Rattle.run_state.specs.inner.Walk.{withNode, noNodes, Summed, State, noted, listed, counted, exhausted, visit, walk}

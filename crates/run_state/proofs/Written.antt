@@ -1,8 +1,8 @@
 -- A plan's bytes over a list, by variable number: one turn of `keep` for each variable in the order. Assumes nothing.
 use Rattle.model.specs.Kit.{_≡_, refl, sym, ap, _∙_, subst, List, ℕ, _+_, _-_, _≤_, _<_, not-suc-le-zero, decLt, ℕ-discrete, arith, length, take, set, length-set, length-take-le}
-use Rattle.model.proofs.{Written.length-placed, Written.placed-before, Written.placed-in, Written.placed-after, Lists.mem-at, Lists.at-set, Lists.at-set-other, Lists.at-ext}
-use Rattle.model.proofs.Lists.{at-take, at-tabulate, at-below, length-tabulate}
 use Rattle.model.specs.{Written.placed, Lists.at}
+use Rattle.model.proofs.Written.{length-placed, placed-before, placed-in, placed-after}
+use Rattle.model.proofs.Lists.{mem-at, at-set, at-set-other, at-ext, at-take, at-tabulate, at-below, length-tabulate}
 use Rattle.order.specs.{Order.Ordering, Reordered.position, Reordered.write}
 use Rattle.order.proofs.Reordered.{position-e}
 use Rattle.run_state.specs.inner.Pair.{prefixOf, settling, orderIn}

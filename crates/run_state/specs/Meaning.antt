@@ -1,7 +1,6 @@
 -- What a tally and an ending mean in the words of model's definitions.
 use Rattle.model.specs.Run.{finished, spent, full}
-use Rattle.run_state.specs.{declared.Tally.Tally, declared.Ending.Ending, declared.Ending.the-variants.Finished, declared.Ending.the-variants.Spent}
-use Rattle.run_state.specs.declared.Ending.the-variants.{Full}
+use Rattle.run_state.specs.{declared.Tally.Tally, declared.Ending.Ending, declared.Ending.the-variants.Finished, declared.Ending.the-variants.Spent, declared.Ending.the-variants.Full}
 use Rattle.model.specs.Run as Run
 
 -- a tally has the nodes made and twelve counts of them

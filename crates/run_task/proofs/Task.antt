@@ -1,6 +1,5 @@
 -- The order among the numbers, and the room for plans. Assumes nothing.
-use Rattle.model.specs.Kit.{_≡_, refl, sym, ap, _∙_, subst, Bool, List, ℕ, zero, suc, _+_, _-_, _/_, _≤_, _<_, not-suc-le-zero, decLt, ℕ-discrete, arith, eqb, ne-eqb, length, set}
-use Rattle.model.specs.Kit.{length-set}
+use Rattle.model.specs.Kit.{_≡_, refl, sym, ap, _∙_, subst, Bool, List, ℕ, zero, suc, _+_, _-_, _/_, _≤_, _<_, not-suc-le-zero, decLt, ℕ-discrete, arith, eqb, ne-eqb, length, set, length-set}
 use Rattle.model.specs.Lists.{at, choose}
 use Rattle.model.proofs.Lists.{at-set, at-set-other}
 use Rattle.arrays.specs.inner.Places.{ORDER}

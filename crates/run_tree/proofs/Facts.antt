@@ -1,10 +1,10 @@
 -- The facts that the walks of `settle` and `try_value` need at each call, and what the tests of the code say of numbers. Assumes nothing.
 use Rattle.model.specs.Kit.{_≡_, sym, ap, _∙_, subst, not, List, ℕ, _+_, _-_, _*_, _^_, _≤_, _<_, arith, T, T-not, eqb, ltb, ltb→lt, lt→ltb, eqb→eq, eqb-refl, decLt, length, RefT}
-use denote.Ref.{at-last}
 use Rattle.model.specs.{Lists.at, ValueSets.withoutMask, ValueSets.lowestOf, Problem.Problem, Search.nodesBelow, Run.Tally}
+use denote.Ref.{at-last}
 use Rattle.arrays.specs.inner.Places.{PLANS, ALL, DEEPER, WORK, DIAGONAL, ASKS, VAIN}
-use Rattle.run_state.specs.{inner.Walk.withNode, inner.Pair.prefixOf, inner.Pair.settling, inner.Pair.Countable, inner.Pair.Counted, inner.Pair.AtPrefix, inner.Pair.AtValues}
-use Rattle.run_state.specs.{inner.Pair.AtValue, inner.Pair.Walked, inner.Pair.Entered, inner.Pair.tried, inner.Pair.lowestTried}
+use Rattle.run_state.specs.inner.Walk.{withNode}
+use Rattle.run_state.specs.inner.Pair.{prefixOf, settling, Countable, Counted, AtPrefix, AtValues, AtValue, Walked, Entered, tried, lowestTried}
 use Rattle.run_memo.specs.inner.Steps.{AtLook, grownBy, Looked, AtNote, Noted}
 use Rattle.loans.specs.inner.Slices.{SameSlice}
 use Rattle.run_state.proofs.Written.{settling-inside}

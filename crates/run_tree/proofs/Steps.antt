@@ -1,7 +1,6 @@
 -- What one value does: the walk along the nodes of a set of values, by its lowest member. Assumes nothing.
 use Rattle.model.specs.Kit.{_≡_, refl, ap, ap₂, _∙_, Bool, true, false, List, [], _∷_, _++_, map, ℕ, suc, _^_, _<_, arith, eqb, length, eq-eqb, ne-eqb}
-use Rattle.model.specs.{Lists.both, Lists.at, Lists.flat, ValueSets.withoutMask, ValueSets.lowestOf, Problem.Problem, Search.setsAt, Search.isLive, Search.isPlan}
-use Rattle.model.specs.{Search.nodesBelow, Run.settledBy}
+use Rattle.model.specs.{Lists.both, Lists.at, Lists.flat, ValueSets.withoutMask, ValueSets.lowestOf, Problem.Problem, Search.setsAt, Search.isLive, Search.isPlan, Search.nodesBelow, Run.settledBy}
 use Rattle.model.proofs.{Sets.members-of-none, Lowest.members-lowest, Lists.both-false}
 use Rattle.order.specs.Reordered.{write}
 use Rattle.arrays.specs.inner.Places.{ALL}

@@ -1,22 +1,20 @@
 -- One turn of `settle` and of `try_value`, as statements about what they are given and what they leave: nothing to try, no node left, and a value
 -- whose node is dead, a plan, or has nodes below it. Assumes nothing.
-use Rattle.model.specs.Kit.{_≡_, refl, sym, ap, ap₂, _∙_, subst, Bool, true, false, List, [], _∷_, _++_, ℕ, suc, _+_, _-_, _*_, _^_, _≤_, _<_, add-one, arith, T, not-true}
-use Rattle.model.specs.Kit.{not-false, length, take, set, length-set}
-use Rattle.model.specs.{Lists.at, ValueSets.has, ValueSets.withoutMask, ValueSets.lowestOf, Problem.Problem, Search.setsAt, Search.isLive, Search.nodesBelow, Run.Tally}
-use Rattle.model.specs.{Run.settledBy, inner.WellFormed.WellFormed}
+use Rattle.model.specs.Kit.{_≡_, refl, sym, ap, ap₂, _∙_, subst, Bool, true, false, List, [], _∷_, _++_, ℕ, suc, _+_, _-_, _*_, _^_, _≤_, _<_, add-one, arith, T, not-true, not-false, length, take}
+use Rattle.model.specs.Kit.{set, length-set}
+use Rattle.model.specs.{Lists.at, ValueSets.has, ValueSets.withoutMask, ValueSets.lowestOf, Problem.Problem, Search.setsAt, Search.isLive, Search.nodesBelow, Run.Tally, Run.settledBy}
+use Rattle.model.specs.{inner.WellFormed.WellFormed}
 use Rattle.model.proofs.{Lists.T-of, Lists.both-l, Lists.at-set, Lists.at-set-other, Sets.mask-e, Lowest.lowest-in, Lowest.without-less, Tree.well-sized}
 use Rattle.order.specs.{Order.Ordering, Reordered.write}
 use Rattle.arrays.specs.inner.Places.{VARIABLES, LIMIT, ROOM, PLANS, LAST, MARKS, ALL, SPENT, DEEPER, WORK, DIAGONAL}
 use Rattle.prune.specs.inner.Node.{Ready, SetsHeld, Marked, AtNode, Reached, longer}
 use Rattle.prune.proofs.Marks.{marked-on}
 use Rattle.run_state.specs.{inner.Walk.withNode, inner.Walk.Summed, inner.Walk.State, inner.Walk.listed, inner.Walk.counted, inner.Walk.walk, inner.Walk.nodesFor, inner.Pair.prefixOf}
-use Rattle.run_state.specs.inner.Pair.{settling}
-use Rattle.run_state.specs.inner.Pair.{orderIn, ownIn, stateOf, ListRoom, Listed, AtPrefix, AtValues, AtValue, Walked, Entered, tried, lowestNode, lowestTried}
+use Rattle.run_state.specs.inner.Pair.{settling, orderIn, ownIn, stateOf, ListRoom, Listed, AtPrefix, AtValues, AtValue, Walked, Entered, tried, lowestNode, lowestTried}
 use Rattle.run_state.specs.inner.Memo.{Remembers}
-use Rattle.run_tree.proofs.{Steps.below-is, Steps.step-none, Steps.step, Steps.step-spent, Steps.node-dead, Steps.node-plan, Steps.node-inner}
-use Rattle.run_tree.proofs.Steps.{node-then}
-use Rattle.run_state.proofs.{Walk.Fits, Walk.walk-fits, Walk.walk-stopped, Walk.summed-more, Prefix.length-prefix, Prefix.prefix-at, Prefix.prefix-ext, Prefix.prefix-take}
-use Rattle.run_state.proofs.{Prefix.prefix-snoc, Memo.Stay, Memo.memo-stays, Memo.memo-on, Written.order-at, Written.length-order, Written.settling-inside}
+use Rattle.run_tree.proofs.Steps.{below-is, step-none, step, step-spent, node-dead, node-plan, node-inner, node-then}
+use Rattle.run_state.proofs.Prefix.{length-prefix, prefix-at, prefix-ext, prefix-take, prefix-snoc}
+use Rattle.run_state.proofs.{Walk.Fits, Walk.walk-fits, Walk.walk-stopped, Walk.summed-more, Memo.Stay, Memo.memo-stays, Memo.memo-on, Written.order-at, Written.length-order, Written.settling-inside}
 use Rattle.run_memo.proofs.Walks.{live-values}
 use Rattle.run_entry.proofs.Copies.{listed-stay}
 

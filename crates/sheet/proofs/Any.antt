@@ -1,6 +1,5 @@
 -- Laws of the test of any over what a function gives in turn. Assumes nothing.
-use Rattle.model.specs.Kit.{_≡_, refl, sym, ap, ap₂, _∙_, Bool, true, false, List, [], _∷_, _++_, map, List·Memᴰ, List·Memᴰ·head, List·Memᴰ·tail, ℕ, zero, suc, _+_, _<_, arith}
-use Rattle.model.specs.Kit.{add-one, getD}
+use Rattle.model.specs.Kit.{_≡_, refl, sym, ap, ap₂, _∙_, Bool, true, false, List, [], _∷_, _++_, map, List·Memᴰ, List·Memᴰ·head, List·Memᴰ·tail, ℕ, zero, suc, _+_, _<_, arith, add-one, getD}
 use Rattle.model.specs.Lists.{either, any, below, upFrom}
 use Rattle.model.proofs.{Lists.any-cons, Lists.upFrom-add, Lists.map-append, Lists.below-e, Members.either-no}
 
@@ -33,8 +32,7 @@ module _ {A : Type 0} where
   any-ext : (p q : A → Bool) (l : List A) → ((x : A) → List·Memᴰ x l → p x ≡ q x) → any p l ≡ any q l
   unfolding any
   any-ext p q [] h = refl
-  any-ext p q (x ∷ l) h =
-      any-cons p x l ∙ ap₂ either (h x (List·Memᴰ·head refl)) (any-ext p q l (λ y m. h y (List·Memᴰ·tail m))) ∙ sym (any-cons q x l)
+  any-ext p q (x ∷ l) h = any-cons p x l ∙ ap₂ either (h x (List·Memᴰ·head refl)) (any-ext p q l (λ y m. h y (List·Memᴰ·tail m))) ∙ sym (any-cons q x l)
 
 any-map : {A B : Type 0} (p : B → Bool) (f : A → B) (l : List A) → any p (map f l) ≡ any (λ x. p (f x)) l
 unfolding any
@@ -43,8 +41,7 @@ any-map p f (x ∷ l) = any-cons p (f x) (map f l) ∙ ap (either (p (f x))) (an
 
 -- two tests that agree below k
 pub any-same : {A B : Type 0} (p : A → Bool) (q : B → Bool) (f : ℕ → A) (g : ℕ → B) (k : ℕ) → ((j : ℕ) → j < k → p (f j) ≡ q (g j)) → any p (map f (below k)) ≡ any q (map g (below k))
-any-same p q f g k h =
-    any-map p f (below k) ∙ any-ext (λ j. p (f j)) (λ j. q (g j)) (below k) (λ j m. h j (below-e k j m)) ∙ sym (any-map q g (below k))
+any-same p q f g k h = any-map p f (below k) ∙ any-ext (λ j. p (f j)) (λ j. q (g j)) (below k) (λ j m. h j (below-e k j m)) ∙ sym (any-map q g (below k))
 
 pub getD-below : {A : Type 0} (f : ℕ → A) (k e : ℕ) (x : A) → e < k → getD (map f (below k)) e x ≡ f e
 unfolding below upFrom

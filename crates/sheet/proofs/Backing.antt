@@ -1,12 +1,12 @@
 -- What all rows leave in the support sets, and what that says of the rows. Assumes nothing.
-use Rattle.model.specs.Kit.{_≡_, refl, sym, ap, ap₂, _∙_, subst, Bool, true, false, List, [], _∷_, _++_, map, ℕ, zero, suc, _+_, _*_, _/_, _%_, _^_, _≤_, _<_, arith}
-use Rattle.model.specs.Kit.{not-suc-le-zero, T, eqb, ltb, ltb→lt, lt→ltb, length, length-append, eqb-true, eqb-false}
+use Rattle.model.specs.Kit.{_≡_, refl, sym, ap, ap₂, _∙_, subst, Bool, true, false, List, [], _∷_, _++_, map, ℕ, zero, suc, _+_, _*_, _/_, _%_, _^_, _≤_, _<_, arith, not-suc-le-zero, T, eqb, ltb}
+use Rattle.model.specs.Kit.{ltb→lt, lt→ltb, length, length-append, eqb-true, eqb-false}
 use Rattle.model.specs.{Lists.at, Lists.all, Lists.either, Lists.any, Lists.below, Lists.same, ValueSets.has, ValueSets.maskOf, Sheet.word, Sheet.words, Sheet.rowsAt}
 use Rattle.model.proofs.{Lists.all-cons, Lists.all-i, Lists.both-i, Lists.both-l, Lists.both-r, Lists.at-mem, Sets.has-none, Masks.is-mask, Accepted.length-words}
 use Rattle.arrays.specs.{inner.Layout.place, inner.Places.SUPPORTS}
 use Rattle.sheet.specs.{inner.Fill.rowKey, inner.Fill.withRows, inner.Steps.offsetAt, inner.Steps.supportsTo}
-use Rattle.sheet.proofs.{Any.any-same, Keys.keyFrom, Keys.Digits, Keys.key-same, Keys.key-snoc, Keys.key-place, Keys.key-words, Keys.key-bound, RowsTest.digits}
-use Rattle.sheet.proofs.{Support.rows-length, Support.rows-at, Support.rows-small, Support.rows-low, Support.rows-high, Touch.Good}
+use Rattle.sheet.proofs.Keys.{keyFrom, Digits, key-same, key-snoc, key-place, key-words, key-bound}
+use Rattle.sheet.proofs.{Any.any-same, RowsTest.digits, Support.rows-length, Support.rows-at, Support.rows-small, Support.rows-low, Support.rows-high, Touch.Good}
 
 -- the key of a row that passed
 row-small : (b : List ℕ) (n d o : ℕ) → d ≤ 16 → Good b n d o → (i : ℕ) → i < word b (o + 2) → rowKey b (o + 4 + 2 * word b o) (word b o) i < 4096

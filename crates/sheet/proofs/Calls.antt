@@ -1,10 +1,9 @@
 -- What a caller of `question` holds (specs/Calls). Assumes nothing.
 use Rattle.model.specs.Kit.{_≡_, refl, sym, ap, _∙_, ℕ}
 use Rattle.model.specs.{Verdict.Verdict, Verdict.accepted, Verdict.refused, Sheet.verdictOf}
-use Rattle.model.proofs.OneMoreAccepted.{one-more-accepted}
-use Rattle.model.proofs.Lists.{never}
-use Rattle.sheet.specs.{Meaning.means, declared.Answer.Answer, declared.Answer.the-variants.Accepted, declared.Answer.the-variants.Refused, Calls.Says, Calls.Question-calls}
-use Rattle.sheet.specs.Calls.{One-more-calls}
+use Rattle.model.proofs.{OneMoreAccepted.one-more-accepted, Lists.never}
+use Rattle.sheet.specs.Calls.{Says, Question-calls, One-more-calls}
+use Rattle.sheet.specs.{Meaning.means, declared.Answer.Answer, declared.Answer.the-variants.Accepted, declared.Answer.the-variants.Refused}
 
 is-accepted : (r : Answer) → means r ≡ accepted → r ≡ Accepted
 is-accepted Accepted e = refl

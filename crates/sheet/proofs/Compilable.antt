@@ -1,8 +1,8 @@
 -- Bytes that pass questions 1 to 15 (specs/Meaning, `compilable`): their problem is well formed, and an accepted sheet is one of them. Assumes nothing.
 use Rattle.model.specs.Kit.{_≡_, refl, sym, ap, _∙_, subst, Bool, true, false, not, List, [], _∷_, Memᴰ·of-map, ℕ, zero, suc, _+_, _*_, _^_, T, leb, ltb, eqb, length}
-use Rattle.model.specs.{Lists.all, Lists.both, Lists.below, Lists.ascending, Lists.rowsAscend, Verdict.Verdict, Verdict.accepted, Verdict.ask, Verdict.isAccepted, Sheet.Header}
-use Rattle.model.specs.Sheet.{word, headerOf, headerVerdict, offsetsFit, setsVerdict, scopeAt, rowsAt, afterAt, constraintVerdict, constraintsVerdict, tableAt, problemOf}
-use Rattle.model.specs.{Sheet.permutesPairs, Sheet.tablesFit, Sheet.formVerdict, Sheet.symmetriesVerdict, Sheet.verdictOf, inner.WellFormed.WellFormed}
+use Rattle.model.specs.Sheet.{Header, word, headerOf, headerVerdict, offsetsFit, setsVerdict, scopeAt, rowsAt, afterAt, constraintVerdict, constraintsVerdict, tableAt, problemOf, permutesPairs}
+use Rattle.model.specs.Sheet.{tablesFit, formVerdict, symmetriesVerdict, verdictOf}
+use Rattle.model.specs.{Lists.all, Lists.both, Lists.below, Lists.ascending, Lists.rowsAscend, Verdict.Verdict, Verdict.accepted, Verdict.ask, Verdict.isAccepted, inner.WellFormed.WellFormed}
 use Rattle.model.proofs.{Lists.all-e, Lists.all-i, Accepted.length-words, Accepted.symmetries-e}
 use Rattle.sheet.specs.{inner.Parts.Fit, inner.Decoding.permuting, Meaning.compilable}
 use Rattle.sheet.proofs.Stating.{FormPassed, form-e}

@@ -1,12 +1,10 @@
 -- The answer for one constraint, from what was found on the way. Assumes nothing.
-use Rattle.model.specs.Kit.{_≡_, refl, sym, ap, ap₂, _∙_, subst₂, Bool, true, false, _⊎_, ⊎-elim, List, ℕ, _+_, _*_, _≤_, _<_, arith, mul-le-mul-right, T, leb, ltb, eqb, le-leb}
-use Rattle.model.specs.Kit.{lt-leb, leb-true, eqb-true, eqb-false}
+use Rattle.model.specs.Kit.{_≡_, refl, sym, ap, ap₂, _∙_, subst₂, Bool, true, false, _⊎_, ⊎-elim, List, ℕ, _+_, _*_, _≤_, _<_, arith, mul-le-mul-right, T, leb, ltb, eqb, le-leb, lt-leb, leb-true}
+use Rattle.model.specs.Kit.{eqb-true, eqb-false}
+use Rattle.model.specs.{Lists.both, Lists.all, Lists.ascending, Verdict.Verdict, Verdict.refused, Sheet.headerOf, Sheet.word, Sheet.scopeAt, Sheet.rowsAt, Sheet.afterAt, Sheet.constraintVerdict}
 use mathlib.Core.Path.{subst₃}
-use Rattle.model.specs.{Lists.both, Lists.all, Lists.ascending, Verdict.Verdict, Verdict.refused, Sheet.headerOf, Sheet.word, Sheet.scopeAt, Sheet.rowsAt, Sheet.afterAt}
-use Rattle.model.specs.Sheet.{constraintVerdict}
 use Rattle.model.proofs.Lists.{both-l, both-r, T-of, of-T, never}
-use Rattle.sheet.specs.{inner.Fill.ScopeAsked, inner.Fill.RowsAsked, inner.Steps.ConstraintAsked, declared.constraints.Step.the-variants.Next}
-use Rattle.sheet.specs.declared.constraints.Step.the-variants.{Refused}
+use Rattle.sheet.specs.{inner.Fill.ScopeAsked, inner.Fill.RowsAsked, inner.Steps.ConstraintAsked, declared.constraints.Step.the-variants.Next, declared.constraints.Step.the-variants.Refused}
 use Rattle.sheet.proofs.RowsTest.{order-two, rows-ascend, rows-fall, rows-fit, row-unfit}
 
 -- ---- what the code reads is what the questions ask of

@@ -2,9 +2,9 @@
 use Rattle.model.specs.Kit.{_≡_, refl, sym, ap, ap₂, _∙_, subst, Bool, List, ℕ, suc, _+_, _-_, _≤_, _<_, arith, eqb, eq-eqb, ne-eqb}
 use Rattle.model.specs.{Verdict.Verdict, Verdict.refused, Verdict.ask, Sheet.headerOf, Sheet.afterAt, Sheet.constraintVerdict, Sheet.constraintsVerdict}
 use Rattle.model.proofs.Lists.{never}
-use Rattle.sheet.specs.{inner.Fill.numbersWith, inner.Fill.supportsWith, inner.Steps.stepThen, inner.Steps.ConstraintAsked, inner.Steps.offsetAt, inner.Steps.numbersTo}
-use Rattle.sheet.specs.{inner.Steps.supportsTo, inner.Steps.ConstraintsAsked, declared.Answer.the-variants.Accepted, declared.Answer.the-variants.Refused as RefusedBy}
-use Rattle.sheet.specs.{declared.constraints.Step.Step, declared.constraints.Step.the-variants.Next, declared.constraints.Step.the-variants.Refused}
+use Rattle.sheet.specs.inner.Steps.{stepThen, ConstraintAsked, offsetAt, numbersTo, supportsTo, ConstraintsAsked}
+use Rattle.sheet.specs.{inner.Fill.numbersWith, inner.Fill.supportsWith, declared.Answer.the-variants.Accepted, declared.Answer.the-variants.Refused as RefusedBy, declared.constraints.Step.Step}
+use Rattle.sheet.specs.{declared.constraints.Step.the-variants.Next, declared.constraints.Step.the-variants.Refused}
 
 -- k constraints were asked, and the next stands at an offset
 pub record ConstraintsTo (b : List ℕ) (c : ℕ) (numbers supports : List ℕ) (k o : ℕ) (numbers′ supports′ : List ℕ) : Type 0 where

@@ -1,10 +1,10 @@
 -- The turns of the loops that decode the tables. Assumes nothing.
-use Rattle.model.specs.Kit.{_≡_, refl, sym, ap, ap₂, _∙_, subst, subst₂, Bool, true, false, List, [], Memᴰ·map, Memᴰ·of-map, ℕ, suc, _+_, _*_, _/_, _%_, _≤_, _<_, arith}
-use Rattle.model.specs.Kit.{not-suc-le-zero, mul-le-mul-right, suc-mul, add-one, T, eqb, ltb, ltb→lt, eqb→eq, length, set, eqb-true, eqb-false}
+use Rattle.model.specs.Kit.{_≡_, refl, sym, ap, ap₂, _∙_, subst, subst₂, Bool, true, false, List, [], Memᴰ·map, Memᴰ·of-map, ℕ, suc, _+_, _*_, _/_, _%_, _≤_, _<_, arith, not-suc-le-zero}
+use Rattle.model.specs.Kit.{mul-le-mul-right, suc-mul, add-one, T, eqb, ltb, ltb→lt, eqb→eq, length, set, eqb-true, eqb-false}
+use Rattle.model.specs.Sheet.{headerOf, word, tableAt, problemOf, permutesPairs, distinct}
+use Rattle.model.specs.{Lists.at, Lists.all, Lists.below, ValueSets.has, Problem.Problem, Problem.isPair, Problem.pair, Problem.symmetryAt, inner.Filling.Filled}
 use mathlib.Core.Bool.{false≢true}
 use lib.Arith.{digits-lt, digits-div, digits-mod}
-use Rattle.model.specs.{Lists.at, Lists.all, Lists.below, ValueSets.has, Problem.Problem, Problem.isPair, Problem.pair, Problem.symmetryAt, Sheet.headerOf, Sheet.word}
-use Rattle.model.specs.{Sheet.tableAt, Sheet.problemOf, Sheet.permutesPairs, Sheet.distinct, inner.Filling.Filled}
 use Rattle.model.proofs.{Lists.both-l, Lists.all-e, Lists.all-i, Lists.below-i, Lists.below-e, Lists.length-below, Lists.T-of, Lists.of-T, Accepted.at-words, Filling.filled-turn}
 use Rattle.arrays.specs.{inner.Layout.Images, inner.Layout.pairCode, inner.Places.IMAGES}
 use Rattle.sheet_table.proofs.Codes.{code-small, code-inj}

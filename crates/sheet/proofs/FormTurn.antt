@@ -1,16 +1,14 @@
 -- The answer to questions 1 to 14 from those of the parts. Assumes nothing.
 use Rattle.model.specs.Kit.{_≡_, refl, sym, ap, ap₂, _∙_, subst, Bool, true, false, List, ℕ, _*_, _≤_, _<_, mul-le-mul, length, lt-leb}
-use Rattle.model.specs.{Verdict.Verdict, Verdict.accepted, Verdict.ask, Sheet.Header as Numbers′, Sheet.headerOf, Sheet.problemOf, Sheet.headerVerdict, Sheet.tablesFit}
-use Rattle.model.specs.Sheet.{formVerdict}
+use Rattle.model.specs.{Verdict.Verdict, Verdict.accepted, Verdict.ask, Sheet.Header as Numbers′, Sheet.headerOf, Sheet.problemOf, Sheet.headerVerdict, Sheet.tablesFit, Sheet.formVerdict}
 use Rattle.arrays.specs.{inner.Layout.Numbers, inner.Layout.Supports, inner.Places.SUPPORTS, inner.Places.NUMBERS}
-use Rattle.sheet.specs.{Meaning.means, Meaning.andThen, Meaning.Answers, inner.Parts.headerAsked, inner.Parts.setsAsked, inner.Parts.Fit, inner.Parts.AllSets}
-use Rattle.sheet.specs.{inner.Parts.SetsAsked, inner.Steps.constraintsAsked, inner.Steps.ConstraintsAsked, inner.Steps.numbersTo, inner.Form.Zeros, inner.Form.counted, inner.Form.FormAsked}
-use Rattle.sheet.specs.{inner.Form.FormRead, declared.Answer.Answer, declared.Answer.the-variants.Accepted, declared.Answer.the-variants.Refused}
-use Rattle.sheet.specs.declared.form.Form.the-variants.{Passed, Refused as NotPassed}
+use Rattle.sheet.specs.inner.Parts.{headerAsked, setsAsked, Fit, AllSets, SetsAsked}
+use Rattle.sheet.specs.inner.Form.{Zeros, counted, FormAsked, FormRead}
+use Rattle.sheet.specs.{Meaning.means, Meaning.andThen, Meaning.Answers, inner.Steps.constraintsAsked, inner.Steps.ConstraintsAsked, inner.Steps.numbersTo, declared.Answer.Answer}
+use Rattle.sheet.specs.{declared.Answer.the-variants.Accepted, declared.Answer.the-variants.Refused, declared.form.Form.the-variants.Passed, declared.form.Form.the-variants.Refused as NotPassed}
 use Rattle.reader.specs.{inner.Read.stated, declared.Header.Header}
 use Rattle.sheet.proofs.{Asking.stop, Passed.fit, Passed.good, Numbered.numbered, Numbered.numbered-length, Numbered.supports-length, Numbered.supports-hold}
-use Rattle.model.proofs.Accepted.{is-accepted}
-use Rattle.model.proofs.Lists.{never}
+use Rattle.model.proofs.{Accepted.is-accepted, Lists.never}
 
 -- counts multiplied
 pub pair-room : (n d : ℕ) → n ≤ 12 → d ≤ 16 → n * d ≤ 192
@@ -24,8 +22,7 @@ same-size n d m v en ed = ap₂ (λ (x y : ℕ). x * y) en ed
 
 -- a "no" is the first, whatever is asked after it
 first-no : (p q : Verdict → Verdict) (r : Answer) (n i : ℕ) → r ≡ Refused n i → Answers p r → (later : Verdict) → p (q later) ≡ andThen (means r) later
-first-no p q r n i e a later =
-    a (q later) ∙ ap (λ (x : Answer). andThen (means x) (q later)) e ∙ sym (ap (λ (x : Answer). andThen (means x) later) e)
+first-no p q r n i e a later = a (q later) ∙ ap (λ (x : Answer). andThen (means x) (q later)) e ∙ sym (ap (λ (x : Answer). andThen (means x) later) e)
 
 -- without a "no" the rest decides
 no-no : (p : Verdict → Verdict) (r : Answer) → r ≡ Accepted → Answers p r → (later : Verdict) → p later ≡ later

@@ -1,6 +1,6 @@
 -- A row of values below 16 as one number: the order of rows is that of their numbers, and equal rows have equal numbers. Assumes nothing.
-use Rattle.model.specs.Kit.{_≡_, refl, sym, ap, ap₂, _∙_, subst, Bool, true, false, List, [], _∷_, _++_, map, ℕ, zero, suc, _+_, _*_, _≤_, _<_, arith, add-one, T, eqb, ltb, ltb→lt}
-use Rattle.model.specs.Kit.{eqb→eq, length, eq-eqb, eqb-true, eqb-false, lt-ltb, le-ltb, ltb-true, ltb-false}
+use Rattle.model.specs.Kit.{_≡_, refl, sym, ap, ap₂, _∙_, subst, Bool, true, false, List, [], _∷_, _++_, map, ℕ, zero, suc, _+_, _*_, _≤_, _<_, arith, add-one, T, eqb, ltb, ltb→lt, eqb→eq, length}
+use Rattle.model.specs.Kit.{eq-eqb, eqb-true, eqb-false, lt-ltb, le-ltb, ltb-true, ltb-false}
 use Rattle.model.specs.{Lists.all, Lists.below, Lists.upFrom, Lists.same, Lists.earlier, Sheet.word, Sheet.words}
 use Rattle.arrays.specs.inner.Layout.{place}
 use Rattle.model.proofs.Lists.{all-cons, both-l, both-r, upFrom-add, map-append, T-ext, T-of, same-eq, same-refl}

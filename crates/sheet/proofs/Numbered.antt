@@ -1,7 +1,7 @@
 -- The numbers and the support sets of a sheet that passed questions 1 to 14. Assumes nothing.
 use Rattle.model.specs.Kit.{_≡_, sym, ap, ap₂, _∙_, subst, Bool, List, [], _∷_, _++_, map, ℕ, suc, _+_, _*_, _/_, _%_, _^_, _<_, arith, eqb, length, set, length-set, lt-ltb}
-use Rattle.model.specs.{Lists.at, Lists.both, Lists.either, Lists.any, Lists.below, Lists.same, ValueSets.has, ValueSets.maskOf, Problem.Constraint, Problem.constraintAt}
-use Rattle.model.specs.Sheet.{headerOf, word, scopeAt, rowsAt, problemOf, tableAt}
+use Rattle.model.specs.{Lists.at, Lists.both, Lists.either, Lists.any, Lists.below, Lists.same, ValueSets.has, ValueSets.maskOf, Problem.Constraint, Problem.constraintAt, Sheet.headerOf, Sheet.word}
+use Rattle.model.specs.{Sheet.scopeAt, Sheet.rowsAt, Sheet.problemOf, Sheet.tableAt}
 use Rattle.model.proofs.{Lists.length-below, Lists.at-set, Lists.at-set-other, Sets.has-none, Accepted.length-words, Accepted.at-words, Accepted.length-constraints}
 use Rattle.arrays.specs.{inner.Layout.Numbers, inner.Layout.Supports, inner.Layout.place, inner.Places.SUPPORTS, inner.Places.NUMBERS}
 use Rattle.sheet.specs.{inner.Parts.Fit, inner.Parts.AllSets, inner.Steps.offsetAt, inner.Steps.numbersTo, inner.Steps.supportsTo, inner.Form.counted}

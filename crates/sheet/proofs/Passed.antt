@@ -1,7 +1,7 @@
 -- What the questions leave where the answer is that there is no "no". Assumes nothing.
 use Rattle.model.specs.Kit.{_≡_, refl, ap, _∙_, subst, List, [], ℕ, zero, suc, _+_, _*_, _<_, arith, not-suc-le-zero, T, leb, ltb, eqb, leb→le, ltb→lt, length, getD}
-use Rattle.model.specs.{Lists.both, Lists.all, Lists.ascending, Verdict.Verdict, Verdict.isAccepted, Sheet.Header, Sheet.headerOf, Sheet.word, Sheet.words, Sheet.scopeAt}
-use Rattle.model.specs.Sheet.{rowsAt, afterAt, constraintsFrom, constraintsVerdict}
+use Rattle.model.specs.Sheet.{Header, headerOf, word, words, scopeAt, rowsAt, afterAt, constraintsFrom, constraintsVerdict}
+use Rattle.model.specs.{Lists.both, Lists.all, Lists.ascending, Verdict.Verdict, Verdict.isAccepted}
 use Rattle.model.proofs.{Lists.both-l, Lists.both-r, Accepted.asked, Accepted.header-e, Accepted.ConstraintPassed, Accepted.constraint-asked}
 use Rattle.sheet.specs.{inner.Parts.headerAsked, inner.Parts.Fit, inner.Steps.offsetAt}
 use Rattle.sheet.proofs.{Words.map-all-e, Words.words-all-e, Touch.Good}

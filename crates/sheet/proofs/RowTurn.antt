@@ -1,6 +1,6 @@
 -- The turns of the loops over one row and over the rows of a constraint. Assumes nothing.
-use Rattle.model.specs.Kit.{_≡_, refl, sym, ap, ap₂, _∙_, subst, Bool, true, false, List, ℕ, zero, suc, _+_, _*_, _≤_, _<_, arith, not-suc-le-zero, mul-le-mul-right, suc-mul}
-use Rattle.model.specs.Kit.{add-one, T, ltb, ltb→lt, lt→ltb, eqb, eqb-true, eqb-false}
+use Rattle.model.specs.Kit.{_≡_, refl, sym, ap, ap₂, _∙_, subst, Bool, true, false, List, ℕ, zero, suc, _+_, _*_, _≤_, _<_, arith, not-suc-le-zero, mul-le-mul-right, suc-mul, add-one, T, ltb, ltb→lt}
+use Rattle.model.specs.Kit.{lt→ltb, eqb, eqb-true, eqb-false}
 use Rattle.model.specs.{Lists.all, Lists.choose, Sheet.word, Sheet.words}
 use Rattle.sheet.specs.inner.Fill.{keyTo, rowKey, rowFits, leastKey, order, withRow, withRows, RowRead, RowsAsked}
 use Rattle.sheet.proofs.Words.{words-all-i, words-all-e}

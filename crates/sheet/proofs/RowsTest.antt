@@ -1,6 +1,6 @@
 -- What was asked of the rows one by one is what questions 12 and 13 ask of them together. Assumes nothing.
-use Rattle.model.specs.Kit.{_≡_, refl, sym, ap₂, _∙_, subst, Bool, true, false, _⊎_, inl, inr, List, map, ℕ, zero, suc, _+_, _*_, _≤_, _<_, arith, T, eqb, ltb, ltb→lt, lt→ltb}
-use Rattle.model.specs.Kit.{ltb-true, ltb-false, lt-ltb, eqb-true, eqb-false}
+use Rattle.model.specs.Kit.{_≡_, refl, sym, ap₂, _∙_, subst, Bool, true, false, _⊎_, inl, inr, List, map, ℕ, zero, suc, _+_, _*_, _≤_, _<_, arith, T, eqb, ltb, ltb→lt, lt→ltb, ltb-true, ltb-false}
+use Rattle.model.specs.Kit.{lt-ltb, eqb-true, eqb-false}
 use Rattle.model.specs.{Lists.all, Lists.below, Lists.earlier, Lists.rowsAscend, Lists.choose, Sheet.word, Sheet.words}
 use Rattle.model.proofs.{Lists.T-of, Lists.of-T, Lists.not-of, Accepted.length-words}
 use Rattle.sheet.specs.inner.Fill.{rowKey, rowFits, leastKey, order}

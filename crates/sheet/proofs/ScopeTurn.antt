@@ -1,8 +1,8 @@
 -- The turns of the loop over the scope of a constraint. Assumes nothing.
-use Rattle.model.specs.Kit.{_≡_, refl, sym, ap, ap₂, _∙_, subst, Bool, true, false, List, ℕ, zero, suc, _+_, _*_, _%_, _^_, _≤_, _<_, arith, not-suc-le-zero, mul-le-mul-right}
-use Rattle.model.specs.Kit.{bitOr, set, getD, T, ltb, ltb→lt, lt→ltb, eqb, eqb-true, eqb-false}
-use native.Mathlib.Nat.{pow-suc}
+use Rattle.model.specs.Kit.{_≡_, refl, sym, ap, ap₂, _∙_, subst, Bool, true, false, List, ℕ, zero, suc, _+_, _*_, _%_, _^_, _≤_, _<_, arith, not-suc-le-zero, mul-le-mul-right, bitOr, set, getD, T}
+use Rattle.model.specs.Kit.{ltb, ltb→lt, lt→ltb, eqb, eqb-true, eqb-false}
 use Rattle.model.specs.{Lists.all, Lists.at, Lists.both, Lists.ascending, Sheet.word, Sheet.words}
+use native.Mathlib.Nat.{pow-suc}
 use Rattle.model.proofs.{Lists.both-i, Lists.both-l, Lists.both-r, Lists.of-T, Lists.not-of, Members.one-bit}
 use Rattle.sheet.specs.inner.Fill.{touch, touched, packed, leastAt, ScopeAsked}
 use Rattle.sheet.proofs.{Words.words-all-i, Words.words-all-e, Ascend.ascending-i, Ascend.ascending-e}

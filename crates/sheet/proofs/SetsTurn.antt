@@ -1,8 +1,8 @@
 -- The turns of the loops over the initial sets: what is asked and what is stored for one variable. Assumes nothing.
-use Rattle.model.specs.Kit.{_≡_, refl, sym, ap, _∙_, subst, Bool, true, false, not, List, _∷_, ℕ, suc, _+_, _-_, _*_, _^_, _≤_, _<_, arith, length, set, eqb, leb, ltb, lt-ltb}
-use Rattle.model.specs.Kit.{le-ltb, ltb-true, ltb-false, leb-true, leb-false}
-use Rattle.model.specs.{Lists.both, Lists.below, Lists.upFrom, ValueSets.fullMask, Verdict.Verdict, Verdict.refused, Verdict.ask, Sheet.Header, Sheet.word, Sheet.headerOf}
-use Rattle.model.specs.{Sheet.setsVerdict, inner.Filling.Filled}
+use Rattle.model.specs.Kit.{_≡_, refl, sym, ap, _∙_, subst, Bool, true, false, not, List, _∷_, ℕ, suc, _+_, _-_, _*_, _^_, _≤_, _<_, arith, length, set, eqb, leb, ltb, lt-ltb, le-ltb, ltb-true}
+use Rattle.model.specs.Kit.{ltb-false, leb-true, leb-false}
+use Rattle.model.specs.Sheet.{Header, word, headerOf, setsVerdict}
+use Rattle.model.specs.{Lists.both, Lists.below, Lists.upFrom, ValueSets.fullMask, Verdict.Verdict, Verdict.refused, Verdict.ask, inner.Filling.Filled}
 use Rattle.model.proofs.{Masks.shl-one, Masks.shl-pos, Masks.full-op, Masks.full-all, Filling.filled-turn, Lists.never}
 use Rattle.arrays.specs.inner.Places.{NUMBERS}
 use Rattle.sheet.specs.{inner.Parts.ZeroSets, inner.Parts.AllSets, inner.Parts.SetsAsked, declared.Answer.the-variants.Accepted, declared.Answer.the-variants.Refused}

@@ -1,7 +1,7 @@
 -- The problem that a sheet states once it passed questions 1 to 14, as questions 15 and 16 want it. Assumes nothing.
 use Rattle.model.specs.Kit.{_≡_, refl, sym, _∙_, subst, List, ℕ, _+_, _*_, _^_, _<_, arith, T, eqb→eq, length}
-use Rattle.model.specs.{Lists.at, Lists.below, Verdict.Verdict, Verdict.accepted, Verdict.ask, Verdict.isAccepted, Sheet.headerOf, Sheet.problemOf, Sheet.tablesFit, inner.WellFormed.Stated}
-use Rattle.model.specs.Sheet.{formVerdict}
+use Rattle.model.specs.{Lists.at, Lists.below, Verdict.Verdict, Verdict.accepted, Verdict.ask, Verdict.isAccepted, Sheet.headerOf, Sheet.problemOf, Sheet.tablesFit, Sheet.formVerdict}
+use Rattle.model.specs.{inner.WellFormed.Stated}
 use Rattle.model.proofs.{Lists.below-i, Accepted.asked, Accepted.at-words, Accepted.sets-e, Accepted.constraints-e, Accepted.is-accepted, Accepted.length-constraints}
 use Rattle.sheet.specs.{inner.Parts.setsAsked, inner.Parts.Fit, inner.Steps.constraintsAsked}
 use Rattle.sheet.proofs.Passed.{fit}

@@ -1,6 +1,6 @@
 -- What the rows leave in the withRow sets. Assumes nothing.
-use Rattle.model.specs.Kit.{_≡_, refl, sym, ap, ap₂, _∙_, subst, Bool, true, false, List, map, ℕ, zero, suc, _+_, _/_, _%_, _^_, _≤_, _<_, arith, eqb, length, set, length-set}
-use Rattle.model.specs.Kit.{eqb-true, eqb-false, eq-eqb, ne-eqb}
+use Rattle.model.specs.Kit.{_≡_, refl, sym, ap, ap₂, _∙_, subst, Bool, true, false, List, map, ℕ, zero, suc, _+_, _/_, _%_, _^_, _≤_, _<_, arith, eqb, length, set, length-set, eqb-true, eqb-false}
+use Rattle.model.specs.Kit.{eq-eqb, ne-eqb}
 use Rattle.model.specs.{Lists.at, Lists.either, Lists.any, Lists.below, ValueSets.has, ValueSets.unionMask}
 use Rattle.model.proofs.{Lists.at-set, Lists.at-set-other, Sets.has-mask, Sets.mask-lt, Masks.has-one, Members.either-no}
 use Rattle.sheet.specs.inner.Fill.{rowKey, withRow, withRows}

@@ -1,7 +1,7 @@
 -- The turns of the loop over the tables. Assumes nothing.
 use Rattle.model.specs.Kit.{_≡_, refl, sym, ap, ap₂, _∙_, subst, Bool, true, false, List, map, ℕ, suc, _+_, _-_, _*_, _≤_, _<_, arith, mul-le-mul-right, suc-mul, add-one, length}
-use Rattle.model.specs.{Lists.upFrom, Lists.below, Verdict.Verdict, Verdict.accepted, Verdict.refused, Verdict.ask, Problem.respects, Sheet.headerOf, Sheet.words, Sheet.tableAt}
-use Rattle.model.specs.Sheet.{problemOf, permutesPairs, formVerdict, symmetriesVerdict}
+use Rattle.model.specs.Sheet.{headerOf, words, tableAt, problemOf, permutesPairs, formVerdict, symmetriesVerdict}
+use Rattle.model.specs.{Lists.upFrom, Lists.below, Verdict.Verdict, Verdict.accepted, Verdict.refused, Verdict.ask, Problem.respects}
 use Rattle.arrays.specs.inner.Layout.{Numbers}
 use Rattle.sheet_table.specs.inner.Table.{TableAt, Asked, tableOf, answerOf, tableAnswer}
 use Rattle.sheet.specs.{Meaning.means, inner.Form.Formed, declared.Answer.the-variants.Accepted, declared.Answer.the-variants.Refused}

@@ -1,8 +1,8 @@
 -- What the scopes leave in the numbers. Assumes nothing.
-use Rattle.model.specs.Kit.{_≡_, refl, sym, ap, ap₂, _∙_, subst, Bool, true, false, List, ℕ, zero, suc, _+_, _*_, _/_, _%_, _^_, _≤_, _<_, arith, not-suc-le-zero, lt-of-lt-of-le}
-use Rattle.model.specs.Kit.{bitOr, or-lt, pow-lt, T, eqb, ltb, length, set, length-set, eqb-true, eqb-false, lt-ltb, le-ltb, ltb-true, ltb-false}
-use lib.Pow.{pow-mono}
+use Rattle.model.specs.Kit.{_≡_, refl, sym, ap, ap₂, _∙_, subst, Bool, true, false, List, ℕ, zero, suc, _+_, _*_, _/_, _%_, _^_, _≤_, _<_, arith, not-suc-le-zero, lt-of-lt-of-le, bitOr, or-lt, pow-lt}
+use Rattle.model.specs.Kit.{T, eqb, ltb, length, set, length-set, eqb-true, eqb-false, lt-ltb, le-ltb, ltb-true, ltb-false}
 use Rattle.model.specs.{Lists.at, Lists.both, Lists.either, Lists.any, Lists.ascending, ValueSets.has, Sheet.word, Sheet.words, Sheet.scopeAt}
+use lib.Pow.{pow-mono}
 use Rattle.model.proofs.{Lists.at-set, Lists.at-set-other, Lists.both-true, Lists.both-false, Masks.has-or, Masks.has-one, Members.either-no}
 use Rattle.arrays.specs.inner.Places.{NUMBERS}
 use Rattle.sheet.specs.{inner.Fill.touch, inner.Fill.touched, inner.Fill.packed, inner.Fill.rowFits, inner.Steps.offsetAt, inner.Steps.numbersTo}

@@ -1,16 +1,13 @@
 -- The answer to all questions from those of the two parts. Assumes nothing.
 use Rattle.model.specs.Kit.{Bool, true, false, _≡_, refl, sym, ap, _∙_, List, ℕ, replicate, length-replicate}
+use Rattle.model.specs.{Verdict.Verdict, Verdict.accepted, Verdict.ask, Verdict.isAccepted, Sheet.problemOf, Sheet.permutesPairs, Sheet.formVerdict, Sheet.symmetriesVerdict, Sheet.verdictOf}
 use mathlib.Core.Bool.{false≢true}
-use Rattle.model.specs.{Verdict.Verdict, Verdict.accepted, Verdict.ask, Verdict.isAccepted, Sheet.problemOf, Sheet.permutesPairs, Sheet.formVerdict, Sheet.symmetriesVerdict}
-use Rattle.model.specs.Sheet.{verdictOf}
-use Rattle.model.proofs.{Lists.at-replicate, Lists.all-i, Lists.of-T, Accepted.symmetries-e, Accepted.is-accepted, Lists.never}
+use Rattle.model.proofs.{Lists.at-replicate, Lists.all-i, Lists.of-T, Lists.never, Accepted.symmetries-e, Accepted.is-accepted}
 use Rattle.arrays.specs.inner.Layout.{Compiled}
 use Rattle.reader.specs.declared.Header.{Header}
-use Rattle.sheet.specs.{Meaning.means, Meaning.andThen, inner.Decoding.permuting, inner.Decoding.Tabled, inner.Decoding.TablesDecoded, inner.Form.Zeros, inner.Form.Formed, inner.Form.answer}
-use Rattle.sheet.specs.{inner.Form.FormRead, inner.Form.Sized, inner.Form.Compilation, Meaning.compilable, inner.Form.Recompilation, declared.Answer.Answer}
-use Rattle.sheet.specs.declared.Answer.the-variants.{Accepted}
-use Rattle.sheet.specs.{declared.Answer.the-variants.Refused, declared.form.Form.Form, declared.form.Form.the-variants.Passed}
-use Rattle.sheet.specs.declared.form.Form.the-variants.{Refused as NotPassed}
+use Rattle.sheet.specs.{Meaning.means, Meaning.andThen, Meaning.compilable, inner.Decoding.permuting, inner.Decoding.Tabled, inner.Decoding.TablesDecoded, inner.Form.Zeros, inner.Form.Formed}
+use Rattle.sheet.specs.{inner.Form.answer, inner.Form.FormRead, inner.Form.Sized, inner.Form.Compilation, inner.Form.Recompilation, declared.Answer.Answer, declared.Answer.the-variants.Accepted}
+use Rattle.sheet.specs.{declared.Answer.the-variants.Refused, declared.form.Form.Form, declared.form.Form.the-variants.Passed, declared.form.Form.the-variants.Refused as NotPassed}
 use Rattle.sheet.proofs.Compilable.{asked-last}
 
 pub zeros : (n : ℕ) → Zeros n (replicate n 0)

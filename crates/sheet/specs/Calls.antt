@@ -1,8 +1,7 @@
 -- A call of `question`, and what a caller may rely on: the answer is the first "no" with its number and item, or that there is none. proofs/Calls has the
 -- theorems.
 use Rattle.model.specs.Kit.{_≡_, _↔_, List, ℕ, _<_, T}
-use Rattle.model.specs.{Problem.respects, Verdict.Verdict, Verdict.accepted, Verdict.refused, Sheet.headerOf, Sheet.problemOf, Sheet.permutesPairs, Sheet.verdictOf, Claims.OneMore}
-use Rattle.model.specs.Claims.{exchangeIn}
+use Rattle.model.specs.{Problem.respects, Verdict.Verdict, Verdict.accepted, Verdict.refused, Sheet.headerOf, Sheet.problemOf, Sheet.permutesPairs, Sheet.verdictOf, Claims.OneMore, Claims.exchangeIn}
 use Rattle.sheet.specs.{Meaning.means, declared.Answer.Answer, declared.Answer.the-variants.Accepted, declared.Answer.the-variants.Refused}
 
 -- bytes b, answer r. It is the function's contract.

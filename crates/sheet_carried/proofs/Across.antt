@@ -1,14 +1,13 @@
 -- Rows of a constraint on the images that come from rows: for the values of one variable at a time. Assumes nothing.
-use Rattle.model.specs.Kit.{_≡_, refl, sym, ap, ap₂, _∙_, subst, true, not, List, [], _∷_, _⊎_, inl, inr, ⊎-elim, ℕ, suc, _+_, _*_, _/_, _%_, _<_, arith, T, eqb, not-T, length}
-use Rattle.model.specs.Kit.{drop, bitAnd}
+use Rattle.model.specs.Kit.{_≡_, refl, sym, ap, ap₂, _∙_, subst, true, not, List, [], _∷_, _⊎_, inl, inr, ⊎-elim, ℕ, suc, _+_, _*_, _/_, _%_, _<_, arith, T, eqb, not-T, length, drop, bitAnd}
 use Rattle.model.specs.{Lists.any, Lists.at, Lists.both, ValueSets.has, ValueSets.maskOf, ValueSets.commonMask, Problem.Problem, Problem.constraintAt, inner.WellFormed.Stated}
 use Rattle.model.proofs.{Lists.T-dec, Lists.both-i, Lists.mem-at, Lists.among-e, Sets.mask-i}
 use Rattle.arrays.specs.inner.Places.{SUPPORTS}
 use Rattle.sheet_table.specs.{inner.Table.Ready, inner.Forbidden.blocked, inner.Forbidden.numberOf, inner.Forbidden.MaybePair, inner.Forbidden.On}
 use Rattle.sheet_table.specs.inner.Forbidden.{Sure, Across, FromRow, FromRows, SetFrom, Walking, keeps, packed, packedOn}
-use Rattle.sheet_table.proofs.{Codes.good, Codes.init-16, Codes.code-16, Codes.code-pair, Codes.variable-lt}
-use Rattle.sheet_carried.proofs.{Surely.on-three-lt, Surely.on-three, Surely.after}
-use Rattle.sheet_carried.proofs.{Surely.on-turned, Surely.first-two-turned, Keys.Digits, Keys.begun-digits, Walks.walked-triple, Walks.carried-kept}
+use Rattle.sheet_table.proofs.Codes.{good, init-16, code-16, code-pair, variable-lt}
+use Rattle.sheet_carried.proofs.Surely.{on-three-lt, on-three, after, on-turned, first-two-turned}
+use Rattle.sheet_carried.proofs.{Keys.Digits, Keys.begun-digits, Walks.walked-triple, Walks.carried-kept}
 
 -- as the code finds them: the values of z in the set, and the set that they have to come from
 pub set-from : (p : Problem) → Stated p → (supports moves : List ℕ) (from i e z : ℕ) → z < p .variables → (last s free spot rows : ℕ) → last ≡ at (p .initial) z → s ≡ at supports i

@@ -1,13 +1,12 @@
 -- The constraints that can refuse three pairs, asked one after another. Assumes nothing.
-use Rattle.model.specs.Kit.{_≡_, refl, sym, ap, _∙_, subst, Bool, true, false, List, [], _∷_, List·Memᴰ·head, List·Memᴰ·tail, inl, inr, ⊎-elim, ℕ, _-_, _/_, _^_, _≤_, _<_}
-use Rattle.model.specs.Kit.{lt-of-le-of-lt, lt-of-lt-of-le, arith, T, eqb, eqb-refl, length, bitAnd, bitOr, and-le-l, trailingZeros}
-use lib.Pow.{pow-mono}
+use Rattle.model.specs.Kit.{_≡_, refl, sym, ap, _∙_, subst, Bool, true, false, List, [], _∷_, List·Memᴰ·head, List·Memᴰ·tail, inl, inr, ⊎-elim, ℕ, _-_, _/_, _^_, _≤_, _<_, lt-of-le-of-lt}
+use Rattle.model.specs.Kit.{lt-of-lt-of-le, arith, T, eqb, eqb-refl, length, bitAnd, bitOr, and-le-l, trailingZeros}
 use Rattle.model.specs.{Lists.any, Lists.at, ValueSets.has, Problem.Problem, Problem.constraintAt}
+use lib.Pow.{pow-mono}
 use Rattle.model.proofs.{Lists.T-of, Lists.of-T, Lists.not-of, Lists.of-not, Lists.all-i, Lists.any-i, Sets.has-lt, Sets.has-none, Members.low-has, Members.rest-i}
 use Rattle.sheet_table.specs.inner.Forbidden.{blocked, numberOf, clashes, valueIn, refusedBy, Refusing, Triple, Pending}
 use Rattle.sheet_table.proofs.Codes.{variable-lt}
-use Rattle.sheet_carried.proofs.{Blocks.clash-blocked, Scopes.all-has, Triples.OneGives, Triples.found, Triples.refused-all, Triples.refused-blocked}
-use Rattle.sheet_carried.proofs.Triples.{blocked-refused}
+use Rattle.sheet_carried.proofs.{Blocks.clash-blocked, Scopes.all-has, Triples.OneGives, Triples.found, Triples.refused-all, Triples.refused-blocked, Triples.blocked-refused}
 
 module _ (p : Problem) (numbers supports : List ℕ) (a b e : ℕ) (t : Triple p numbers supports a b e) where
   -- ---- two of the pairs clash

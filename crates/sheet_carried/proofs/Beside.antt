@@ -2,7 +2,7 @@
 use Rattle.model.specs.Kit.{_≡_, refl, sym, ap, _∙_, subst, Bool, true, false, List, [], _∷_, List·Memᴰ·head, List·Memᴰ·tail, inr, ℕ, _+_, _*_, _/_, _<_, arith, T}
 use Rattle.model.specs.{Lists.at, ValueSets.has, ValueSets.members, ValueSets.lowestOf, ValueSets.withoutMask, Problem.Problem, inner.WellFormed.Stated}
 use Rattle.model.proofs.{Lists.T-of, Lists.of-T, Lists.all-i, Sets.mask-lt, Lowest.lowest-in, Lowest.without-e, Lowest.without-less}
-use Rattle.sheet_table.specs.{inner.Forbidden.blocked, inner.Forbidden.clashes, inner.Forbidden.numberOf, inner.Forbidden.PairCode}
+use Rattle.sheet_table.specs.inner.Forbidden.{blocked, clashes, numberOf, PairCode}
 use Rattle.sheet_table.specs.inner.Forbidden.{Triple, Beside, allBlocked}
 use Rattle.sheet_carried.proofs.Blocks.{clash-blocked}
 use Rattle.sheet_table.proofs.{Codes.init-16, Laws.all-stop, Laws.all-rest, Laws.all-over}

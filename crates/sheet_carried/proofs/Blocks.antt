@@ -1,15 +1,13 @@
 -- The forbidden sets among given pairs: what lies in them, and when three pairs hold one. Assumes nothing.
-use Rattle.model.specs.Kit.{_≡_, refl, sym, ap, _∙_, subst, Bool, true, false, not, List, [], _∷_, map, List·Memᴰ, List·Memᴰ·head, List·Memᴰ·tail, List·Memᴰ·not-nil, Memᴰ·cast}
-use Rattle.model.specs.Kit.{Memᴰ·map, Memᴰ·of-map, _⊎_, inl, inr, ⊎-elim, ℕ, suc, _*_, _/_, _%_, _≤_, _<_, arith, T, T-not, not-T, eqb, ltb, length, getD, eqb-true, eq-eqb}
-use Rattle.model.specs.Kit.{ltb-true, ltb-false}
+use Rattle.model.specs.Kit.{_≡_, refl, sym, ap, _∙_, subst, Bool, true, false, not, List, [], _∷_, map, List·Memᴰ, List·Memᴰ·head, List·Memᴰ·tail, List·Memᴰ·not-nil, Memᴰ·cast, Memᴰ·map, Memᴰ·of-map}
+use Rattle.model.specs.Kit.{_⊎_, inl, inr, ⊎-elim, ℕ, suc, _*_, _/_, _%_, _≤_, _<_, arith, T, T-not, not-T, eqb, ltb, length, getD, eqb-true, eq-eqb, ltb-true, ltb-false}
+use Rattle.model.specs.Problem.{Problem, Constraint, pair, pairsAt, within, assignments, excluded, forbidden, constraintAt}
+use Rattle.model.specs.{Lists.any, Lists.keep, Lists.at, Lists.same, ValueSets.has, ValueSets.members}
 use mathlib.Core.List.{List·Memᴰ·eq-of-singleton}
-use Rattle.model.specs.{Lists.any, Lists.keep, Lists.at, Lists.same, ValueSets.has, ValueSets.members, Problem.Problem, Problem.Constraint, Problem.pair, Problem.pairsAt}
-use Rattle.model.specs.Problem.{within, assignments, excluded, forbidden, constraintAt}
 use Rattle.model.specs.inner.WellFormed.{Stated}
 use Rattle.model.proofs.Lists.{T-of, T-ext, of-not, both-i, both-l, both-r, any-e, any-i, keep-e, keep-i, flat-i, flat-e}
-use Rattle.model.proofs.{Sets.members-i, Sets.members-e, Pairs.within-i, Pairs.within-e, Pairs.doubled-e, Pairs.doubled-i, Pairs.forbidden-e, Pairs.forbidden-doubled, Pairs.init-lt}
-use Rattle.model.proofs.Pairs.{pair-lt}
-use Rattle.sheet_table.specs.{inner.Forbidden.blocked, inner.Forbidden.numberOf, inner.Forbidden.PairCode, inner.Forbidden.MaybePair}
+use Rattle.model.proofs.{Sets.members-i, Sets.members-e, Pairs.within-i, Pairs.within-e, Pairs.doubled-e, Pairs.doubled-i, Pairs.forbidden-e, Pairs.forbidden-doubled, Pairs.init-lt, Pairs.pair-lt}
+use Rattle.sheet_table.specs.inner.Forbidden.{blocked, numberOf, PairCode, MaybePair}
 use Rattle.sheet_table.specs.inner.Forbidden.{Begun, clashes}
 use Rattle.sheet_table.proofs.Codes.{good, init-16}
 

@@ -1,17 +1,16 @@
 -- Two pairs that a constraint on their variables refuses. Assumes nothing.
-use Rattle.model.specs.Kit.{_≡_, sym, ap, _∙_, subst, true, false, List, [], _∷_, List·Memᴰ, List·Memᴰ·head, List·Memᴰ·tail, List·Memᴰ·not-nil, ℕ, zero, suc, _+_, _*_, _/_, _%_}
-use Rattle.model.specs.Kit.{_^_, _≤_, _<_, lt-of-le-of-lt, lt-of-lt-of-le, not-suc-le-zero, le-of-suc-le-suc, arith, T, eqb, ltb, ltb→lt, length, bitAnd, and-le-l, trailingZeros}
-use lib.Pow.{pow-mono}
+use Rattle.model.specs.Kit.{_≡_, sym, ap, _∙_, subst, true, false, List, [], _∷_, List·Memᴰ, List·Memᴰ·head, List·Memᴰ·tail, List·Memᴰ·not-nil, ℕ, zero, suc, _+_, _*_, _/_, _%_, _^_, _≤_, _<_}
+use Rattle.model.specs.Kit.{lt-of-le-of-lt, lt-of-lt-of-le, not-suc-le-zero, le-of-suc-le-suc, arith, T, eqb, ltb, ltb→lt, length, bitAnd, and-le-l, trailingZeros}
 use Rattle.model.specs.{Lists.any, Lists.at, Lists.same, Lists.ascending, ValueSets.has, Problem.Problem, Problem.pairsAt, Problem.constraintAt, inner.WellFormed.Stated}
+use lib.Pow.{pow-mono}
 use Rattle.model.specs.inner.WellFormed.{GoodConstraint}
 use Rattle.model.proofs.{Lists.of-not, Lists.both-l, Lists.both-r, Lists.among-e, Sets.has-lt, Masks.has-and, Members.low-has, Pairs.forbidden-excluded}
 use Rattle.arrays.specs.inner.Places.{SUPPORTS}
 use Rattle.arrays.proofs.Links.{is-one}
-use Rattle.sheet_table.specs.{inner.Forbidden.blocked, inner.Forbidden.numberOf, inner.Forbidden.PairCode, inner.Forbidden.MaybePair}
+use Rattle.sheet_table.specs.inner.Forbidden.{blocked, numberOf, PairCode, MaybePair}
 use Rattle.sheet_table.specs.inner.Forbidden.{Begun, Triple, packed, packedOn}
-use Rattle.sheet_table.proofs.{Codes.good, Codes.init-16, Codes.variable-lt}
-use Rattle.sheet_carried.proofs.{Keys.Digits, Keys.row-test, Blocks.excluded-i, Blocks.blocked-i}
-use Rattle.sheet_carried.proofs.{Blocks.blocked-more, Scopes.first-two, Surely.real}
+use Rattle.sheet_table.proofs.Codes.{good, init-16, variable-lt}
+use Rattle.sheet_carried.proofs.{Keys.Digits, Keys.row-test, Blocks.excluded-i, Blocks.blocked-i, Blocks.blocked-more, Scopes.first-two, Surely.real}
 
 -- a scope of two that has two variables
 whole-two : (x y : ℕ) (scope : List ℕ) → length scope ≡ 2 → T (ascending scope) → x < y → T (any (eqb x) scope) → T (any (eqb y) scope) → scope ≡ x ∷ y ∷ []

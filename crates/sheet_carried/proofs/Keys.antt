@@ -1,10 +1,9 @@
 -- Values of a row as the digits of a number, and where their set of last values stands. Assumes nothing.
-use Rattle.model.specs.Kit.{_≡_, refl, sym, ap, _∙_, List, [], _∷_, _++_, List·Memᴰ, List·Memᴰ·head, List·Memᴰ·tail, ℕ, zero, suc, _+_, _*_, _≤_, _<_, not-suc-le-zero}
-use Rattle.model.specs.Kit.{le-of-suc-le-suc, arith, length}
+use Rattle.model.specs.Kit.{_≡_, refl, sym, ap, _∙_, List, [], _∷_, _++_, List·Memᴰ, List·Memᴰ·head, List·Memᴰ·tail, ℕ, zero, suc, _+_, _*_, _≤_, _<_, not-suc-le-zero, le-of-suc-le-suc, arith, length}
 use Rattle.model.specs.{Lists.any, Lists.at, Lists.same, ValueSets.has, Problem.Problem, Problem.constraintAt, inner.WellFormed.Stated}
 use Rattle.model.proofs.Sets.{has-mask}
 use Rattle.arrays.specs.inner.Layout.{place, Supports}
-use Rattle.sheet_table.specs.{inner.Forbidden.Begun, inner.Forbidden.packed, inner.Forbidden.packedOn}
+use Rattle.sheet_table.specs.inner.Forbidden.{Begun, packed, packedOn}
 use Rattle.sheet_table.proofs.Codes.{init-16}
 
 -- every digit is one

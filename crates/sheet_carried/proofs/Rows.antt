@@ -1,13 +1,13 @@
 -- Whether a constraint refuses three pairs: their values for its scope, one after another, and the test of the row. Assumes nothing.
-use Rattle.model.specs.Kit.{_≡_, refl, sym, ap, ap₂, _∙_, subst, Bool, true, false, not, List, [], _∷_, _++_, map, List·Memᴰ, ℕ, zero, suc, _+_, _*_, _/_, _%_, _≤_, _<_}
-use Rattle.model.specs.Kit.{not-suc-le-zero, add-one, arith, T, eqb, ltb, ltb→lt, lt→ltb, length, take, length-map, length-take-le, getD-take}
-use lib.Seq.{take-suc, take-length}
+use Rattle.model.specs.Kit.{_≡_, refl, sym, ap, ap₂, _∙_, subst, Bool, true, false, not, List, [], _∷_, _++_, map, List·Memᴰ, ℕ, zero, suc, _+_, _*_, _/_, _%_, _≤_, _<_, not-suc-le-zero, add-one}
+use Rattle.model.specs.Kit.{arith, T, eqb, ltb, ltb→lt, lt→ltb, length, take, length-map, length-take-le, getD-take}
 use Rattle.model.specs.{Lists.all, Lists.any, Lists.at, Lists.same, Lists.both, ValueSets.has, Problem.Problem, Problem.Constraint, Problem.constraintAt, inner.WellFormed.GoodConstraint}
+use lib.Seq.{take-suc, take-length}
 use Rattle.model.proofs.Lists.{of-T, not-of, both-l, all-i, all-e, at-mem, mem-at, at-map, map-append}
 use Rattle.arrays.specs.inner.Places.{SUPPORTS}
 use Rattle.sheet_table.specs.{inner.Table.Ready, inner.Forbidden.packed, inner.Forbidden.valueIn, inner.Forbidden.refusedBy, inner.Forbidden.LookedUp}
 use Rattle.sheet_table.proofs.Codes.{good}
-use Rattle.sheet_carried.proofs.{Keys.Digits, Keys.packed-snoc, Keys.packed-none, Keys.packed-lt, Keys.row-test}
+use Rattle.sheet_carried.proofs.Keys.{Digits, packed-snoc, packed-none, packed-lt, row-test}
 
 -- one variable more
 snoc : (f : ℕ → ℕ) (l : List ℕ) (i : ℕ) → i < length l → map f (take (suc i) l) ≡ map f (take i l) ++ (f (at l i) ∷ [])

@@ -1,6 +1,6 @@
 -- Which constraints can lie among three variables. Assumes nothing.
-use Rattle.model.specs.Kit.{_≡_, refl, sym, ap₂, _∙_, subst, Bool, true, false, List, [], _∷_, List·Memᴰ, List·Memᴰ·head, Memᴰ·cast, _⊎_, inl, inr, ℕ, _^_, _≤_, _<_}
-use Rattle.model.specs.Kit.{lt-of-le-of-lt, arith, T, eqb, ltb, eqb-refl, eqb→eq, ltb→lt, length, bitAnd, bitOr, and-le-l, or-lt}
+use Rattle.model.specs.Kit.{_≡_, refl, sym, ap₂, _∙_, subst, Bool, true, false, List, [], _∷_, List·Memᴰ, List·Memᴰ·head, Memᴰ·cast, _⊎_, inl, inr, ℕ, _^_, _≤_, _<_, lt-of-le-of-lt, arith, T, eqb}
+use Rattle.model.specs.Kit.{ltb, eqb-refl, eqb→eq, ltb→lt, length, bitAnd, bitOr, and-le-l, or-lt}
 use Rattle.model.specs.{Lists.all, Lists.any, Lists.at, Lists.either, Lists.ascending, ValueSets.has, Problem.Problem, Problem.constraintAt}
 use Rattle.model.proofs.{Lists.either-l, Lists.either-r, Lists.all-e, Lists.any-e, Lists.any-i, Masks.has-or}
 use Rattle.sheet_table.specs.inner.Table.{Framed}

@@ -1,21 +1,20 @@
 -- Values of a variable that a constraint on it and the variables of two pairs refuses with them. Assumes nothing.
-use Rattle.model.specs.Kit.{_≡_, refl, sym, ap, _∙_, subst, Bool, true, false, not, List, [], _∷_, List·Memᴰ, List·Memᴰ·head, List·Memᴰ·tail, List·Memᴰ·not-nil, inl, inr, ℕ, zero}
-use Rattle.model.specs.Kit.{suc, _+_, _*_, _/_, _%_, _^_, _≤_, _<_, mul-le-mul-right, lt-of-le-of-lt, lt-of-lt-of-le, not-suc-le-zero, le-of-suc-le-suc, arith, T, T-not, eqb, ltb}
-use Rattle.model.specs.Kit.{ltb→lt, length, bitAnd, and-le-l, trailingZeros}
+use Rattle.model.specs.Kit.{_≡_, refl, sym, ap, _∙_, subst, Bool, true, false, not, List, [], _∷_, List·Memᴰ, List·Memᴰ·head, List·Memᴰ·tail, List·Memᴰ·not-nil, inl, inr, ℕ, zero, suc, _+_, _*_, _/_}
+use Rattle.model.specs.Kit.{_%_, _^_, _≤_, _<_, mul-le-mul-right, lt-of-le-of-lt, lt-of-lt-of-le, not-suc-le-zero, le-of-suc-le-suc, arith, T, T-not, eqb, ltb, ltb→lt, length, bitAnd, and-le-l}
+use Rattle.model.specs.Kit.{trailingZeros}
+use Rattle.model.specs.{Lists.any, Lists.at, Lists.same, Lists.both, Lists.ascending, ValueSets.has, ValueSets.maskOf, ValueSets.fullMask, ValueSets.onlyMask, ValueSets.unionMask, Problem.Problem}
+use Rattle.model.specs.{Problem.pairsAt, Problem.constraintAt, inner.WellFormed.Stated, inner.WellFormed.GoodConstraint}
 use native.Mathlib.Nat.{mul-comm}
 use lib.Bits.{or-zero-r}
 use lib.Pow.{pow-mono}
-use Rattle.model.specs.{Lists.any, Lists.at, Lists.same, Lists.both, Lists.ascending, ValueSets.has, ValueSets.maskOf, ValueSets.fullMask, ValueSets.onlyMask, ValueSets.unionMask}
-use Rattle.model.specs.{Problem.Problem, Problem.pairsAt, Problem.constraintAt, inner.WellFormed.Stated, inner.WellFormed.GoodConstraint}
-use Rattle.model.proofs.{Lists.T-of, Lists.of-T, Lists.both-l, Lists.both-r, Lists.among-e, Sets.has-lt, Sets.has-none, Sets.mask-e, Masks.has-and, Masks.has-one, Members.low-has}
-use Rattle.model.proofs.{Lowest.with-one, Filling.gathered-begin, Filling.gathered-more, Pairs.forbidden-excluded}
+use Rattle.model.proofs.{Lists.T-of, Lists.of-T, Lists.both-l, Lists.both-r, Lists.among-e, Sets.has-lt, Sets.has-none, Sets.mask-e, Masks.has-and, Masks.has-one, Members.low-has, Lowest.with-one}
+use Rattle.model.proofs.{Filling.gathered-begin, Filling.gathered-more, Pairs.forbidden-excluded}
 use Rattle.arrays.specs.inner.Places.{SUPPORTS}
 use Rattle.arrays.proofs.Links.{is-one}
 use Rattle.sheet_table.specs.{inner.Table.Ready, inner.Forbidden.blocked, inner.Forbidden.numberOf, inner.Forbidden.PairCode}
 use Rattle.sheet_table.specs.inner.Forbidden.{MaybePair, Begun, Lacking, On, Sure, packed, packedOn}
-use Rattle.sheet_table.proofs.{Codes.good, Codes.init-16, Codes.variable-lt}
-use Rattle.sheet_carried.proofs.{Keys.Digits, Keys.row-test, Blocks.three, Blocks.excluded-i}
-use Rattle.sheet_carried.proofs.{Blocks.blocked-i, Blocks.blocked-more, Scopes.Among, Scopes.first-two, Scopes.ascends}
+use Rattle.sheet_table.proofs.Codes.{good, init-16, variable-lt}
+use Rattle.sheet_carried.proofs.{Keys.Digits, Keys.row-test, Blocks.three, Blocks.excluded-i, Blocks.blocked-i, Blocks.blocked-more, Scopes.Among, Scopes.first-two, Scopes.ascends}
 
 -- ---- a scope that has three variables
 -- three ascending numbers among three that do not fall are these

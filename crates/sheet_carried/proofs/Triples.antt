@@ -1,15 +1,14 @@
 -- When three pairs hold a forbidden set: two of them clash, or a constraint refuses them. Assumes nothing.
-use Rattle.model.specs.Kit.{_≡_, refl, sym, ap, ap₂, _∙_, subst, Bool, true, false, not, List, [], _∷_, map, List·Memᴰ, List·Memᴰ·head, List·Memᴰ·tail, List·Memᴰ·not-nil}
-use Rattle.model.specs.Kit.{Memᴰ·cast, _⊎_, inl, inr, ⊎-elim, ℕ, _/_, _%_, _<_, arith, T, T-not, not-T, eqb, ltb, ltb→lt, lt→ltb, length, eqb-true, eqb-false}
-use Rattle.model.specs.{Lists.all, Lists.any, Lists.at, Lists.same, Lists.choose, ValueSets.has, Problem.Problem, Problem.Constraint, Problem.pair, Problem.pairsAt, inner.WellFormed.Stated}
-use Rattle.model.specs.Problem.{constraintAt}
+use Rattle.model.specs.Kit.{_≡_, refl, sym, ap, ap₂, _∙_, subst, Bool, true, false, not, List, [], _∷_, map, List·Memᴰ, List·Memᴰ·head, List·Memᴰ·tail, List·Memᴰ·not-nil, Memᴰ·cast, _⊎_, inl, inr}
+use Rattle.model.specs.Kit.{⊎-elim, ℕ, _/_, _%_, _<_, arith, T, T-not, not-T, eqb, ltb, ltb→lt, lt→ltb, length, eqb-true, eqb-false}
+use Rattle.model.specs.{Lists.all, Lists.any, Lists.at, Lists.same, Lists.choose, ValueSets.has, Problem.Problem, Problem.Constraint, Problem.pair, Problem.pairsAt, Problem.constraintAt}
+use Rattle.model.specs.{inner.WellFormed.Stated}
 use Rattle.model.proofs.{Lists.both-i, Lists.both-l, Lists.both-r, Lists.all-e, Lists.all-i, Pairs.doubled-e, Pairs.forbidden-e, Pairs.forbidden-excluded, Pairs.init-lt}
 use Rattle.arrays.proofs.Links.{is-one}
-use Rattle.sheet_table.specs.{inner.Forbidden.blocked, inner.Forbidden.numberOf, inner.Forbidden.MaybePair, inner.Forbidden.Begun}
+use Rattle.sheet_table.specs.inner.Forbidden.{blocked, numberOf, MaybePair, Begun}
 use Rattle.sheet_table.specs.inner.Forbidden.{clashes, valueIn, refusedBy}
-use Rattle.sheet_table.proofs.{Codes.good, Codes.init-16, Codes.code-is}
-use Rattle.sheet_carried.proofs.{Blocks.mem-index, Blocks.three, Blocks.excluded-e}
-use Rattle.sheet_carried.proofs.Blocks.{excluded-i, blocked-i, blocked-e, clash-no}
+use Rattle.sheet_table.proofs.Codes.{good, init-16, code-is}
+use Rattle.sheet_carried.proofs.Blocks.{mem-index, three, excluded-e, excluded-i, blocked-i, blocked-e, clash-no}
 
 -- ---- the value that three codes give to a variable
 -- one of the codes has the variable x and the value v

@@ -1,18 +1,16 @@
 -- The walk of a constraint's forbidden sets: one variable further, at its end, and at its start. Assumes nothing.
-use Rattle.model.specs.Kit.{_≡_, refl, sym, ap, ap₂, _∙_, subst, Bool, true, false, not, List, [], _∷_, _++_, map, List·Memᴰ, List·Memᴰ·head, List·Memᴰ·tail, List·Memᴰ·not-nil}
-use Rattle.model.specs.Kit.{_⊎_, inl, inr, ⊎-elim, ℕ, suc, _+_, _-_, _*_, _≤_, _<_, not-suc-le-zero, le-of-suc-le-suc, arith, T, not-T, T-not, length, drop}
+use Rattle.model.specs.Kit.{_≡_, refl, sym, ap, ap₂, _∙_, subst, Bool, true, false, not, List, [], _∷_, _++_, map, List·Memᴰ, List·Memᴰ·head, List·Memᴰ·tail, List·Memᴰ·not-nil, _⊎_, inl, inr, ⊎-elim}
+use Rattle.model.specs.Kit.{ℕ, suc, _+_, _-_, _*_, _≤_, _<_, not-suc-le-zero, le-of-suc-le-suc, arith, T, not-T, T-not, length, drop}
+use Rattle.model.specs.{Lists.all, Lists.any, Lists.at, Lists.same, Lists.both, Lists.either, ValueSets.has, ValueSets.maskOf, ValueSets.commonMask, ValueSets.withoutMask, ValueSets.members}
+use Rattle.model.specs.{ValueSets.lowestOf, Problem.Problem, Problem.constraintAt, inner.WellFormed.Stated, inner.WellFormed.GoodConstraint}
 use lib.Seq.{drop-cons, drop-length}
-use Rattle.model.specs.{Lists.all, Lists.any, Lists.at, Lists.same, Lists.both, Lists.either, ValueSets.has, ValueSets.maskOf, ValueSets.commonMask, ValueSets.withoutMask}
-use Rattle.model.specs.{ValueSets.members, ValueSets.lowestOf, Problem.Problem, Problem.constraintAt, inner.WellFormed.Stated, inner.WellFormed.GoodConstraint}
 use Rattle.model.proofs.Lists.{T-ext, of-T, T-of, not-of, both-i, both-l, both-r, all-e, all-i, mem-at, either-l, T-dec, length-snoc}
 use Rattle.model.proofs.{Sets.has-mask, Sets.mask-lt, Sets.mask-e, Sets.members-i, Sets.members-e, Lowest.lowest-in, Lowest.without-e, Lowest.without-less}
 use Rattle.arrays.specs.inner.Places.{SUPPORTS}
 use Rattle.sheet_table.specs.{inner.Table.Ready, inner.Forbidden.blocked, inner.Forbidden.numberOf, inner.Forbidden.PairCode}
 use Rattle.sheet_table.specs.inner.Forbidden.{MaybePair, Coded, Begun, codesAt, keeps, lastThree, Lent, Chosen, Walking, Choices, Triple, Beside, allBlocked}
-use Rattle.sheet_table.proofs.{Codes.good, Codes.init-16, Codes.init-small, Codes.none-out}
-use Rattle.sheet_carried.proofs.{Keys.begun-digits, Keys.packed-snoc, Keys.packed-none, Keys.packed-lt}
-use Rattle.sheet_carried.proofs.{Keys.row-test, Blocks.blocked-ext}
-use Rattle.sheet_table.proofs.{Laws.all-ext, Laws.all-stop, Laws.all-rest, Laws.all-over}
+use Rattle.sheet_table.proofs.{Codes.good, Codes.init-16, Codes.init-small, Codes.none-out, Laws.all-ext, Laws.all-stop, Laws.all-rest, Laws.all-over}
+use Rattle.sheet_carried.proofs.{Keys.begun-digits, Keys.packed-snoc, Keys.packed-none, Keys.packed-lt, Keys.row-test, Blocks.blocked-ext}
 
 -- ---- one value more
 begun-snoc : (p : Problem) (xs vs : List ℕ) (v : ℕ) → length vs < length xs → Begun p xs vs → T (has (at (p .initial) (at xs (length vs))) v) → Begun p xs (vs ++ (v ∷ []))

@@ -4,9 +4,9 @@ use Rattle.model.specs.{Lists.any, Lists.at, Lists.both, ValueSets.has, ValueSe
 use Rattle.model.proofs.{Lists.T-dec, Lists.T-of, Lists.of-T, Lists.all-i, Lists.both-i, Lists.mem-at, Lists.among-e, Sets.mask-i, Sets.members-e}
 use Rattle.sheet_table.specs.{inner.Table.Ready, inner.Forbidden.On, inner.Forbidden.Across, inner.Forbidden.Three, inner.Forbidden.Walking}
 use Rattle.sheet_table.specs.inner.Forbidden.{FromRow, FromRows, FirstsFrom, SecondsFrom, Whole, WholeFrom, keeps}
-use Rattle.sheet_table.proofs.{Codes.good, Codes.init-16, Codes.code-16, Codes.code-pair}
-use Rattle.sheet_carried.proofs.{Surely.on-three-lt, Surely.on-three, Surely.on-turned, Surely.after}
-use Rattle.sheet_carried.proofs.{Surely.first-two-turned, Surely.last-two-turned, Walks.walk-start, Walks.further, Walks.keeps-here, Across.carried-all}
+use Rattle.sheet_table.proofs.Codes.{good, init-16, code-16, code-pair}
+use Rattle.sheet_carried.proofs.Surely.{on-three-lt, on-three, on-turned, after, first-two-turned, last-two-turned}
+use Rattle.sheet_carried.proofs.{Walks.walk-start, Walks.further, Walks.keeps-here, Across.carried-all}
 
 -- as the code finds them: the values of x in the set at i
 pub firsts-from : (p : Problem) → Stated p → (supports moves : List ℕ) (from i x w : ℕ) → x < p .variables →

@@ -1,13 +1,11 @@
 -- What a caller of `small_sheet` holds (specs/Held). Assumes nothing.
-use Rattle.model.specs.Kit.{_≡_, refl, sym, ap, ap₂, _∙_, subst, Bool, true, false, List, [], ℕ, _≤_, _<_, arith, ltb, leb, length, take, drop, getD, lt-ltb, le-ltb, le-leb}
-use Rattle.model.specs.Kit.{lt-leb, ltb-true}
-use lib.Seq.{take-append-seam, drop-append-seam}
+use Rattle.model.specs.Kit.{_≡_, refl, sym, ap, ap₂, _∙_, subst, Bool, true, false, List, [], ℕ, _≤_, _<_, arith, ltb, leb, length, take, drop, getD, lt-ltb, le-ltb, le-leb, lt-leb, ltb-true}
 use Rattle.model.specs.{Verdict.Verdict, Verdict.accepted, Verdict.refused, Verdict.ask, Room.wrote, Room.refusal, Room.outcomeOf, Room.roomAfter}
+use lib.Seq.{take-append-seam, drop-append-seam}
 use Rattle.model.proofs.Lists.{never}
-use Rattle.sheet_small.specs.{Small.smallSheets, Answers.means, Answers.sheetAt, Answers.positionVerdict, Answers.smallOutcome, Answers.smallRoom, Calls.CallSmall, declared.Answer.Answer}
-use Rattle.sheet_small.specs.declared.Answer.the-variants.{Written, Refused}
-use Rattle.sheet_once.specs.{Held.SmallHeld}
-use Rattle.sheet_once.specs.Held.{IsSmall}
+use Rattle.sheet_small.specs.Answers.{means, sheetAt, positionVerdict, smallOutcome, smallRoom}
+use Rattle.sheet_small.specs.{Small.smallSheets, Calls.CallSmall, declared.Answer.Answer, declared.Answer.the-variants.Written, declared.Answer.the-variants.Refused}
+use Rattle.sheet_once.specs.Held.{SmallHeld, IsSmall}
 use Rattle.sheet_once.specs.inner.Claims.{Stands}
 use Rattle.sheet_once.proofs.{Figures.figures, Claims.each-once, Claims.nothing-else}
 

@@ -1,17 +1,17 @@
 -- The claims but for the figures: each small sheet stands at exactly one position, nothing else does, and the room is enough. Assumes nothing.
-use Rattle.model.specs.Kit.{_≡_, refl, sym, ap, _∙_, subst, Bool, true, false, List, [], _∷_, map, List·Memᴰ, List·Memᴰ·head, Memᴰ·map, Memᴰ·of-map, Memᴰ·append-left, ℕ, zero, suc}
-use Rattle.model.specs.Kit.{_+_, _-_, _*_, _/_, _%_, _^_, _≤_, _<_, arith, T, eqb, ltb, eqb→eq, length, drop, getD, ltb-true, ltb-false}
+use Rattle.model.specs.Kit.{_≡_, refl, sym, ap, _∙_, subst, Bool, true, false, List, [], _∷_, map, List·Memᴰ, List·Memᴰ·head, Memᴰ·map, Memᴰ·of-map, Memᴰ·append-left, ℕ, zero, suc, _+_, _-_, _*_, _/_}
+use Rattle.model.specs.Kit.{_%_, _^_, _≤_, _<_, arith, T, eqb, ltb, eqb→eq, length, drop, getD, ltb-true, ltb-false}
+use Rattle.model.specs.{Lists.all, Lists.keep, Lists.flat, Lists.upFrom, Lists.below, Lists.at, ValueSets.has, ValueSets.members, Sheet.word, Sheet.words, Sheet.headerOf, Sheet.scopeAt}
+use Rattle.model.specs.{Sheet.constraintsFrom, Sheet.problemOf, Sheet.verdictOf}
 use mathlib.Core.List.{Memᴰ·append-right}
-use Rattle.model.specs.{Lists.all, Lists.keep, Lists.flat, Lists.upFrom, Lists.below, Lists.at, ValueSets.has, ValueSets.members, Sheet.word, Sheet.words, Sheet.headerOf}
-use Rattle.model.specs.Sheet.{scopeAt, constraintsFrom, problemOf, verdictOf}
 use Rattle.model.proofs.{Lists.Sorted, Lists.sorted-keep, Lists.upFrom-e, Lists.keep-i, Lists.keep-e, Lists.flat-i, Lists.mem-getD, Lists.place-of, Accepted.accepted-is}
-use Rattle.sheet_small.specs.{Small.Shape, Small.shapes, Small.tables, Small.rowsOf, Small.frontOf}
-use Rattle.sheet_small.specs.{Small.sheetOf, Small.isSheet, Small.plainSheets, Small.symmetricSheets, Small.smallSheets, inner.Inner.shapeNo, inner.Inner.tableNo}
+use Rattle.sheet_small.specs.Small.{Shape, shapes, tables, rowsOf, frontOf, sheetOf, isSheet, plainSheets, symmetricSheets, smallSheets}
+use Rattle.sheet_small.specs.inner.Inner.{shapeNo, tableNo}
 use Rattle.sheet_small.specs.inner.Inner.{candidate}
 use Rattle.sheet_once.specs.Held.{IsSmall}
 use Rattle.sheet_once.specs.inner.Claims.{Each-once, Nothing-else, Room-enough}
 use Rattle.sheet_small.proofs.{Lists.tested, Order.order}
-use Rattle.sheet_once.proofs.{Reading.accepts, Reading.shape, Reading.in-shapes, Reading.in-tables, Reading.is-sheet, Reading.short}
+use Rattle.sheet_once.proofs.Reading.{accepts, shape, in-shapes, in-tables, is-sheet, short}
 
 -- ---- nothing else stands at a position
 plain-small : (s : Shape) → T (isSheet (sheetOf s [])) → IsSmall (sheetOf s [])

@@ -1,14 +1,13 @@
 -- The number of small sheets, computed. Assumes nothing.
 use Rattle.model.specs.Kit.{_≡_, refl, ap, ap₂, _∙_, List, [], _∷_, map, ℕ, _+_, _/_, _%_, arith, length, length-append, length-map}
-use Rattle.model.specs.Lists.{all, any, keep, flat, upFrom, below, at, same, earlier, ascending, rowsAscend}
-use Rattle.model.specs.{ValueSets.has, ValueSets.members, Problem.assignments, Problem.pair, Problem.isPair, Problem.within, Problem.doubled, Problem.pairsAt, Problem.excluded}
-use Rattle.model.specs.{Problem.forbidden, Problem.respects, Sheet.word, Sheet.words, Sheet.headerOf, Sheet.scopeAt, Sheet.rowsAt, Sheet.afterAt, Sheet.constraintsFrom}
-use Rattle.model.specs.Sheet.{tableAt, problemOf, setsVerdict, constraintsVerdict, distinct, permutesPairs, symmetriesVerdict, verdictOf, constraintVerdict, headerVerdict}
-use Rattle.model.specs.Sheet.{formVerdict}
+use Rattle.model.specs.{Lists.all, Lists.any, Lists.keep, Lists.flat, Lists.upFrom, Lists.below, Lists.at, Lists.same, Lists.earlier, Lists.ascending, Lists.rowsAscend, ValueSets.has}
+use Rattle.model.specs.{ValueSets.members, Problem.assignments, Problem.pair, Problem.isPair, Problem.within, Problem.doubled, Problem.pairsAt, Problem.excluded, Problem.forbidden, Problem.respects}
+use Rattle.model.specs.{Sheet.word, Sheet.words, Sheet.headerOf, Sheet.scopeAt, Sheet.rowsAt, Sheet.afterAt, Sheet.constraintsFrom, Sheet.tableAt, Sheet.problemOf, Sheet.setsVerdict}
+use Rattle.model.specs.{Sheet.constraintsVerdict, Sheet.distinct, Sheet.permutesPairs, Sheet.symmetriesVerdict, Sheet.verdictOf, Sheet.constraintVerdict, Sheet.headerVerdict, Sheet.formVerdict}
 use Rattle.model.proofs.Lists.{keep-ext, below-e}
 use Rattle.sheet_once.specs.inner.Claims.{Figures}
-use Rattle.sheet_small.specs.{Small.shapes, Small.tables, Small.rowsOf, Small.frontOf, Small.sheetOf, Small.isSheet, Small.plainSheets, Small.symmetricSheets}
-use Rattle.sheet_small.specs.{Small.smallSheets, inner.Inner.shapeNo, inner.Inner.tableNo}
+use Rattle.sheet_small.specs.Small.{shapes, tables, rowsOf, frontOf, sheetOf, isSheet, plainSheets, symmetricSheets, smallSheets}
+use Rattle.sheet_small.specs.inner.Inner.{shapeNo, tableNo}
 use Rattle.sheet_small.proofs.{Lists.keep-map, Stating.stated, Stating.tableVerdict, Stating.tableFits, Stating.table-fits}
 
 plain : length plainSheets ≡ 144

@@ -1,15 +1,14 @@
 -- An accepted sheet of that kind is the sheet of its shape and its tables. Assumes nothing.
-use Rattle.model.specs.Kit.{_≡_, refl, sym, ap, ap₂, _∙_, subst, Bool, true, false, List, [], _∷_, _++_, map, List·Memᴰ, Memᴰ·map, ℕ, zero, suc, _+_, _-_, _*_, _/_, _%_, _^_, _≤_}
-use Rattle.model.specs.Kit.{_<_, arith, T, leb, ltb, eqb, leb→le, eqb→eq, ltb→lt, length, getD, length-map, ltb-true, ltb-false}
-use Rattle.model.specs.{Lists.all, Lists.keep, Lists.flat, Lists.upFrom, Lists.below, Lists.at, Lists.both, Lists.ascending, Lists.rowsAscend, Bytes.twoBytes, Problem.Problem}
-use Rattle.model.specs.{Problem.Constraint, Problem.assignments, Problem.isPair, ValueSets.has, ValueSets.members, Verdict.Verdict, Verdict.isAccepted, Sheet.word, Sheet.words}
-use Rattle.model.specs.Sheet.{Header, headerOf, scopeAt, rowsAt, afterAt, constraintsFrom, tableAt, problemOf, distinct, permutesPairs, constraintsVerdict, verdictOf}
-use Rattle.model.specs.{Sheet.constraintVerdict, inner.WellFormed.GoodSymmetry}
-use Rattle.model.proofs.{Lists.all-e, Lists.below-i, Lists.upFrom-i, Lists.length-below, Lists.flat-i, Lists.keep-i, Lists.both-l, Lists.both-r, Assignments.assign-i}
-use Rattle.model.proofs.Accepted.{Passed, asked, length-words, at-words, passed, is-accepted, length-constraints}
+use Rattle.model.specs.Kit.{_≡_, refl, sym, ap, ap₂, _∙_, subst, Bool, true, false, List, [], _∷_, _++_, map, List·Memᴰ, Memᴰ·map, ℕ, zero, suc, _+_, _-_, _*_, _/_, _%_, _^_, _≤_, _<_, arith, T, leb}
+use Rattle.model.specs.Kit.{ltb, eqb, leb→le, eqb→eq, ltb→lt, length, getD, length-map, ltb-true, ltb-false}
+use Rattle.model.specs.Sheet.{word, words, Header, headerOf, scopeAt, rowsAt, afterAt, constraintsFrom, tableAt, problemOf, distinct, permutesPairs, constraintsVerdict, verdictOf, constraintVerdict}
+use Rattle.model.specs.{Lists.all, Lists.keep, Lists.flat, Lists.upFrom, Lists.below, Lists.at, Lists.both, Lists.ascending, Lists.rowsAscend, Bytes.twoBytes, Problem.Problem, Problem.Constraint}
+use Rattle.model.specs.{Problem.assignments, Problem.isPair, ValueSets.has, ValueSets.members, Verdict.Verdict, Verdict.isAccepted, inner.WellFormed.GoodSymmetry}
+use Rattle.model.proofs.Lists.{all-e, below-i, upFrom-i, length-below, flat-i, keep-i, both-l, both-r}
+use Rattle.model.proofs.{Assignments.assign-i, Accepted.Passed, Accepted.asked, Accepted.length-words, Accepted.at-words, Accepted.passed, Accepted.is-accepted, Accepted.length-constraints}
 use Rattle.sheet.proofs.Words.{map-all-e, words-all-e}
 use Rattle.sheet_once.specs.Held.{IsSmall}
-use Rattle.sheet_small.specs.{Small.Shape, Small.shapes, Small.tables, Small.rowsOf, Small.frontOf, Small.sheetOf}
+use Rattle.sheet_small.specs.Small.{Shape, shapes, tables, rowsOf, frontOf, sheetOf}
 use Rattle.sheet_small.proofs.Lists.{tested}
 use Rattle.sheet_once.proofs.{Words.words-append, Words.flat-words, Words.bytes-of, RowSets.rowNo, RowSets.rows-set}
 

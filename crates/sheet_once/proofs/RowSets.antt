@@ -1,9 +1,9 @@
 -- Rows of two values below 2 that ascend are the rows of a set. Assumes nothing.
 use Rattle.model.specs.Kit.{_≡_, sym, ap, _∙_, subst, subst₂, Bool, ⊎-elim, List, [], _∷_, map, List·Memᴰ, Memᴰ·of-map, ℕ, suc, _/_, _%_, _<_, arith, T, eqb}
-use mathlib.Core.List.{map-map}
 use Rattle.model.specs.{Lists.any, Lists.below, Lists.earlier, Lists.ascending, Lists.rowsAscend, ValueSets.maskBelow, ValueSets.members}
-use Rattle.model.proofs.{Lists.among-i, Lists.among-e, Lists.below-e, Lists.earlier-e, Lists.map-ext, Lists.sorted-ext, Lists.ascending-sorted, Sets.has-mask, Sets.mask-lt}
-use Rattle.model.proofs.Sets.{has-lt, members-i, members-e, members-sorted}
+use mathlib.Core.List.{map-map}
+use Rattle.model.proofs.Lists.{among-i, among-e, below-e, earlier-e, map-ext, sorted-ext, ascending-sorted}
+use Rattle.model.proofs.Sets.{has-mask, mask-lt, has-lt, members-i, members-e, members-sorted}
 use Rattle.sheet.proofs.Ascend.{ascending-i, rows-e}
 use Rattle.sheet_small.specs.Small.{rowsOf}
 

@@ -1,7 +1,7 @@
 -- Numbers that stand one after another, and the bytes that they are. Assumes nothing.
 use Rattle.model.specs.Kit.{_≡_, refl, sym, ap, ap₂, _∙_, List, [], _∷_, _++_, map, ℕ, zero, suc, _+_, _*_, _/_, _%_, _<_, arith, length, getD}
-use native.Mathlib.Nat.{zero-mul}
 use Rattle.model.specs.{Lists.flat, Lists.upFrom, Lists.below, Lists.at, Bytes.twoBytes, Sheet.word, Sheet.words}
+use native.Mathlib.Nat.{zero-mul}
 use Rattle.model.proofs.Lists.{upFrom-add, map-append, map-ext, map-shift}
 use Rattle.sheet_small.proofs.Lists.{from-below}
 

@@ -1,8 +1,7 @@
 -- Paper 02, #114, of what a caller of `small_sheet` holds. proofs/Calls has the theorem.
 use Rattle.model.specs.Kit.{_≡_, List, [], _∷_, map, ℕ, _≤_, _<_, length, take, drop}
 use Rattle.model.specs.{Problem.Constraint, Verdict.accepted, Sheet.problemOf, Sheet.verdictOf}
-use Rattle.sheet_small.specs.{Calls.CallSmall, declared.Answer.Answer}
-use Rattle.sheet_small.specs.declared.Answer.the-variants.{Written, Refused}
+use Rattle.sheet_small.specs.{Calls.CallSmall, declared.Answer.Answer, declared.Answer.the-variants.Written, declared.Answer.the-variants.Refused}
 
 -- an accepted sheet of two variables and two values with one constraint, on both, and at most one symmetry
 pub record IsSmall (b : List ℕ) : Type 0 where

@@ -1,11 +1,10 @@
 -- The bytes that the code makes are those of the candidate, computed for each shape with any table. Assumes nothing.
-use Rattle.model.specs.Kit.{_≡_, refl, sym, ap, ap₂, _∙_, Bool, true, false, List, [], _∷_, _++_, map, ℕ, _+_, _-_, _*_, _/_, _%_, _≤_, _<_, arith, lt-ltb, le-ltb, length, take}
-use Rattle.model.specs.Kit.{replicate, length-set}
+use Rattle.model.specs.Kit.{_≡_, refl, sym, ap, ap₂, _∙_, Bool, true, false, List, [], _∷_, _++_, map, ℕ, _+_, _-_, _*_, _/_, _%_, _≤_, _<_, arith, lt-ltb, le-ltb, length, take, replicate, length-set}
 use Rattle.model.specs.{Lists.all, Lists.keep, Lists.flat, Lists.upFrom, Lists.below, Lists.same, Bytes.twoBytes, ValueSets.has, ValueSets.members}
 use Rattle.model.proofs.Lists.{same-eq, map-append, flat-append}
-use Rattle.sheet_small.specs.{Small.rowsOf, Small.frontOf, Small.sheetOf, inner.Inner.shapeNo, inner.Inner.secondNo, inner.Inner.thirdNo, inner.Inner.fourthNo}
+use Rattle.sheet_small.specs.inner.Inner.{shapeNo, secondNo, thirdNo, fourthNo}
+use Rattle.sheet_small.specs.{Small.rowsOf, Small.frontOf, Small.sheetOf, declared.Draft.Draft, declared.Images.Images}
 use Rattle.sheet_small.specs.inner.Inner.{tableNo, IsTable, candidate, endAt, withRows, withHead, withTable, draftBytes, Drafts}
-use Rattle.sheet_small.specs.{declared.Draft.Draft, declared.Images.Images}
 use Rattle.sheet_small.proofs.Lists.{tested, same-below}
 
 -- one function after another

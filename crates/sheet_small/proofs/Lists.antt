@@ -1,7 +1,7 @@
 -- Laws of numbers in turn: a test of all of them, and lists that are mapped. Assumes nothing.
 use Rattle.model.specs.Kit.{_≡_, refl, sym, ap, ap₂, _∙_, Bool, true, false, List, [], _∷_, map, ℕ, zero, suc, _+_, _<_, arith, T, drop, getD}
-use native.Mathlib.Nat.{add-zero, zero-add}
 use Rattle.model.specs.Lists.{all, keep, upFrom, below}
+use native.Mathlib.Nat.{add-zero, zero-add}
 use Rattle.model.proofs.Lists.{T-of, all-e, below-i}
 
 -- a test that holds of all numbers below n

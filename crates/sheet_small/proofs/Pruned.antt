@@ -1,11 +1,11 @@
 -- A table that moves a number that is no pair is refused, by computation over all shapes and tables. Assumes nothing.
 use Rattle.model.specs.Kit.{_≡_, refl, sym, ap, ap₂, _∙_, subst, Bool, true, false, not, ⊎-elim, ℕ, _+_, _-_, _/_, _%_, _≤_, _<_, arith, T-not, eqb, eqb→eq}
-use Rattle.model.specs.{Lists.either, Lists.all, Lists.any, Lists.keep, Lists.flat, Lists.upFrom, Lists.below, Lists.at, Lists.same, ValueSets.has, ValueSets.members}
+use Rattle.model.specs.Lists.{either, all, any, keep, flat, upFrom, below, at, same}
 use Rattle.model.specs.Problem.{assignments, pair, isPair, within, doubled, pairsAt, excluded, forbidden, respects}
-use Rattle.model.specs.Sheet.{distinct, permutesPairs, symmetriesVerdict}
+use Rattle.model.specs.{ValueSets.has, ValueSets.members, Sheet.distinct, Sheet.permutesPairs, Sheet.symmetriesVerdict}
 use Rattle.model.proofs.Lists.{of-T, not-of, either-e}
-use Rattle.sheet_small.specs.{Small.rowsOf, Small.isSheet, inner.Inner.skip, inner.Inner.shapeNo, inner.Inner.secondNo, inner.Inner.thirdNo, inner.Inner.fourthNo}
-use Rattle.sheet_small.specs.{inner.Inner.IsTable, inner.Inner.movedBy, inner.Inner.candidate, declared.Images.Images}
+use Rattle.sheet_small.specs.inner.Inner.{skip, shapeNo, secondNo, thirdNo, fourthNo, IsTable, movedBy, candidate}
+use Rattle.sheet_small.specs.{Small.rowsOf, Small.isSheet, declared.Images.Images}
 use Rattle.sheet_small.proofs.{Lists.tested, Drafts.candidate-table, Stating.stated, Stating.tableVerdict, Stating.tableFits, Stating.table-fits}
 
 -- shape and table of a candidate

@@ -1,8 +1,8 @@
 -- The verdict on a candidate with a table goes by what it states: its bytes are read once for each shape. Assumes nothing.
 use Rattle.model.specs.Kit.{_≡_, refl, ap, ap₂, _∙_, Bool, List, [], _∷_, map, ℕ, _+_, _*_, _/_, _%_, _<_, arith}
-use Rattle.model.specs.{Lists.all, Lists.keep, Lists.flat, Lists.upFrom, Lists.below, Lists.at, Lists.earlier, Lists.ascending, Lists.rowsAscend, ValueSets.has, ValueSets.members}
-use Rattle.model.specs.{Problem.Problem, Verdict.Verdict, Verdict.isAccepted, Sheet.word, Sheet.words, Sheet.headerOf, Sheet.scopeAt, Sheet.rowsAt, Sheet.afterAt}
-use Rattle.model.specs.Sheet.{constraintsFrom, tableAt, problemOf, setsVerdict, constraintsVerdict, symmetriesVerdict, verdictOf, constraintVerdict, headerVerdict, formVerdict}
+use Rattle.model.specs.{Lists.all, Lists.keep, Lists.flat, Lists.upFrom, Lists.below, Lists.at, Lists.earlier, Lists.ascending, Lists.rowsAscend, ValueSets.has, ValueSets.members, Problem.Problem}
+use Rattle.model.specs.{Verdict.Verdict, Verdict.isAccepted, Sheet.word, Sheet.words, Sheet.headerOf, Sheet.scopeAt, Sheet.rowsAt, Sheet.afterAt, Sheet.constraintsFrom, Sheet.tableAt, Sheet.problemOf}
+use Rattle.model.specs.{Sheet.setsVerdict, Sheet.constraintsVerdict, Sheet.symmetriesVerdict, Sheet.verdictOf, Sheet.constraintVerdict, Sheet.headerVerdict, Sheet.formVerdict}
 use Rattle.sheet_small.specs.{Small.Shape, Small.rowsOf, Small.frontOf, Small.sheetOf, Small.isSheet, inner.Inner.shapeNo, inner.Inner.tableNo}
 use Rattle.sheet_small.proofs.Lists.{same-below}
 

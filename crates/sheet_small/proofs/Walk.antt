@@ -1,7 +1,7 @@
 -- How far the walk came: what is left of the list once `seen` sheets are passed, before candidate n. Assumes nothing.
 use Rattle.model.specs.Kit.{_≡_, sym, ap, _∙_, subst, true, false, List, [], _∷_, map, ℕ, suc, _+_, _-_, _≤_, _<_, add-one, arith, length, drop, getD, length-drop, getD-drop}
-use lib.Seq.{drop-drop}
 use Rattle.model.specs.Lists.{keep, upFrom, below}
+use lib.Seq.{drop-drop}
 use Rattle.model.proofs.Lists.{keep-yes, keep-no}
 use Rattle.sheet_small.specs.{Small.isSheet, Small.smallSheets, Answers.sheetAt, inner.Inner.candidate, inner.Inner.Drafts, inner.Inner.At, declared.Draft.Draft}
 use Rattle.sheet_small.proofs.Order.{order}

@@ -1,7 +1,6 @@
 -- Every sheet of two variables and two values with one constraint on both and at most one symmetry (paper 02, #114), in the paper's order.
 use Rattle.model.specs.Kit.{Bool, List, [], _∷_, _++_, map, ℕ, _+_, _*_, _/_, _%_, length}
-use Rattle.model.specs.{Lists.keep, Lists.flat, Lists.upFrom, Lists.below, ValueSets.members, Problem.assignments, Verdict.isAccepted, Sheet.verdictOf, Sheet.distinct}
-use Rattle.model.specs.Bytes.{twoBytes}
+use Rattle.model.specs.{Lists.keep, Lists.flat, Lists.upFrom, Lists.below, ValueSets.members, Problem.assignments, Verdict.isAccepted, Sheet.verdictOf, Sheet.distinct, Bytes.twoBytes}
 
 -- what such a sheet states but for its symmetry: the two initial sets, and the set of its rows, bits 0 to 3 for 00, 01, 10, 11
 pub record Shape : Type 0 where

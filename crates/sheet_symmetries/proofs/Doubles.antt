@@ -1,9 +1,9 @@
 -- The walk of a variable's forbidden sets: one pair further. Assumes nothing.
-use Rattle.model.specs.Kit.{_≡_, refl, sym, ap, ap₂, _∙_, subst, Bool, true, false, List, [], _∷_, List·Memᴰ, List·Memᴰ·head, List·Memᴰ·tail, inl, inr, ℕ, _+_, _*_, _/_, _^_, _<_}
-use Rattle.model.specs.Kit.{arith, T, eqb, eqb→eq, not-T, eq-eqb}
+use Rattle.model.specs.Kit.{_≡_, refl, sym, ap, ap₂, _∙_, subst, Bool, true, false, List, [], _∷_, List·Memᴰ, List·Memᴰ·head, List·Memᴰ·tail, inl, inr, ℕ, _+_, _*_, _/_, _^_, _<_, arith, T, eqb}
+use Rattle.model.specs.Kit.{eqb→eq, not-T, eq-eqb}
 use Rattle.model.specs.{Lists.at, Lists.both, ValueSets.has, ValueSets.members, ValueSets.lowestOf, ValueSets.withoutMask, Problem.Problem}
-use Rattle.model.proofs.{Lists.Sorted, Lists.T-of, Lists.of-T, Lists.both-i, Lists.all-i, Sets.mask-lt, Sets.members-of-none, Sets.members-e, Sets.members-sorted, Lowest.lowest-in}
-use Rattle.model.proofs.Lowest.{without-e, without-less, members-lowest}
+use Rattle.model.proofs.Lists.{Sorted, T-of, of-T, both-i, all-i}
+use Rattle.model.proofs.{Sets.mask-lt, Sets.members-of-none, Sets.members-e, Sets.members-sorted, Lowest.lowest-in, Lowest.without-e, Lowest.without-less, Lowest.members-lowest}
 use Rattle.sheet_table.specs.inner.Forbidden.{blocked, clashes, numberOf, PairCode, Lent, Beside, Doubling, allBlocked, besides, doublings}
 use Rattle.sheet_carried.proofs.{Blocks.clash-blocked, Walks.none-before}
 use Rattle.sheet_table.proofs.{Codes.init-16, Codes.init-small, Laws.all-ext}

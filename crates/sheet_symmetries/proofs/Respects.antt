@@ -1,12 +1,11 @@
 -- The forbidden sets that the code walks are all of them, so what it finds is whether a table respects the sheet. Assumes nothing.
-use Rattle.model.specs.Kit.{_≡_, refl, sym, ap, ap₂, _∙_, Bool, true, not, List, [], _∷_, _++_, map, append-nil, List·Memᴰ, List·Memᴰ·head, List·Memᴰ·tail, ℕ, _+_, _*_, _<_, arith}
-use Rattle.model.specs.Kit.{T, ltb, lt-ltb, le-ltb}
+use Rattle.model.specs.Kit.{_≡_, refl, sym, ap, ap₂, _∙_, Bool, true, not, List, [], _∷_, _++_, map, append-nil, List·Memᴰ, List·Memᴰ·head, List·Memᴰ·tail, ℕ, _+_, _*_, _<_, arith, T, ltb, lt-ltb}
+use Rattle.model.specs.Kit.{le-ltb}
+use Rattle.model.specs.{Lists.all, Lists.any, Lists.keep, Lists.flat, Lists.below, Lists.at, Lists.same, Lists.both, Lists.either, ValueSets.members, Problem.Problem, Problem.Constraint, Problem.pair}
+use Rattle.model.specs.{Problem.pairsAt, Problem.assignments, Problem.doubled, Problem.excluded, Problem.forbidden, Problem.respects, inner.WellFormed.Stated, Sheet.permutesPairs}
 use lib.Seq.{append-snoc}
-use Rattle.model.specs.{Lists.all, Lists.any, Lists.keep, Lists.flat, Lists.below, Lists.at, Lists.same, Lists.both, Lists.either, ValueSets.members, Problem.Problem, inner.WellFormed.Stated}
-use Rattle.model.specs.Problem.{Constraint, pair, pairsAt, assignments, doubled, excluded, forbidden, respects}
-use Rattle.model.specs.Sheet.{permutesPairs}
 use Rattle.model.proofs.{Lists.all-cons, Lists.keep-yes, Lists.keep-no, Lists.keep-e, Lists.Sorted, Lists.below-e, Lists.both-true, Sets.members-e, Sets.members-sorted}
-use Rattle.sheet_table.specs.{inner.Forbidden.blocked, inner.Forbidden.numberOf, inner.Forbidden.Decoded, inner.Forbidden.Begun}
+use Rattle.sheet_table.specs.inner.Forbidden.{blocked, numberOf, Decoded, Begun}
 use Rattle.sheet_table.specs.inner.Forbidden.{codesAt, keeps, besides, doublings}
 use Rattle.sheet_table.proofs.{Codes.decoded-number, Laws.all-ext, Laws.all-append, Laws.all-flat, Laws.all-keep, Laws.all-map}
 use Rattle.sheet_carried.proofs.Blocks.{choices-e}

@@ -1,15 +1,13 @@
 -- Pairs, their numbers and their codes, in a problem that questions 1 to 14 passed. Assumes nothing.
-use Rattle.model.specs.Kit.{_≡_, refl, sym, ap, ap₂, _∙_, subst, Bool, true, false, List, inl, inr, ℕ, _+_, _*_, _/_, _%_, _^_, _≤_, _<_}
-use Rattle.model.specs.Kit.{mul-le-mul-right, lt-of-lt-of-le, arith, T, eqb, length}
+use Rattle.model.specs.Kit.{_≡_, refl, sym, ap, ap₂, _∙_, subst, Bool, true, false, List, inl, inr, ℕ, _+_, _*_, _/_, _%_, _^_, _≤_, _<_, mul-le-mul-right, lt-of-lt-of-le, arith, T, eqb, length}
+use Rattle.model.specs.{Lists.at, Lists.all, Lists.below, ValueSets.has, Problem.Problem, Problem.pair, Problem.isPair, Problem.constraintAt, Sheet.permutesPairs, Sheet.distinct}
 use native.Mathlib.Nat.{div-add-mod', div-lt-iff-lt-mul, mod-lt}
 use lib.Pow.{pow-mono}
-use Rattle.model.specs.{Lists.at, Lists.all, Lists.below, ValueSets.has, Problem.Problem, Problem.pair, Problem.isPair, Problem.constraintAt, Sheet.permutesPairs, Sheet.distinct}
 use Rattle.model.specs.inner.WellFormed.{Stated, GoodConstraint}
-use Rattle.model.proofs.{Lists.both-l, Lists.all-e, Lists.below-i}
-use Rattle.model.proofs.Pairs.{init-lt, pair-of, pair-lt, pair-first, pair-second, isPair-i, isPair-lt, isPair-has}
+use Rattle.model.proofs.{Lists.both-l, Lists.all-e, Lists.below-i, Pairs.init-lt, Pairs.pair-of, Pairs.pair-lt, Pairs.pair-first, Pairs.pair-second, Pairs.isPair-i, Pairs.isPair-lt, Pairs.isPair-has}
 use Rattle.arrays.specs.inner.Layout.{pairCode}
 use Rattle.arrays.proofs.Links.{is-one}
-use Rattle.sheet_table.specs.{inner.Forbidden.numberOf, inner.Forbidden.PairCode, inner.Forbidden.MaybePair, inner.Forbidden.Decoded}
+use Rattle.sheet_table.specs.inner.Forbidden.{numberOf, PairCode, MaybePair, Decoded}
 use Rattle.sheet_table.specs.inner.Forbidden.{Coded}
 
 -- ---- the code of a pair number

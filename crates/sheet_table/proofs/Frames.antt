@@ -1,7 +1,7 @@
 -- What the numbers hold: scopes and pairs. Assumes nothing.
 use Rattle.model.specs.Kit.{_≡_, sym, ap, ap₂, _∙_, subst, Bool, false, List, ℕ, _+_, _*_, _/_, _%_, _^_, _≤_, _<_, mul-le-mul, arith, length, lt-ltb, le-ltb}
-use native.Mathlib.Nat.{mod-lt}
 use Rattle.model.specs.{Lists.at, Lists.both, ValueSets.has, Problem.Problem, Problem.isPair, Problem.constraintAt}
+use native.Mathlib.Nat.{mod-lt}
 use Rattle.sheet_table.specs.inner.Table.{Framed}
 use Rattle.sheet_table.proofs.Codes.{good, div-small, init-small}
 

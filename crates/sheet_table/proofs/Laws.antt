@@ -1,11 +1,11 @@
 -- Laws about the model's definitions: tests over lists, loops over them that stop early, distinct numbers. Assumes nothing.
-use Rattle.model.specs.Kit.{_≡_, refl, sym, ap, ap₂, _∙_, subst, Bool, true, false, not, List, [], _∷_, _++_, map, List·Memᴰ, List·Memᴰ·head, List·Memᴰ·tail, _⊎_, inl, inr, ⊎-elim}
-use Rattle.model.specs.Kit.{ℕ, suc, _+_, _-_, _^_, _≤_, _<_, add-one, arith, T, eqb, eqb-true, eqb-false, length, getD, drop}
+use Rattle.model.specs.Kit.{_≡_, refl, sym, ap, ap₂, _∙_, subst, Bool, true, false, not, List, [], _∷_, _++_, map, List·Memᴰ, List·Memᴰ·head, List·Memᴰ·tail, _⊎_, inl, inr, ⊎-elim, ℕ, suc, _+_, _-_}
+use Rattle.model.specs.Kit.{_^_, _≤_, _<_, add-one, arith, T, eqb, eqb-true, eqb-false, length, getD, drop}
+use Rattle.model.specs.Lists.{both, either, all, keep, flat, upFrom, below, at}
+use Rattle.model.specs.{ValueSets.has, ValueSets.withoutMask, ValueSets.members, ValueSets.lowestOf, Sheet.distinct}
 use lib.Seq.{drop-cons, drop-length}
-use Rattle.model.specs.{Lists.both, Lists.either, Lists.all, Lists.keep, Lists.flat, Lists.upFrom, Lists.below, Lists.at, ValueSets.has, ValueSets.withoutMask, ValueSets.members}
-use Rattle.model.specs.{ValueSets.lowestOf, Sheet.distinct}
-use Rattle.model.proofs.{Lists.all-cons, Lists.at-mem, Counting.distinct-i, Sets.members-of-none, Sets.has-lt, Sets.mask-lt, Members.has-0, Lowest.members-lowest, Lowest.lowest-in}
-use Rattle.model.proofs.Lowest.{without-i, without-e, without-less}
+use Rattle.model.proofs.Lowest.{members-lowest, lowest-in, without-i, without-e, without-less}
+use Rattle.model.proofs.{Lists.all-cons, Lists.at-mem, Counting.distinct-i, Sets.members-of-none, Sets.has-lt, Sets.mask-lt, Members.has-0}
 
 -- ---- tests
 both-assoc : (a b c : Bool) → both a (both b c) ≡ both (both a b) c

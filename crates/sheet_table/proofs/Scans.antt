@@ -1,6 +1,6 @@
 -- The loops over a table, one number further: whether it permutes the pairs, and the codes of its images. Assumes nothing.
-use Rattle.model.specs.Kit.{_≡_, refl, sym, ap, ap₂, _∙_, subst, Bool, true, false, List, ℕ, _+_, _*_, _%_, _≤_, _<_, not-suc-le-zero, mul-le-mul, mul-le-mul-right, lt-of-lt-of-le}
-use Rattle.model.specs.Kit.{arith, T, eqb, eqb→eq, length, set, eqb-true, eqb-false, eq-eqb, ne-eqb}
+use Rattle.model.specs.Kit.{_≡_, refl, sym, ap, ap₂, _∙_, subst, Bool, true, false, List, ℕ, _+_, _*_, _%_, _≤_, _<_, not-suc-le-zero, mul-le-mul, mul-le-mul-right, lt-of-lt-of-le, arith, T, eqb}
+use Rattle.model.specs.Kit.{eqb→eq, length, set, eqb-true, eqb-false, eq-eqb, ne-eqb}
 use Rattle.model.specs.{Lists.all, Lists.below, Lists.at, ValueSets.has, Problem.Problem, Problem.isPair, Problem.pair, Sheet.word, Sheet.permutesPairs, Sheet.distinct, inner.WellFormed.Stated}
 use Rattle.model.proofs.Lists.{T-of, of-T, not-of, of-not, both-i, both-l, both-r, all-i, all-e, below-i, below-e, at-set, at-set-other}
 use Rattle.model.proofs.{Counting.distinct-at, Accepted.length-words, Accepted.at-words, Pairs.init-lt, Pairs.isPair-i, Pairs.pair-div, Pairs.pair-mod, Pairs.pair-lt}

@@ -1,9 +1,8 @@
 -- Where a table takes the variables, and which values its images come from: one step further. Assumes nothing.
-use Rattle.model.specs.Kit.{_≡_, refl, sym, _∙_, subst, Bool, true, false, List, ℕ, _+_, _*_, _<_, not-suc-le-zero, arith, eqb, length, set, replicate, length-set, eqb-true}
-use Rattle.model.specs.Kit.{eqb-false}
+use Rattle.model.specs.Kit.{_≡_, refl, sym, _∙_, subst, Bool, true, false, List, ℕ, _+_, _*_, _<_, not-suc-le-zero, arith, eqb, length, set, replicate, length-set, eqb-true, eqb-false}
 use Rattle.model.specs.{Lists.at, Problem.Problem, inner.WellFormed.Stated}
 use Rattle.model.proofs.Lists.{at-replicate, at-set, at-set-other, set-each}
-use Rattle.sheet_table.specs.{inner.Forbidden.Coded, inner.Forbidden.Back, inner.Forbidden.Blank, inner.Forbidden.Target, inner.Forbidden.Moved}
+use Rattle.sheet_table.specs.inner.Forbidden.{Coded, Back, Blank, Target, Moved}
 
 small-more : (l : List ℕ) (i v : ℕ) → i < length l → v < 16 → ((j : ℕ) → at l j < 16) → (j : ℕ) → at (set l i v) j < 16
 small-more l i v h k s j = set-each (λ (_ u : ℕ). u < 16) l i v j h k (λ _. s j)

@@ -1,8 +1,7 @@
 -- What the code's answers come to, case by case. Assumes nothing.
-use Rattle.model.specs.Kit.{_≡_, sym, ap, ap₂, _∙_, Bool, List, _++_, ℕ, _+_, _-_, _≤_, _<_, min, arith, leb, ltb, length, take, drop, length-drop, length-take-le, lt-ltb, le-ltb}
-use Rattle.model.specs.Kit.{le-leb, lt-leb}
-use native.Mathlib.Nat.{zero-add}
+use Rattle.model.specs.Kit.{_≡_, sym, ap, ap₂, _∙_, Bool, List, _++_, ℕ, _+_, _-_, _≤_, _<_, min, arith, leb, ltb, length, take, drop, length-drop, length-take-le, lt-ltb, le-ltb, le-leb, lt-leb}
 use Rattle.model.specs.{Lists.at, Verdict.Verdict, Verdict.accepted, Verdict.refused, Verdict.ask, Sheet.«word», Written.placed, Room.Outcome, Room.wrote, Room.refusal}
+use native.Mathlib.Nat.{zero-add}
 use Rattle.store.specs.Store.{StoreEntry, table, isTable, tableIn, Action, put, fetch, remove, call, actionVerdict, callVerdict, storeAfter, copiedOut, roomIn, replyOf, size}
 use Rattle.store.specs.inner.Layout.{slotAt, tableAt, slotWith, storeOf, slotFor, changed, verdictOn, replyOn, bytesAfter}
 use Rattle.store.proofs.{Slots.entry-there, Free.held-with, Free.room-left, Calls.after-accepted, Calls.after-refused, Calls.verdict-whole, Calls.means-after}

@@ -1,18 +1,17 @@
 -- A call on bytes is the call on the store that they mean (specs/Calls, specs/inner/Claims). Assumes nothing.
-use Rattle.model.specs.Kit.{_≡_, refl, sym, ap, ap₂, _∙_, subst, Bool, true, false, List, [], _∷_, List·Memᴰ, List·Memᴰ·head, List·Memᴰ·tail, ℕ, zero, suc, _+_, _-_, _≤_, _<_}
-use Rattle.model.specs.Kit.{arith, leb, ltb, eqb, leb→le, length, set, replicate, length-replicate, ltb-true, ltb-false, eqb-true, eqb-false, eq-eqb, ne-eqb}
+use Rattle.model.specs.Kit.{_≡_, refl, sym, ap, ap₂, _∙_, subst, Bool, true, false, List, [], _∷_, List·Memᴰ·head, List·Memᴰ·tail, ℕ, zero, suc, _+_, _-_, _≤_, _<_, arith, leb, ltb, eqb, leb→le}
+use Rattle.model.specs.Kit.{length, set, replicate, length-replicate, ltb-true, ltb-false, eqb-true, eqb-false, eq-eqb, ne-eqb}
+use Rattle.model.specs.{Lists.both, Lists.either, Lists.choose, Lists.at, Verdict.Verdict, Verdict.accepted, Verdict.refused, Verdict.ask, Verdict.isAccepted, Written.placed}
 use mathlib.Core.Path.{fun-ext}
 use lib.Seq.{set-out}
-use Rattle.model.specs.{Lists.both, Lists.either, Lists.choose, Lists.at, Verdict.Verdict, Verdict.accepted, Verdict.refused, Verdict.ask, Verdict.isAccepted, Written.placed}
 use Rattle.model.proofs.{Lists.of-T, Lists.at-replicate, Lists.set-each, Written.length-placed, Written.placed-before, Written.placed-in, Written.placed-after}
 use Rattle.store.specs.Store.{isTable, Store, keysOf, Action, put, fetch, remove, StoreCall, call, actionVerdict, callVerdict, entryAfter, storeAfter, StoreReply, replyOf, ownerOf, size}
 use Rattle.store.specs.Store.{replyTo}
+use Rattle.store.specs.inner.Claims.{storeEnd, repliesTo, bytesEnd, repliesOn, All-calls, Isolated-bytes}
+use Rattle.store.specs.Calls.{Each-call, StoreBytes, ByteCall, ByteCalls, Zeros-empty, Other-size}
 use Rattle.store.specs.inner.Layout.{slotAt, holds, slotWith, storeOf, slotFor, slotBytes, freed, changed, verdictOn, replyOn, bytesAfter}
-use Rattle.store.specs.{inner.Claims.storeEnd, inner.Claims.repliesTo, inner.Claims.bytesEnd, inner.Claims.repliesOn, inner.Claims.All-calls, inner.Claims.Isolated-bytes, Calls.Each-call}
-use Rattle.store.specs.Calls.{StoreBytes, ByteCall, ByteCalls, Zeros-empty, Other-size}
-use Rattle.store.proofs.{Store.here-after, Store.there-after, Store.refused-same, Store.ask-e, Store.isolated, Slots.holds-free, Slots.with-is, Slots.entry-none}
-use Rattle.store.proofs.Slots.{put-here, put-there, put-elsewhere, remove-here, remove-there, remove-elsewhere, freed-length}
-use Rattle.store.proofs.Free.{room-left}
+use Rattle.store.proofs.Slots.{holds-free, with-is, entry-none, put-here, put-there, put-elsewhere, remove-here, remove-there, remove-elsewhere, freed-length}
+use Rattle.store.proofs.{Store.here-after, Store.there-after, Store.refused-same, Store.ask-e, Store.isolated, Free.room-left}
 
 -- ---- what the bytes mean after a call
 -- other bytes that mean the same but under one owner and key

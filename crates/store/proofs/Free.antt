@@ -1,12 +1,12 @@
 -- A slot is free, or has the key, exactly where question 32 is passed. Assumes nothing.
-use Rattle.model.specs.Kit.{_≡_, refl, sym, ap, _∙_, subst, Bool, true, false, not, List, map, List·Memᴰ, Memᴰ·map, Memᴰ·of-map, ℕ, zero, suc, _+_, _≤_, _<_, arith, T, ltb, eqb}
-use Rattle.model.specs.Kit.{length, length-map, ltb-true, ltb-false, lt-ltb, le-ltb, ne-eqb, eqb-false}
+use Rattle.model.specs.Kit.{_≡_, refl, sym, ap, _∙_, subst, Bool, true, false, not, List, map, List·Memᴰ, Memᴰ·map, Memᴰ·of-map, ℕ, zero, suc, _+_, _≤_, _<_, arith, T, ltb, eqb, length, length-map}
+use Rattle.model.specs.Kit.{ltb-true, ltb-false, lt-ltb, le-ltb, ne-eqb, eqb-false}
 use Rattle.model.specs.{ValueSets.least, Lists.either, Lists.keep, Lists.below, Lists.upFrom, Lists.at}
-use Rattle.model.proofs.{Lists.T-of, Lists.of-T, Lists.keep-i, Lists.keep-e, Lists.below-i, Lists.below-e, Lists.length-below, Counting.distinct-below, Counting.no-more}
-use Rattle.model.proofs.Least.{first-no, first-yes}
+use Rattle.model.proofs.Lists.{T-of, of-T, keep-i, keep-e, below-i, below-e, length-below}
+use Rattle.model.proofs.{Counting.distinct-below, Counting.no-more, Least.first-no, Least.first-yes}
 use Rattle.store.specs.{Store.isTable, Store.keysOf, inner.Layout.slotAt, inner.Layout.slotWith, inner.Layout.storeOf, inner.Layout.isFree, inner.Layout.slotFor}
-use Rattle.store.proofs.{Store.keys-distinct, Slots.holds-e, Slots.holds-i, Slots.with-holds, Slots.with-before, Slots.entry-there, Slots.entry-none, Slots.for-held}
-use Rattle.store.proofs.Slots.{for-free, free-no}
+use Rattle.store.proofs.Store.{keys-distinct}
+use Rattle.store.proofs.Slots.{holds-e, holds-i, with-holds, with-before, entry-there, entry-none, for-held, for-free, free-no}
 
 module _ (b : List ℕ) (o : ℕ) (own : o < 4) where
   -- a key has a table exactly where it has a slot

@@ -2,10 +2,10 @@
 use Rattle.model.specs.Kit.{_≡_, refl, sym, ap, ap₂, _∙_, Bool, true, false, List, [], _∷_, map, ℕ, eqb}
 use Rattle.model.specs.{Lists.choose, Verdict.Verdict, Verdict.accepted, Verdict.refused, Verdict.isAccepted}
 use Rattle.model.proofs.Lists.{never}
-use Rattle.store.specs.{Store.StoreEntry, Store.StoreCall, Store.call, Store.put, Store.fetch, Store.remove, Store.StoreReply, Store.replyOf, inner.Layout.storeOf, inner.Layout.verdictOn}
-use Rattle.store.specs.{inner.Layout.replyOn, inner.Layout.changed, inner.Layout.bytesAfter, Meaning.means, declared.Answer.Answer, declared.Answer.the-variants.Done}
-use Rattle.store.specs.{declared.Answer.the-variants.Refused, inner.Claims.repliesOn, Calls.Got, Calls.own, Calls.Called, Calls.none, Calls.puts, Calls.fetches, Calls.removes}
-use Rattle.store.specs.Calls.{Isolated-calls}
+use Rattle.store.specs.Store.{StoreEntry, StoreCall, call, put, fetch, remove, StoreReply, replyOf}
+use Rattle.store.specs.inner.Layout.{storeOf, verdictOn, replyOn, changed, bytesAfter}
+use Rattle.store.specs.Calls.{Got, own, Called, none, puts, fetches, removes, Isolated-calls}
+use Rattle.store.specs.{Meaning.means, declared.Answer.Answer, declared.Answer.the-variants.Done, declared.Answer.the-variants.Refused, inner.Claims.repliesOn}
 use Rattle.store.proofs.Calls.{isolated-bytes}
 
 -- what was handed back, in the words of the definitions

@@ -1,12 +1,12 @@
 -- Fetched tables in a sheet (specs/inner/Claims): they stand at its third offset, and questions 14 to 16 are put to them. Assumes nothing.
-use Rattle.model.specs.Kit.{_≡_, refl, sym, ap, ap₂, _∙_, subst, Bool, true, false, not, _⊎_, inl, inr, List, [], _∷_, _++_, ℕ, zero, suc, _+_, _-_, _*_, _^_, _≤_, _<_, arith, leb}
-use Rattle.model.specs.Kit.{ltb, eqb, length, drop, le-leb}
-use Rattle.model.specs.{Lists.all, Lists.both, Lists.below, Lists.at, Lists.ascending, Lists.rowsAscend, Verdict.Verdict, Verdict.accepted, Verdict.ask, Sheet.Header, Sheet.«word»}
-use Rattle.model.specs.Sheet.{words, headerOf, scopeAt, rowsAt, afterAt, tableAt, problemOf, headerVerdict, setsVerdict, constraintVerdict, constraintsVerdict, formVerdict}
+use Rattle.model.specs.Kit.{_≡_, refl, sym, ap, ap₂, _∙_, subst, Bool, true, false, not, _⊎_, inl, inr, List, [], _∷_, _++_, ℕ, zero, suc, _+_, _-_, _*_, _^_, _≤_, _<_, arith, leb, ltb, eqb, length}
+use Rattle.model.specs.Kit.{drop, le-leb}
+use Rattle.model.specs.Sheet.{Header, «word», words, headerOf, scopeAt, rowsAt, afterAt, tableAt, problemOf, headerVerdict, setsVerdict, constraintVerdict, constraintsVerdict, formVerdict}
 use Rattle.model.specs.Sheet.{symmetriesVerdict, verdictOf}
+use Rattle.model.specs.{Lists.all, Lists.both, Lists.below, Lists.at, Lists.ascending, Lists.rowsAscend, Verdict.Verdict, Verdict.accepted, Verdict.ask}
 use Rattle.model.proofs.Lists.{at-append, at-skip, map-ext}
-use Rattle.store.specs.{Store.StoreEntry, Store.table, Store.isTable, Store.tableIn, Store.call, Store.fetch, Store.actionVerdict, Store.replyOf, Store.size, inner.Layout.storeOf}
-use Rattle.store.specs.{inner.Layout.verdictOn, inner.Layout.replyOn, inner.Claims.Early, inner.Claims.tablesIn, inner.Claims.Asked-as-any}
+use Rattle.store.specs.Store.{StoreEntry, table, isTable, tableIn, call, fetch, actionVerdict, replyOf, size}
+use Rattle.store.specs.{inner.Layout.storeOf, inner.Layout.verdictOn, inner.Layout.replyOn, inner.Claims.Early, inner.Claims.tablesIn, inner.Claims.Asked-as-any}
 use Rattle.store.proofs.Answers.{asks-more}
 
 -- ---- an answer to an earlier question, or what is asked last

@@ -1,12 +1,12 @@
 -- What the store's bytes mean (specs/inner/Layout), and what they mean after a table was put into a slot and after slots were freed. Assumes nothing.
-use Rattle.model.specs.Kit.{_≡_, refl, sym, ap, ap₂, _∙_, subst, Bool, true, false, not, _⊎_, ⊎-elim, List, _∷_, _++_, append-assoc, ℕ, zero, suc, _+_, _*_, _/_, _%_, _≤_, _<_}
-use Rattle.model.specs.Kit.{min, add-one, arith, T-not, ltb, eqb, eqb→eq, length, take, drop, set, length-take, length-drop, length-set, getD-drop, length-take-le, ltb-true}
-use Rattle.model.specs.Kit.{ltb-false, lt-ltb, le-ltb, eq-eqb, ne-eqb, eqb-true, eqb-false}
-use lib.Seq.{take-append-seam, drop-at}
+use Rattle.model.specs.Kit.{_≡_, refl, sym, ap, ap₂, _∙_, subst, Bool, true, false, not, _⊎_, ⊎-elim, List, _∷_, _++_, append-assoc, ℕ, zero, suc, _+_, _*_, _/_, _%_, _≤_, _<_, min, add-one, arith}
+use Rattle.model.specs.Kit.{T-not, ltb, eqb, eqb→eq, length, take, drop, set, length-take, length-drop, length-set, getD-drop, length-take-le, ltb-true, ltb-false, lt-ltb, le-ltb, eq-eqb, ne-eqb}
+use Rattle.model.specs.Kit.{eqb-true, eqb-false}
 use Rattle.model.specs.{ValueSets.least, Lists.both, Lists.either, Lists.choose, Lists.at, Sheet.«word», Bytes.twoBytes, Written.placed}
+use lib.Seq.{take-append-seam, drop-at}
 use Rattle.model.proofs.Lists.{T-of, of-T, not-of, both-l, both-r, either-e, at-take, at-ext, at-set, at-set-other}
-use Rattle.model.proofs.{Written.length-placed, Written.placed-then, Written.placed-before, Written.placed-in, Written.placed-after, Least.first-is, Least.first-most}
-use Rattle.model.proofs.Least.{first-no, first-yes, first-before, first-same}
+use Rattle.model.proofs.Written.{length-placed, placed-then, placed-before, placed-in, placed-after}
+use Rattle.model.proofs.Least.{first-is, first-most, first-no, first-yes, first-before, first-same}
 use Rattle.store.specs.{Store.StoreEntry, Store.none, Store.table, Store.size, inner.Layout.slotAt, inner.Layout.holds, inner.Layout.tableAt, inner.Layout.slotWith, inner.Layout.storeOf}
 use Rattle.store.specs.inner.Layout.{isFree, slotFor, slotBytes, freed}
 

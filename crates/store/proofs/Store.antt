@@ -1,9 +1,8 @@
 -- The store over sequences of calls (specs/inner/Claims): isolation, what a fetch gives, four keys. Assumes nothing.
-use Rattle.model.specs.Kit.{_≡_, refl, sym, ap, ap₂, _∙_, subst, Bool, true, false, not, _⊎_, inl, inr, ⊎-elim, List, [], _∷_, _++_, List·Memᴰ, List·Memᴰ·head, List·Memᴰ·tail, ℕ}
-use Rattle.model.specs.Kit.{_≤_, _<_, arith, T, leb, ltb, eqb, eqb→eq, eqb-refl, length, ltb-true, lt-ltb, le-leb, eqb-true}
+use Rattle.model.specs.Kit.{_≡_, refl, sym, ap, ap₂, _∙_, subst, Bool, true, false, not, _⊎_, inl, inr, ⊎-elim, List, [], _∷_, _++_, List·Memᴰ, List·Memᴰ·head, List·Memᴰ·tail, ℕ, _≤_, _<_, arith, T}
+use Rattle.model.specs.Kit.{leb, ltb, eqb, eqb→eq, eqb-refl, length, ltb-true, lt-ltb, le-leb, eqb-true}
+use Rattle.model.specs.{Lists.both, Lists.either, Lists.choose, Lists.keep, Lists.below, Verdict.Verdict, Verdict.accepted, Verdict.refused, Verdict.ask, Verdict.isAccepted, Sheet.distinct}
 use mathlib.Core.Path.{fun-ext}
-use Rattle.model.specs.{Lists.both, Lists.either, Lists.choose, Lists.keep, Lists.below, Verdict.Verdict, Verdict.accepted, Verdict.refused, Verdict.ask, Verdict.isAccepted}
-use Rattle.model.specs.Sheet.{distinct}
 use Rattle.model.proofs.Lists.{T-of, of-T, not-of, of-not, both-i, both-l, both-r, either-l, either-r, either-e, keep-i, keep-e, keep-none, Sorted, sorted-keep, sorted-below, never}
 use Rattle.model.proofs.Counting.{distinct-i, no-more}
 use Rattle.store.specs.Store.{StoreEntry, none, table, isTable, tableIn, Entries, Store, emptyStore, keysOf, Action, put, fetch, remove, StoreCall, call, actionVerdict, callVerdict, entryAfter}

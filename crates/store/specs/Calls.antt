@@ -1,8 +1,7 @@
 -- Calls of `put`, `fetch` and `remove`: the store's bytes, owner and key, the table or the room as it came, the answer, and the bytes at the end. Each is
 -- the function's contract. And paper 02, #110, of what the owners hold who make calls one after another; proofs/Isolated has the theorem.
 use Rattle.model.specs.Kit.{_≡_, List, [], _∷_, List·Memᴰ, ℕ, _<_, length, replicate, eqb}
-use Rattle.model.specs.Lists.{at, choose}
-use Rattle.model.specs.Room.{refusal}
+use Rattle.model.specs.{Lists.at, Lists.choose, Room.refusal}
 use Rattle.store.specs.Store.{emptyStore, Action, StoreCall, call, put, fetch, remove, storeAfter, roomIn, replyTo, callsOf, size}
 use Rattle.store.specs.{inner.Layout.storeOf, inner.Layout.replyOn, inner.Layout.bytesAfter, Meaning.means, declared.Answer.Answer}
 

@@ -1,8 +1,8 @@
 -- The symmetry store (paper 02, #110: the store of exchange tables): tables under an owner (the paper's course) and a key (its hall), the three
 -- calls, what each gives back and the store that it leaves.
 use Rattle.model.specs.Kit.{Bool, true, false, List, [], ℕ, length, leb, ltb, eqb}
-use Rattle.model.specs.{Lists.keep, Lists.below, Lists.both, Lists.either, Lists.choose, Verdict.Verdict, Verdict.accepted, Verdict.ask, Verdict.isAccepted, Room.Outcome}
-use Rattle.model.specs.Room.{outcomeOf, roomAfter}
+use Rattle.model.specs.Lists.{keep, below, both, either, choose}
+use Rattle.model.specs.{Verdict.Verdict, Verdict.accepted, Verdict.ask, Verdict.isAccepted, Room.Outcome, Room.outcomeOf, Room.roomAfter}
 
 -- ---- the store
 -- what stands under an owner and a key

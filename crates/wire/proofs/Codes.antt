@@ -1,8 +1,8 @@
 -- The item of a refusal is below 256, so that its number and its item stand in one code. Assumes nothing.
-use Rattle.model.specs.Kit.{_≡_, refl, ap, subst, Bool, true, false, not, List, [], _∷_, ℕ, zero, suc, _+_, _*_, _/_, _%_, _^_, _≤_, _<_, arith, leb, ltb, eqb, length, leb-true}
-use Rattle.model.specs.{Lists.both, Lists.all, Lists.ascending, Lists.rowsAscend, Lists.upFrom, Lists.below, Problem.Problem, Problem.respects, Verdict.Verdict, Verdict.accepted}
-use Rattle.model.specs.{Verdict.refused, Verdict.ask, Sheet.Header, Sheet.headerOf, Sheet.problemOf, Sheet.word, Sheet.scopeAt, Sheet.rowsAt, Sheet.afterAt, Sheet.permutesPairs}
-use Rattle.model.specs.Sheet.{headerVerdict, setsVerdict, constraintVerdict, constraintsVerdict, formVerdict, symmetriesVerdict, verdictOf}
+use Rattle.model.specs.Kit.{_≡_, refl, subst, Bool, true, false, not, List, [], _∷_, ℕ, zero, suc, _+_, _*_, _^_, _≤_, _<_, arith, leb, ltb, eqb, length, leb-true}
+use Rattle.model.specs.{Lists.both, Lists.all, Lists.ascending, Lists.rowsAscend, Lists.upFrom, Lists.below, Problem.Problem, Problem.respects, Verdict.Verdict, Verdict.accepted, Verdict.refused}
+use Rattle.model.specs.{Verdict.ask, Sheet.Header, Sheet.headerOf, Sheet.problemOf, Sheet.word, Sheet.scopeAt, Sheet.rowsAt, Sheet.afterAt, Sheet.permutesPairs, Sheet.headerVerdict, Sheet.setsVerdict}
+use Rattle.model.specs.{Sheet.constraintVerdict, Sheet.constraintsVerdict, Sheet.formVerdict, Sheet.symmetriesVerdict, Sheet.verdictOf}
 use Rattle.model.proofs.{Lists.both-second, Accepted.symmetries-are}
 
 abbrev pub Small : Verdict → Type 0
@@ -54,11 +54,6 @@ symmetries-small p i (g ∷ gs) le =
     let s0 : Small v0 = symmetries-small p (suc i) gs (omega arith) in
     ask-small (permutesPairs p g) 15 i (ask (respects p g) 16 i v0) l (λ e. ask-small (respects p g) 16 i v0 l (λ e. s0))
 
-length-upFrom : (k a : ℕ) → length (upFrom a k) ≡ k
-unfolding upFrom
-length-upFrom zero a = refl
-length-upFrom (suc k) a = ap suc (length-upFrom k (suc a))
-
 pub verdict-small : (b : List ℕ) → Small (verdictOf b)
 unfolding verdictOf formVerdict headerVerdict below
 verdict-small b =
@@ -95,10 +90,3 @@ verdict-small b =
 
 pub refused-small : (v : Verdict) (number item : ℕ) → v ≡ refused number item → Small v → item < 256
 refused-small v number item e s = subst Small e s
-
--- a caller gets the number and the item of a refusal back from its code
-pub code-number : (number item : ℕ) → item < 256 → (number * 256 + item) / 256 ≡ number
-code-number number item h = omega arith
-
-pub code-item : (number item : ℕ) → item < 256 → (number * 256 + item) % 256 ≡ item
-code-item number item h = omega arith

@@ -1,14 +1,13 @@
 -- Numbers in four bytes, written one after another. Assumes nothing.
 use Rattle.model.specs.Kit.{_≡_, sym, ap, _∙_, List, [], _∷_, _++_, append-nil, ℕ, _+_, _≤_, arith, length, set, length-set}
-use lib.ListN.{drop-of-length-le}
 use Rattle.model.specs.{Written.Written, Bytes.fourBytes}
+use lib.ListN.{drop-of-length-le}
 use Rattle.model.proofs.Written.{written-byte, written-then, fronted}
 use Rattle.wire.specs.Wire.{threeNumbers}
 
 -- a text as long as the buffer is the buffer
 pub whole : {d t e : List ℕ} {n : ℕ} → length t ≡ length d → Written d 0 t e n → e ≡ t
-whole {d} {t} {e} {n} h w =
-    fronted w .bytes ∙ ap (λ (l : List ℕ). t ++ l) (drop-of-length-le d {i = length t} (omega arith)) ∙ append-nil t
+whole {d} {t} {e} {n} h w = fronted w .bytes ∙ ap (λ (l : List ℕ). t ++ l) (drop-of-length-le d {i = length t} (omega arith)) ∙ append-nil t
 
 pub put-two : (d : List ℕ) (at x y : ℕ) → at + 2 ≤ length d → Written d at (x ∷ y ∷ []) (set (set d at x) (at + 1) y) (at + 1 + 1)
 put-two d at x y h =

@@ -1,7 +1,7 @@
 -- An answer as one number and as three numbers in bytes: what the exported functions return and leave in the lent answer.
 use Rattle.model.specs.Kit.{List, _++_, ℕ, _+_, _*_}
-pub use Rattle.model.specs.Bytes.{fourAt}
 use Rattle.model.specs.{Bytes.fourBytes, Verdict.Verdict, Verdict.accepted, Verdict.refused}
+pub use Rattle.model.specs.Bytes.{fourAt}
 
 -- an answer as one number: 0, or the number and the item of the refusal
 abbrev pub codeOf : Verdict → ℕ

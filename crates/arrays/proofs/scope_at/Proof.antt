@@ -14,7 +14,4 @@ returns : tie.Need-returns
 returns c = ap (λ (m : ℕ). c .args .w / m % 256) (sym (pow-256 (c .args .i)))
 
 pub scope-at-spec : {M : Type 1} → statement M
-scope-at-spec =
-    tie.close
-    (tie.spec
-    (λ c. search needs) (λ c. search needs) (λ c. search needs) returns)
+scope-at-spec = tie.close (tie.spec (λ c. search needs) (λ c. search needs) (λ c. search needs) returns)

@@ -1,7 +1,7 @@
 -- What the search reads besides the arrays of Layout: tables that are made once from them, before the first node.
 use Rattle.model.specs.Kit.{_≡_, Bool, true, false, not, List, [], _∷_, ℕ, _+_, _*_, _%_, _^_, _<_, length, T, eqb, ltb, leb}
-use Rattle.model.specs.{Lists.any, Lists.at, Lists.keep, Lists.same, Lists.both, Lists.either, ValueSets.has, ValueSets.maskOf, ValueSets.members, ValueSets.least, Problem.Problem}
-use Rattle.model.specs.Problem.{constraintAt, symmetryAt}
+use Rattle.model.specs.Lists.{any, at, keep, same, both, either}
+use Rattle.model.specs.{ValueSets.has, ValueSets.maskOf, ValueSets.members, ValueSets.least, Problem.Problem, Problem.constraintAt, Problem.symmetryAt}
 use Rattle.arrays.specs.inner.Places.{SCOPES, VALUES, LINKED, BY-ROWS, OTHERS, LOOSE, LOOKS, SPREAD, UNIONS, SMALLER, OWN}
 use Rattle.arrays.specs.inner.Layout.{imageCode, Numbers, Supports}
 

@@ -2,9 +2,6 @@ use Rattle.model.specs.Kit.{sym, _∙_, _+_, _*_, _%_, _<_, getD, not-true, not
 use Rattle.arrays_block.proofs.{Moving.values-some, Moving.stays-no, Moving.stays-out, Moving.goes, Moving.goes-small, moved.Statement.statement}
 use Rattle.arrays_block.proofs.moved.Tie as tie
 
-div-x : tie.Need-div-x
-div-x c = let a = c .before .pre in values-some _ _ _ _ _ _ (a .1)
-
 returns : tie.Need-returns
 returns c = λ p b h. stays-no p _ _ _ _ _ b _ h (sym (c .before .is-pair .ensures p (b .framed)) ∙ not-true _ (c .if1 .taken))
 
@@ -19,22 +16,11 @@ bound : (c : tie.After-image) → c .image .result * getD (c .before .before .be
 bound c = let i = c .before .before .before .before in let a = c .before .before .before .before .before .before .pre in goes-small (a .0) _ _ _ _ _ (a .1) _ (a .2) (omega arith)
     (λ u. omega arith) _ (c .image .ensures) (sym (i .is-pair .ensures (a .0) (a .1 .framed)) ∙ not-false _ (c .before .before .before .if1 .left))
 
-mul-result : tie.Need-mul-result
-mul-result c = omega (arith, bound c)
-
-rem-result : tie.Need-rem-result
-rem-result c = let a = c .before .before .before .before .before .before .pre in values-some _ _ _ _ _ _ (a .1)
-
-add-result : tie.Need-add-result
-add-result c = omega (arith, bound c)
-
 returns-4 : tie.Need-returns-4
 returns-4 c = λ p b h. let i = c .before .before .before .before in goes p _ _ _ _ _ b _ h (omega arith) (λ u. omega arith) _ (c .image .ensures)
     (sym (i .is-pair .ensures p (b .framed)) ∙ not-false _ (c .before .before .before .if1 .left))
 
 pub moved-spec : {M : Type 1} → statement M
-moved-spec =
-    tie.close
-    (tie.spec
-    (λ c. search needs) div-x (λ c κs. search needs) returns returns-2 (λ c. search needs) returns-3 (λ c κs. search needs) mul-result rem-result add-result
-    returns-4)
+moved-spec = tie.close (tie.spec
+    (λ c. search needs) (λ c. let a = c .before .pre in values-some _ _ _ _ _ _ (a .1)) (λ c κs. search needs) returns returns-2 (λ c. search needs) returns-3 (λ c κs. search needs)
+    (λ c. omega (arith, bound c)) (λ c. let a = c .before .before .before .before .before .before .pre in values-some _ _ _ _ _ _ (a .1)) (λ c. omega (arith, bound c)) returns-4)

@@ -12,15 +12,6 @@ Inv-loop rows row first m numbers base images₀ d size q₀ images q = (q ≤ s
 abbrev μ-loop : tie.MeasureT-loop
 μ-loop rows row first m numbers base images₀ d size q₀ images q = size - q
 
-element-copy-out-d : tie.Need-element-copy-out-d Inv-loop μ-loop
-element-copy-out-d c = search needs
-
-element-copy-out-size : tie.Need-element-copy-out-size Inv-loop μ-loop
-element-copy-out-size c = search needs
-
-mul-size : tie.Need-mul-size Inv-loop μ-loop
-mul-size c = let a = c .before .before .pre .0 in omega (arith, size-is (a .0) _ _ _ _ _ (a .1), size-few (a .0) _ _ _ _ _ (a .1))
-
 loop-holds : tie.Need-loop-holds Inv-loop μ-loop
 loop-holds c = (omega arith, λ p b. filled-begin _ _ _)
 
@@ -29,32 +20,14 @@ inside : (c : tie.In-loop Inv-loop μ-loop) (p : Problem) → BlockRow p (now (c
     → c .before .loop .q < p .variables * p .values
 inside c p b = subst (λ (n : ℕ). c .before .loop .q < n) (size-is p _ _ _ _ _ b) (c .loop-test .taken)
 
-moved-requires : tie.Need-moved-requires Inv-loop μ-loop
-moved-requires c κs = let a = c .before .before .before .before .pre .0 in (a .0, a .1, inside c (a .0) (a .1))
-
 pair-code-requires : tie.Need-pair-code-requires Inv-loop μ-loop
 pair-code-requires c κs =
     let a = c .before .before .before .before .before .pre .0 in
     let l = inside (c .before) (a .0) (a .1) in
     coded (a .0) _ _ _ _ _ (a .1) _ (subst (λ (y : ℕ). y < a .0 .variables * a .0 .values) (sym (c .moved .ensures (a .0) (a .1) l .0)) (to-lt (a .0) _ _ _ _ _ (a .1) _ l))
 
-cast-images : tie.Need-cast-images Inv-loop μ-loop
-cast-images c = omega (arith, c .pair-code .ensures .1)
-
-pair-code-requires-2 : tie.Need-pair-code-requires-2 Inv-loop μ-loop
-pair-code-requires-2 c κs = let a = c .before .before .before .before .before .before .pre .0 in coded (a .0) _ _ _ _ _ (a .1) _ (inside (c .before .before) (a .0) (a .1))
-
-add-images : tie.Need-add-images Inv-loop μ-loop
-add-images c = omega (arith, c .pair-code2 .ensures .1, c .before .before .before .before .before .before .before .pre .1)
-
-element-write-images : tie.Need-element-write-images Inv-loop μ-loop
-element-write-images c = omega (arith, c .pair-code2 .ensures .1, c .before .before .before .before .before .before .before .pre .1)
-
 add-q : tie.Need-add-q Inv-loop μ-loop
 add-q c = let a = c .before .before .before .before .before .before .before .pre .0 in omega (arith, inside (c .before .before .before) (a .0) (a .1), size-few (a .0) _ _ _ _ _ (a .1))
-
-loop-less : tie.Need-loop-less Inv-loop μ-loop
-loop-less c = omega (arith, c .before .before .before .loop-test .taken)
 
 loop-again : tie.Need-loop-again Inv-loop μ-loop
 loop-again c =
@@ -69,8 +42,10 @@ returns : tie.Need-returns Inv-loop μ-loop
 returns c = λ p b. let e = size-is p _ _ _ _ _ b in filled-end _ _ _ _ _ _ (omega (arith, e, c .loop-test .left)) (omega (arith, e, c .before .loop .inv .0)) (c .before .loop .inv .1 p b)
 
 pub put-row-spec : {M : Type 1} → statement M
-put-row-spec =
-    tie.close
-    (tie.spec
-    Inv-loop μ-loop element-copy-out-d element-copy-out-size mul-size loop-holds moved-requires pair-code-requires cast-images pair-code-requires-2 add-images
-    element-write-images add-q loop-less loop-again returns)
+put-row-spec = tie.close (tie.spec
+    Inv-loop μ-loop (λ c. search needs) (λ c. search needs) (λ c. let a = c .before .before .pre .0 in omega (arith, size-is (a .0) _ _ _ _ _ (a .1), size-few (a .0) _ _ _ _ _ (a .1))) loop-holds
+    (λ c κs. let a = c .before .before .before .before .pre .0 in (a .0, a .1, inside c (a .0) (a .1))) pair-code-requires (λ c. omega (arith, c .pair-code .ensures .1))
+    (λ c κs. let a = c .before .before .before .before .before .before .pre .0 in coded (a .0) _ _ _ _ _ (a .1) _ (inside (c .before .before) (a .0) (a .1)))
+    (λ c. omega (arith, c .pair-code2 .ensures .1, c .before .before .before .before .before .before .before .pre .1))
+    (λ c. omega (arith, c .pair-code2 .ensures .1, c .before .before .before .before .before .before .before .pre .1)) add-q (λ c. omega (arith, c .before .before .before .loop-test .taken))
+    loop-again returns)

@@ -14,15 +14,6 @@ Inv-loop first m numbers images₀ rows g count row₀ images row = (row ≤ cou
 abbrev μ-loop : tie.MeasureT-loop
 μ-loop first m numbers images₀ rows g count row₀ images row = count - row
 
-rows-requires : tie.Need-rows-requires Inv-loop μ-loop
-rows-requires c κs = tt
-
-element-copy-out-g : tie.Need-element-copy-out-g Inv-loop μ-loop
-element-copy-out-g c = search needs
-
-row-count-requires : tie.Need-row-count-requires Inv-loop μ-loop
-row-count-requires c κs = let a = c .before .before .pre in block-is (a .0) _ _ (a .2) .0
-
 loop-holds : tie.Need-loop-holds Inv-loop μ-loop
 loop-holds c = (omega arith, λ p i is. put-to p _ _ _ _ _ _ (let e = own-are p _ _ _ _ i is in omega arith) (put-own p _ _ _ _ i))
 
@@ -33,23 +24,11 @@ used c = omega (arith, c .loop-test .taken, c .before .before .row-count .ensure
 room : (c : tie.In-loop Inv-loop μ-loop) → getD (now (c .before .before .before .before .before .args .numbers)) 67 0 + c .before .loop .row < 136
 room c = let a = c .before .before .before .before .before .pre in omega (arith, own-are (a .0) _ _ _ _ (a .1) (a .2), row-room (a .0) _ _ _ _ (a .1) (a .2) _ (used c))
 
-add-put-row : tie.Need-add-put-row Inv-loop μ-loop
-add-put-row c = omega (arith, room (c .before))
-
-mul-put-row : tie.Need-mul-put-row Inv-loop μ-loop
-mul-put-row c = omega (arith, room (c .before))
-
 put-row-requires : tie.Need-put-row-requires Inv-loop μ-loop
 put-row-requires c κs =
     let l = c .before .before in
     let a = l .before .before .before .before .before .pre in
     ((a .0, row-of (a .0) _ _ _ _ (a .1) (a .2) _ _ (l .before .before .before .before .rows .ensures) (used l)), omega (arith, room l), l .before .loop .inv .1 (a .0) (a .1) (a .2) .sized)
-
-add-row : tie.Need-add-row Inv-loop μ-loop
-add-row c = omega (arith, room (c .before .before .before))
-
-loop-less : tie.Need-loop-less Inv-loop μ-loop
-loop-less c = omega (arith, c .before .before .before .loop-test .taken)
 
 loop-again : tie.Need-loop-again Inv-loop μ-loop
 loop-again c =
@@ -63,9 +42,6 @@ loop-again c =
           (c .put-row .ensures p (row-of p _ _ _ _ i is _ _ (l .before .before .before .before .rows .ensures) (used l)))),
     )
 
-add-result : tie.Need-add-result Inv-loop μ-loop
-add-result c = let a = c .before .before .before .before .before .pre in omega (arith, own-are (a .0) _ _ _ _ (a .1) (a .2), a .1 .symmetries, c .before .before .row-count .ensures .1)
-
 returns : tie.Need-returns Inv-loop μ-loop
 returns c = λ p i is.
     let t = c .before .before .row-count in
@@ -74,8 +50,7 @@ returns c = λ p i is.
     (put-to p _ _ (g + c .before .loop .row) (g + t .result) _ _ (omega (arith, c .loop-test .left, c .before .loop .inv .0)) (c .before .loop .inv .1 p i is))
 
 pub put-rows-spec : {M : Type 1} → statement M
-put-rows-spec =
-    tie.close
-    (tie.spec
-    Inv-loop μ-loop rows-requires element-copy-out-g row-count-requires loop-holds add-put-row mul-put-row put-row-requires add-row loop-less loop-again
-    add-result returns)
+put-rows-spec = tie.close (tie.spec
+    Inv-loop μ-loop (λ c κs. tt) (λ c. search needs) (λ c κs. let a = c .before .before .pre in block-is (a .0) _ _ (a .2) .0) loop-holds (λ c. omega (arith, room (c .before)))
+    (λ c. omega (arith, room (c .before))) put-row-requires (λ c. omega (arith, room (c .before .before .before))) (λ c. omega (arith, c .before .before .before .loop-test .taken)) loop-again
+    (λ c. let a = c .before .before .before .before .before .pre in omega (arith, own-are (a .0) _ _ _ _ (a .1) (a .2), a .1 .symmetries, c .before .before .row-count .ensures .1)) returns)

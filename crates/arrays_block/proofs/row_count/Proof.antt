@@ -15,18 +15,12 @@ loop-holds : tie.Need-loop-holds Inv-loop μ-loop
 unfolding factorial
 loop-holds c = (omega arith, omega arith, refl)
 
-add-k : tie.Need-add-k Inv-loop μ-loop
-add-k c = omega arith
-
 mul-count : tie.Need-mul-count Inv-loop μ-loop
 mul-count c =
     let k = c .before .loop .k in
     let e = next-row k (c .before .loop .count) (c .before .loop .inv .2) in
     let l = factorial-le (k + 1) (omega arith, omega arith) in
     omega arith
-
-loop-less : tie.Need-loop-less Inv-loop μ-loop
-loop-less c = omega arith
 
 loop-again : tie.Need-loop-again Inv-loop μ-loop
 loop-again c = (omega arith, omega arith, next-row _ _ (c .before .loop .inv .2))
@@ -39,7 +33,4 @@ returns c =
     (z, (let l = factorial-le (c .before .before .args .m) (c .before .before .pre) in omega arith))
 
 pub row-count-spec : {M : Type 1} → statement M
-row-count-spec =
-    tie.close
-    (tie.spec
-    Inv-loop μ-loop loop-holds add-k mul-count loop-less loop-again returns)
+row-count-spec = tie.close (tie.spec Inv-loop μ-loop loop-holds (λ c. omega arith) mul-count (λ c. omega arith) loop-again returns)

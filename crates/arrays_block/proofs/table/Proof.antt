@@ -10,15 +10,6 @@ Inv-loop rows row first m numbers size bytes₀ q₀ bytes q = (p : Problem) →
 abbrev μ-loop : tie.MeasureT-loop
 μ-loop rows row first m numbers size bytes₀ q₀ bytes q = size - q
 
-element-copy-out-size : tie.Need-element-copy-out-size Inv-loop μ-loop
-element-copy-out-size c = search needs
-
-element-copy-out-size-2 : tie.Need-element-copy-out-size-2 Inv-loop μ-loop
-element-copy-out-size-2 c = search needs
-
-mul-size : tie.Need-mul-size Inv-loop μ-loop
-mul-size c = let a = c .before .before .pre in omega (arith, size-is (a .0) _ _ _ _ _ (a .1), size-few (a .0) _ _ _ _ _ (a .1))
-
 loop-holds : tie.Need-loop-holds Inv-loop μ-loop
 loop-holds c = λ p b. (omega arith, filled-none p _ _ _)
 
@@ -30,24 +21,6 @@ inside c p b = subst (λ (n : ℕ). c .before .loop .q < n) (size-is p _ _ _ _ _
 small : (c : tie.In-loop Inv-loop μ-loop) → c .before .loop .q < 192
 small c = let a = c .before .before .before .before .pre in omega (arith, inside c (a .0) (a .1), size-few (a .0) _ _ _ _ _ (a .1))
 
-moved-requires : tie.Need-moved-requires Inv-loop μ-loop
-moved-requires c κs = let a = c .before .before .before .before .pre in (a .0, a .1, inside c (a .0) (a .1))
-
-cast-bytes : tie.Need-cast-bytes Inv-loop μ-loop
-cast-bytes c = let a = c .before .before .before .before .before .pre in omega (arith, c .moved .ensures (a .0) (a .1) (inside (c .before) (a .0) (a .1)) .1)
-
-mul-bytes : tie.Need-mul-bytes Inv-loop μ-loop
-mul-bytes c = omega (arith, small (c .before))
-
-array-write-bytes : tie.Need-array-write-bytes Inv-loop μ-loop
-array-write-bytes c = omega (arith, small (c .before))
-
-add-q : tie.Need-add-q Inv-loop μ-loop
-add-q c = omega (arith, small (c .before))
-
-loop-less : tie.Need-loop-less Inv-loop μ-loop
-loop-less c = omega arith
-
 loop-again : tie.Need-loop-again Inv-loop μ-loop
 loop-again c = λ p b. let l = inside (c .before) p b in (omega arith, filled-more p _ _ _ _ _ _ (c .before .before .loop .inv p b .1) (small (c .before)) (c .moved .ensures p b l .0))
 
@@ -56,8 +29,8 @@ returns c = λ p b. let i = c .before .loop .inv p b in filled-all p _ _ _ (b .w
     (subst (FilledTo p _ _ _ _) (let s = size-is p _ _ _ _ _ b in omega (arith, s, c .loop-test .left, i .0)) (i .1))
 
 pub table-spec : {M : Type 1} → statement M
-table-spec =
-    tie.close
-    (tie.spec
-    Inv-loop μ-loop element-copy-out-size element-copy-out-size-2 mul-size loop-holds moved-requires cast-bytes mul-bytes array-write-bytes add-q loop-less
-    loop-again returns)
+table-spec = tie.close (tie.spec
+    Inv-loop μ-loop (λ c. search needs) (λ c. search needs) (λ c. let a = c .before .before .pre in omega (arith, size-is (a .0) _ _ _ _ _ (a .1), size-few (a .0) _ _ _ _ _ (a .1))) loop-holds
+    (λ c κs. let a = c .before .before .before .before .pre in (a .0, a .1, inside c (a .0) (a .1)))
+    (λ c. let a = c .before .before .before .before .before .pre in omega (arith, c .moved .ensures (a .0) (a .1) (inside (c .before) (a .0) (a .1)) .1)) (λ c. omega (arith, small (c .before)))
+    (λ c. omega (arith, small (c .before))) (λ c. omega (arith, small (c .before))) (λ c. omega arith) loop-again returns)

@@ -13,12 +13,6 @@ Inv-loop first m numbers supports rows g k₀ row₀ k row = (1 ≤ k) × (row �
 abbrev μ-loop : tie.MeasureT-loop
 μ-loop first m numbers supports rows g k₀ row₀ k row = m - k
 
-rows-requires : tie.Need-rows-requires Inv-loop μ-loop
-rows-requires c κs = tt
-
-element-copy-out-g : tie.Need-element-copy-out-g Inv-loop μ-loop
-element-copy-out-g c = search needs
-
 loop-holds : tie.Need-loop-holds Inv-loop μ-loop
 unfolding factorial
 loop-holds c = (omega arith, refl, λ p h is. (let f = few p _ _ h _ _ is in omega (arith, f .0), λ j l u. absurd (omega arith)))
@@ -35,15 +29,9 @@ returns : tie.Need-returns Inv-loop μ-loop
 returns c = λ p h is. let i = c .before .before .before .before .loop .inv in let u = c .before .before .before .loop-test .taken in trade-no p _ _ h _ _ is _ _ (i .1) (i .0) u (i .2 p h is .1) _
     (c .before .row-question .ensures p h (row-of p _ _ h _ _ is _ _ (i .1) (i .0) u _ (c .before .before .before .before .before .before .rows .ensures))) (c .if1 .taken)
 
-add-k : tie.Need-add-k Inv-loop μ-loop
-add-k c = omega (arith, c .before .before .before .loop-test .taken)
-
 mul-row : tie.Need-mul-row Inv-loop μ-loop
 mul-row c = let a = c .before .before .before .before .before .before .before .pre in let i = c .before .before .before .before .loop .inv in omega
     (arith, next-few (a .0) _ _ (a .1) _ _ (a .2) _ _ (i .1) (i .0) (c .before .before .before .loop-test .taken))
-
-loop-less : tie.Need-loop-less Inv-loop μ-loop
-loop-less c = omega (arith, c .before .before .before .loop-test .taken)
 
 loop-again : tie.Need-loop-again Inv-loop μ-loop
 loop-again c =
@@ -62,7 +50,6 @@ returns-2 : tie.Need-returns-2 Inv-loop μ-loop
 returns-2 c = λ p h is. let i = c .before .loop .inv .2 p h is in trades-all p _ _ h _ _ is (λ j l u. i .1 j l (let s = c .loop-test .left in omega arith))
 
 pub trades-spec : {M : Type 1} → statement M
-trades-spec =
-    tie.close
-    (tie.spec
-    Inv-loop μ-loop rows-requires element-copy-out-g loop-holds row-question-requires add-t16 returns add-k mul-row loop-less loop-again returns-2)
+trades-spec = tie.close (tie.spec
+    Inv-loop μ-loop (λ c κs. tt) (λ c. search needs) loop-holds row-question-requires add-t16 returns (λ c. omega (arith, c .before .before .before .loop-test .taken)) mul-row
+    (λ c. omega (arith, c .before .before .before .loop-test .taken)) loop-again returns-2)

@@ -23,7 +23,4 @@ returns : tie.Need-returns Inv-loop μ-loop
 returns c = filled-end _ _ _ _ _ _ (search needs) (search needs) (c .before .loop .inv .1)
 
 pub widen-spec : {M : Type 1} → statement M
-widen-spec =
-    tie.close
-    (tie.spec
-    Inv-loop μ-loop loop-holds (λ c. search needs) (λ c. search needs) (λ c. search needs) (λ c. search needs) loop-again returns)
+widen-spec = tie.close (tie.spec Inv-loop μ-loop loop-holds (λ c. search needs) (λ c. search needs) (λ c. search needs) (λ c. search needs) loop-again returns)

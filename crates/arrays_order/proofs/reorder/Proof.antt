@@ -1,8 +1,7 @@
 -- The parts, one after another. Assumes nothing.
 use Rattle.model.specs.Kit.{refl, _∙_, needs}
 use Rattle.model.specs.Lists.{at}
-use Rattle.arrays_order.proofs.Whole.{few-variables, few-values, few-constraints, few-symmetries, small, scopes, moved}
-use Rattle.arrays_order.proofs.reorder.Statement.{statement}
+use Rattle.arrays_order.proofs.{Whole.few-variables, Whole.few-values, Whole.few-constraints, Whole.few-symmetries, Whole.small, Whole.scopes, Whole.moved, reorder.Statement.statement}
 use Rattle.arrays_order.proofs.reorder.Tie as tie
 
 positions-requires : tie.Need-positions-requires
@@ -33,9 +32,6 @@ rename-requires-2 c κs =
       m .supports-length,
     )
 
-same-length : tie.Need-same-length
-same-length c = c .before .before .before .before .before .before .rename .ensures .size
-
 returns : tie.Need-returns
 unfolding at
 returns c = λ p m.
@@ -43,8 +39,6 @@ returns c = λ p m.
     moved p _ _ _ _ m _ _ (s .before .before .positions .ensures) _ (s .move-sets .ensures) _ _ _ (c .before .before .before .before .before .before .rename .ensures) (c .rename2 .ensures)
 
 pub reorder-spec : {M : Type 1} → statement M
-reorder-spec =
-    tie.close
-    (tie.spec
+reorder-spec = tie.close (tie.spec
     (λ c. search needs) (λ c. search needs) (λ c. search needs) (λ c. search needs) positions-requires move-sets-requires rename-requires rename-requires-2
-    same-length returns)
+    (λ c. c .before .before .before .before .before .before .rename .ensures .size) returns)

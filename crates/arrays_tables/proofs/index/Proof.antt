@@ -4,15 +4,6 @@ use Rattle.arrays_tables.proofs.Assembled.{bounds, link-bounds, rows-so
 use Rattle.arrays_tables.proofs.index.Statement.{statement}
 use Rattle.arrays_tables.proofs.index.Tie as tie
 
-linked-requires : tie.Need-linked-requires
-linked-requires c κs = let q = c .before .pre in let b = bounds _ _ _ _ _ (q .1) in (b .0, b .1, q .1 .numbers-length)
-
-rows-requires : tie.Need-rows-requires
-rows-requires c κs = let q = c .before .before .before .before .pre in ((_, rows-source _ _ _ _ _ (q .1) _ (c .before .before .linked .ensures)), q .1 .tables-length)
-
-loose-requires : tie.Need-loose-requires
-loose-requires c κs = link-bounds _ _ _ _ _ (c .before .before .before .before .before .before .before .pre .1) _ (c .before .before .before .before .before .linked .ensures) .0
-
 looks-requires : tie.Need-looks-requires
 looks-requires c κs = looks-bounds _ _ _ _ _ (c .before .before .before .before .before .before .before .before .before .pre .1) _
     (c .before .before .before .before .before .before .before .linked .ensures) _
@@ -35,7 +26,8 @@ returns c =
     (c .before .before .before .before .before .looks .ensures) _ (c .before .before .before .by-lanes .ensures) _ (c .image-tables .ensures)
 
 pub index-spec : {M : Type 1} → statement M
-index-spec =
-    tie.close
-    (tie.spec
-    linked-requires rows-requires loose-requires (λ c. search needs) looks-requires by-lanes-requires image-tables-requires returns)
+index-spec = tie.close (tie.spec
+    (λ c κs. let q = c .before .pre in let b = bounds _ _ _ _ _ (q .1) in (b .0, b .1, q .1 .numbers-length))
+    (λ c κs. let q = c .before .before .before .before .pre in ((_, rows-source _ _ _ _ _ (q .1) _ (c .before .before .linked .ensures)), q .1 .tables-length))
+    (λ c κs. link-bounds _ _ _ _ _ (c .before .before .before .before .before .before .before .pre .1) _ (c .before .before .before .before .before .linked .ensures) .0) (λ c. search needs)
+    looks-requires by-lanes-requires image-tables-requires returns)

@@ -12,9 +12,6 @@ Inv-loop queue p nodes counts₀ x₀ counts x = (x ≤ 12) × Filled (λ i. i) 
 abbrev μ-loop : tie.MeasureT-loop
 μ-loop queue p nodes counts₀ x₀ counts x = 12 - x
 
-nodes-at-requires : tie.Need-nodes-at-requires Inv-loop μ-loop
-nodes-at-requires c κs = search needs
-
 cast-nodes : tie.Need-cast-nodes Inv-loop μ-loop
 unfolding at
 cast-nodes c =
@@ -23,33 +20,6 @@ cast-nodes c =
 
 loop-holds : tie.Need-loop-holds Inv-loop μ-loop
 loop-holds c = (omega arith, filled-begin _ _ _)
-
-add-read-long : tie.Need-add-read-long Inv-loop μ-loop
-add-read-long c = search needs
-
-mul-read-long : tie.Need-mul-read-long Inv-loop μ-loop
-mul-read-long c = search needs
-
-add-read-long-2 : tie.Need-add-read-long-2 Inv-loop μ-loop
-add-read-long-2 c = search needs
-
-read-long-requires : tie.Need-read-long-requires Inv-loop μ-loop
-read-long-requires c κs = search needs
-
-capped-requires : tie.Need-capped-requires Inv-loop μ-loop
-capped-requires c κs = search needs
-
-mul-counts : tie.Need-mul-counts Inv-loop μ-loop
-mul-counts c = search needs
-
-array-write-counts : tie.Need-array-write-counts Inv-loop μ-loop
-array-write-counts c = search needs
-
-add-x : tie.Need-add-x Inv-loop μ-loop
-add-x c = search needs
-
-loop-less : tie.Need-loop-less Inv-loop μ-loop
-loop-less c = search needs
 
 loop-again : tie.Need-loop-again Inv-loop μ-loop
 unfolding at
@@ -67,8 +37,6 @@ returns c =
     sym (counts-as _ _ (l .counts) (f .size) (λ x k. sym (f .here x k)))
 
 pub counts-at-spec : {M : Type 1} → statement M
-counts-at-spec =
-    tie.close
-    (tie.spec
-    Inv-loop μ-loop nodes-at-requires cast-nodes loop-holds add-read-long mul-read-long add-read-long-2 read-long-requires capped-requires mul-counts
-    array-write-counts add-x loop-less loop-again returns)
+counts-at-spec = tie.close (tie.spec
+    Inv-loop μ-loop (λ c κs. search needs) cast-nodes loop-holds (λ c. search needs) (λ c. search needs) (λ c. search needs) (λ c κs. search needs) (λ c κs. search needs) (λ c. search needs)
+    (λ c. search needs) (λ c. search needs) (λ c. search needs) loop-again returns)

@@ -24,7 +24,4 @@ unfolding long
 returns c = ap₂ (λ (x y : ℕ). x + 65536 * y) (c .before .read-word .ensures) (c .read-word2 .ensures)
 
 pub read-long-spec : {M : Type 1} → statement M
-read-long-spec =
-    tie.close
-    (tie.spec
-    (λ c κs. search needs) (λ c. search needs) (λ c κs. search needs) mul-result add-result returns)
+read-long-spec = tie.close (tie.spec (λ c κs. search needs) (λ c. search needs) (λ c κs. search needs) mul-result add-result returns)

@@ -1,13 +1,12 @@
 -- What else holds of the queue: paper 02, #113, in words about the definitions; what the proofs keep of a job (`HoldsRun`). The claims that a reader needs are in
 -- specs/Claims.
 use Rattle.model.specs.Kit.{_≡_, _⊎_, true, false, List, [], _∷_, _++_, List·Memᴰ, ℕ, suc, _+_, _*_, _≤_, _<_, length, replicate, T}
-use Rattle.model.specs.{Lists.flat, Verdict.refused, Search.nodes, Sheet.verdictOf, Sheet.problemOf, Run.spent, Run.plansIn, Run.nodesIn}
-use Rattle.model.specs.Run.{written, tallyAt}
+use Rattle.model.specs.{Lists.flat, Verdict.refused, Search.nodes, Sheet.verdictOf, Sheet.problemOf, Run.spent, Run.plansIn, Run.nodesIn, Run.written, Run.tallyAt}
 use Rattle.run_cut.specs.Parts.{progressAt}
 use Rattle.desk.specs.Queue.{Standing, running, over, goesOn, Job, newJob, jobTurned, free, taken, isFree, waits, Queue, emptyQueue, slotAt, QueueCall, submit, turn, release, QueueReply}
 use Rattle.desk.specs.Queue.{refusal, answered, queued, idle, served, released, fits, releaseSlot, queueReply, queueAfter, queueEnd, queueReplies}
 use Rattle.desk.specs.{Rounds.turned, Rounds.roundsQueue, Rounds.turnsGiven, Rounds.due, inner.Layout.queueOf, inner.Layout.replyOn, inner.Layout.bytesAfter, Claims.alone, Claims.serves}
-use Rattle.desk.specs.Claims.{QueueBytes, ByteCall}
+use Rattle.desk.specs.{Claims.QueueBytes, Claims.ByteCall}
 
 unfoldable pub timesServed : ℕ → List QueueReply → ℕ
 timesServed k [] = 0

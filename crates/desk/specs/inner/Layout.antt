@@ -1,8 +1,8 @@
 -- The queue's bytes: eight slots, and one byte for the slot where the next turn begins to look; specs/inner/Places says where a slot has what. Any bytes of the
 -- queue's size are a queue; zeros are the empty one.
 use Rattle.model.specs.Kit.{List, [], _∷_, _++_, map, ℕ, _+_, _-_, _*_, _%_, min, length, take, drop, set, replicate, eqb}
-use Rattle.model.specs.{Lists.at, Lists.choose, Lists.flat, Lists.below, Lists.tabulate, Verdict.Verdict, Verdict.accepted, Verdict.refused, Sheet.«word», Sheet.verdictOf}
-use Rattle.model.specs.{Bytes.twoBytes, Bytes.fourBytes, Written.placed, Run.finished, Run.spent, Run.full, Run.listedPlans}
+use Rattle.model.specs.{Lists.at, Lists.choose, Lists.flat, Lists.below, Lists.tabulate, Verdict.Verdict, Verdict.accepted, Verdict.refused, Sheet.«word», Sheet.verdictOf, Bytes.twoBytes}
+use Rattle.model.specs.{Bytes.fourBytes, Written.placed, Run.finished, Run.spent, Run.full, Run.listedPlans}
 use Rattle.sheet.specs.Meaning.{compilable}
 use Rattle.desk.specs.Queue.{LIST-PLANS, size, Standing, running, over, standingBy, Job, jobTurned, Slot, free, taken, Queue, slotAt, Found, none-found, slot, lowestFree, toServe, QueueCall}
 use Rattle.desk.specs.Queue.{submit, turn, release, QueueReply, refusal, fits, queueReply, roundFrom}

@@ -1,6 +1,6 @@
 -- Rounds of a queue of eight slots as the code goes them: each slot gets its turns at once. The proofs are in proofs/Rounds.
 use Rattle.model.specs.Kit.{_≡_, List, [], _∷_, map, ℕ, _+_, _%_, length, leb, ltb}
-use Rattle.model.specs.{Lists.both, Lists.choose}
+use Rattle.model.specs.Lists.{both, choose}
 use Rattle.desk.specs.{Queue.Slot, Queue.free, Queue.taken, Queue.Queue, Queue.slotAt, Queue.roundFrom, Rounds.dueAt, Rounds.given, Rounds.roundsQueue}
 
 abbrev pub slotGiven : ℕ → Slot → Slot

@@ -17,7 +17,4 @@ returns c =
     (ap₂ (λ (i j : ℕ). i * j) (c .before .bounded .ensures) (c .bounded2 .ensures), mul-le-mul x y)
 
 pub list-length-spec : {M : Type 1} → statement M
-list-length-spec =
-    tie.close
-    (tie.spec
-    (λ c. search needs) (λ c κs. search needs) (λ c. search needs) (λ c κs. search needs) mul-result returns)
+list-length-spec = tie.close (tie.spec (λ c. search needs) (λ c κs. search needs) (λ c. search needs) (λ c κs. search needs) mul-result returns)

@@ -39,9 +39,6 @@ returns-5 c =
     (c .before .before .place .ensures) refl)
 
 pub release-spec : {M : Type 1} → statement M
-release-spec =
-    tie.close
-    (tie.spec
-    returns returns-2 (λ c. search needs) (λ c. search needs) returns-3 (λ c κs. search needs) (λ c. search needs) returns-4 (λ c. search needs)
-    (λ c. search needs) (λ c. search needs) (λ c. search needs) (λ c. search needs) (λ c κs. search needs) (λ c. search needs) (λ c. search needs)
-    (λ c. search needs) returns-5)
+release-spec = tie.close (tie.spec
+    returns returns-2 (λ c. search needs) (λ c. search needs) returns-3 (λ c κs. search needs) (λ c. search needs) returns-4 (λ c. search needs) (λ c. search needs) (λ c. search needs)
+    (λ c. search needs) (λ c. search needs) (λ c κs. search needs) (λ c. search needs) (λ c. search needs) (λ c. search needs) returns-5)

@@ -35,8 +35,6 @@ returns-4 c =
     ∙ c .before .before .before .before .before .before .question .ensures) (c .before .before .fill .ensures))
 
 pub submit-spec : {M : Type 1} → statement M
-submit-spec =
-    tie.close
-    (tie.spec
-    returns (λ c κs. search needs) (λ c. search needs) returns-2 (λ c κs. search needs) (λ c. search needs) (λ c. search needs) returns-3 (λ c. search needs)
-    (λ c. search needs) fill-requires (λ c. search needs) returns-4)
+submit-spec = tie.close (tie.spec
+    returns (λ c κs. search needs) (λ c. search needs) returns-2 (λ c κs. search needs) (λ c. search needs) (λ c. search needs) returns-3 (λ c. search needs) (λ c. search needs) fill-requires
+    (λ c. search needs) returns-4)

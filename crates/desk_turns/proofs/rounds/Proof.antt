@@ -8,9 +8,6 @@ use Rattle.desk_turns.proofs.rounds.Tie as tie
 returns : tie.Need-returns
 returns c = held.rounded (rounds-255 _ _ (c .if1 .taken))
 
-waiting-requires-2 : tie.Need-waiting-requires-2
-waiting-requires-2 c κs = simp length-set (omega arith)
-
 returns-2 : tie.Need-returns-2
 unfolding at
 returns-2 c = held.rounded (rounded _ _ (
@@ -20,7 +17,4 @@ returns-2 c = held.rounded (rounded _ _ (
     (c .before .before .before .before .go-round .ensures .0) (c .before .before .before .before .go-round .ensures .1) refl (c .waiting2 .ensures))
 
 pub rounds-spec : {M : Type 1} → statement M
-rounds-spec =
-    tie.close
-    (tie.spec
-    returns (λ c κs. search needs) (λ c κs. search needs) (λ c. search needs) waiting-requires-2 (λ c. search needs) returns-2)
+rounds-spec = tie.close (tie.spec returns (λ c κs. search needs) (λ c κs. search needs) (λ c. search needs) (λ c κs. simp length-set (omega arith)) (λ c. search needs) returns-2)

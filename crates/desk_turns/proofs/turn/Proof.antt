@@ -29,8 +29,4 @@ returns-3 c = turned (turn-served (c .before .before .before .before .before .be
     (c .before .before .before .before .before .to-serve .ensures) (c .before .before .before .before .if2 .left) _ _ (c .before .before .serve .ensures))
 
 pub turn-spec : {M : Type 1} → statement M
-turn-spec =
-    tie.close
-    (tie.spec
-    returns (λ c κs. search needs) (λ c. search needs) returns-2 serve-requires (λ c. search needs) (λ c. search needs) (λ c. search needs) (λ c. search needs)
-    returns-3)
+turn-spec = tie.close (tie.spec returns (λ c κs. search needs) (λ c. search needs) returns-2 serve-requires (λ c. search needs) (λ c. search needs) (λ c. search needs) (λ c. search needs) returns-3)

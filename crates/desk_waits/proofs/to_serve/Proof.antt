@@ -11,32 +11,14 @@ Inv-loop queue next i₀ i = (i ≤ 8) × Quiet queue i
 abbrev μ-loop : tie.MeasureT-loop
 μ-loop queue next i₀ i = 8 - i
 
-shared-slice-read-next : tie.Need-shared-slice-read-next Inv-loop μ-loop
-shared-slice-read-next c = search needs
-
-cast-next : tie.Need-cast-next Inv-loop μ-loop
-cast-next c = omega (arith, c .shared-slice-known2 .given NEXT)
-
 loop-holds : tie.Need-loop-holds Inv-loop μ-loop
 loop-holds c = (search needs, λ j h. absurd (omega arith))
-
-add-k : tie.Need-add-k Inv-loop μ-loop
-add-k c = omega (arith, c .before .before .shared-slice-known2 .given NEXT)
-
-waits-requires : tie.Need-waits-requires Inv-loop μ-loop
-waits-requires c κs = search needs
 
 returns : tie.Need-returns Inv-loop μ-loop
 unfolding at
 returns c =
     let l = c .before .before .before .loop in
     serve-is (c .before .before .before .before .before .before .args .queue .now) (l .i) (c .before .before .loop-test .taken) (l .inv .1) (sym (c .before .waits .ensures) ∙ c .if1 .taken)
-
-add-i : tie.Need-add-i Inv-loop μ-loop
-add-i c = search needs
-
-loop-less : tie.Need-loop-less Inv-loop μ-loop
-loop-less c = search needs
 
 loop-again : tie.Need-loop-again Inv-loop μ-loop
 unfolding at
@@ -53,7 +35,6 @@ returns-2 c =
     serve-none (c .before .before .before .before .args .queue .now) (l .i) (c .loop-test .left) (l .inv .0) (l .inv .1)
 
 pub to-serve-spec : {M : Type 1} → statement M
-to-serve-spec =
-    tie.close
-    (tie.spec
-    Inv-loop μ-loop shared-slice-read-next cast-next loop-holds add-k waits-requires returns add-i loop-less loop-again returns-2)
+to-serve-spec = tie.close (tie.spec
+    Inv-loop μ-loop (λ c. search needs) (λ c. omega (arith, c .shared-slice-known2 .given NEXT)) loop-holds (λ c. omega (arith, c .before .before .shared-slice-known2 .given NEXT))
+    (λ c κs. search needs) returns (λ c. search needs) (λ c. search needs) loop-again returns-2)

@@ -15,18 +15,6 @@ abbrev μ-loop : tie.MeasureT-loop
 loop-holds : tie.Need-loop-holds Inv-loop μ-loop
 loop-holds c = (omega arith, omega arith, gathered-begin _)
 
-waits-requires : tie.Need-waits-requires Inv-loop μ-loop
-waits-requires c κs = search needs
-
-slot-if-requires : tie.Need-slot-if-requires Inv-loop μ-loop
-slot-if-requires c κs = search needs
-
-add-k : tie.Need-add-k Inv-loop μ-loop
-add-k c = search needs
-
-loop-less : tie.Need-loop-less Inv-loop μ-loop
-loop-less c = search needs
-
 loop-again : tie.Need-loop-again Inv-loop μ-loop
 loop-again c =
     let l = c .before .before .before .loop in
@@ -42,7 +30,4 @@ returns c =
     waiting-is (c .before .before .before .args .queue .now) (l .set) (l .k) (c .loop-test .left) (l .inv .0) (l .inv .1) (l .inv .2)
 
 pub waiting-spec : {M : Type 1} → statement M
-waiting-spec =
-    tie.close
-    (tie.spec
-    Inv-loop μ-loop loop-holds waits-requires slot-if-requires add-k loop-less loop-again returns)
+waiting-spec = tie.close (tie.spec Inv-loop μ-loop loop-holds (λ c κs. search needs) (λ c κs. search needs) (λ c. search needs) (λ c. search needs) loop-again returns)

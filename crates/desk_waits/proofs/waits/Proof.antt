@@ -13,7 +13,4 @@ unfolding at
 returns-2 c = taken-waits (c .before .before .before .args .queue .now) (c .before .before .before .args .k) (c .before .if1 .left)
 
 pub waits-spec : {M : Type 1} → statement M
-waits-spec =
-    tie.close
-    (tie.spec
-    (λ c. search needs) (λ c. search needs) returns (λ c. search needs) (λ c. search needs) returns-2)
+waits-spec = tie.close (tie.spec (λ c. search needs) (λ c. search needs) returns (λ c. search needs) (λ c. search needs) returns-2)

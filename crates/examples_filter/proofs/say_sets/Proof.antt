@@ -12,21 +12,6 @@ abbrev μ-loop : tie.MeasureT-loop
 loop-holds : tie.Need-loop-holds Inv-loop μ-loop
 loop-holds c = search needs
 
-mul-say-set : tie.Need-mul-say-set Inv-loop μ-loop
-mul-say-set c = search needs
-
-shared-slice-read-say-set : tie.Need-shared-slice-read-say-set Inv-loop μ-loop
-shared-slice-read-say-set c = search needs
-
-say-set-requires : tie.Need-say-set-requires Inv-loop μ-loop
-say-set-requires c κs = search needs
-
-add-i : tie.Need-add-i Inv-loop μ-loop
-add-i c = search needs
-
-loop-less : tie.Need-loop-less Inv-loop μ-loop
-loop-less c = search needs
-
 loop-again : tie.Need-loop-again Inv-loop μ-loop
 loop-again c = search needs
 
@@ -34,7 +19,4 @@ returns : tie.Need-returns Inv-loop μ-loop
 returns c = search needs
 
 pub say-sets-spec : {M : Type 1} → statement M
-say-sets-spec =
-    tie.close
-    (tie.spec
-    Inv-loop μ-loop loop-holds mul-say-set shared-slice-read-say-set say-set-requires add-i loop-less loop-again returns)
+say-sets-spec = tie.close (tie.spec Inv-loop μ-loop loop-holds (λ c. search needs) (λ c. search needs) (λ c κs. search needs) (λ c. search needs) (λ c. search needs) loop-again returns)

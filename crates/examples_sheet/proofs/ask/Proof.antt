@@ -2,9 +2,6 @@ use Rattle.model.specs.Kit.{sym, length-take-le, needs}
 use Rattle.examples_sheet.proofs.ask.Statement.{statement}
 use Rattle.examples_sheet.proofs.ask.Tie as tie
 
-slice-aggregate-question : tie.Need-slice-aggregate-question
-slice-aggregate-question c = sym (length-take-le _ _ (c .before .if1 .taken))
-
 returns : tie.Need-returns
 returns c = search needs
 
@@ -15,9 +12,7 @@ returns-3 : tie.Need-returns-3
 returns-3 c = search needs
 
 pub ask-spec : {M : Type 1} → statement M
-ask-spec =
-    tie.close
-    (tie.spec
-    slice-aggregate-question (λ c κs. search needs) (λ c. search needs) (λ c. search needs) (λ c κs. search needs) (λ c. search needs) (λ c. search needs)
-    (λ c κs. search needs) (λ c κs. search needs) (λ c κs. search needs) (λ c. search needs) (λ c κs. search needs) (λ c κs. search needs) (λ c. search needs)
-    (λ c κs. search needs) returns returns-2 returns-3)
+ask-spec = tie.close (tie.spec
+    (λ c. sym (length-take-le _ _ (c .before .if1 .taken))) (λ c κs. search needs) (λ c. search needs) (λ c. search needs) (λ c κs. search needs) (λ c. search needs) (λ c. search needs)
+    (λ c κs. search needs) (λ c κs. search needs) (λ c κs. search needs) (λ c. search needs) (λ c κs. search needs) (λ c κs. search needs) (λ c. search needs) (λ c κs. search needs) returns
+    returns-2 returns-3)

@@ -15,9 +15,6 @@ code-requires c κs =
     let g = c .before .r .given in
     refused-small _ (g .0 .0) (g .0 .1 .0) (refusal-told _ _ _ _ _ (sym (ap means (g .1)) ∙ c .before .before .before .closed .ensures)) (lent-small _ _ _)
 
-three-requires : tie.Need-three-requires
-three-requires c κs = (c .before .before .before .before .if1 .left, omega arith, omega arith, omega arith)
-
 three-requires-2 : tie.Need-three-requires-2
 three-requires-2 c κs =
     let f = told-few _ _ _ _ _ (sym (ap means (c .before .before .r2 .given .1)) ∙ c .before .before .before .before .closed .ensures) in
@@ -43,8 +40,6 @@ returns-4 c =
     (sym (ap means (g .1)) ∙ t .before .before .before .before .before .closed .ensures) refl (t .three2 .ensures)
 
 pub closed-spec : {M : Type 1} → statement M
-closed-spec =
-    tie.close
-    (tie.spec
-    returns (λ c κs. search needs) (λ c. search needs) code-requires (λ c. search needs) three-requires (λ c. search needs) three-requires-2 returns-2
-    (λ c. search needs) returns-3 (λ c. search needs) returns-4)
+closed-spec = tie.close (tie.spec
+    returns (λ c κs. search needs) (λ c. search needs) code-requires (λ c. search needs) (λ c κs. (c .before .before .before .before .if1 .left, omega arith, omega arith, omega arith))
+    (λ c. search needs) three-requires-2 returns-2 (λ c. search needs) returns-3 (λ c. search needs) returns-4)

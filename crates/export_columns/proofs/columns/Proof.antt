@@ -51,8 +51,5 @@ returns-3 c =
     (f .last .1 .1 .0) (t .last .0) (c10 .before .if1 .left) (sym (ap means (g .1)) ∙ f .ensures .0) refl (f .ensures .1) (t .ensures)
 
 pub columns-spec : {M : Type 1} → statement M
-columns-spec =
-    tie.close
-    (tie.spec
-    returns (λ c κs. search needs) (λ c. search needs) code-requires (λ c. search needs) three-requires (λ c. search needs) returns-2 (λ c. search needs)
-    (λ c. search needs) returns-3)
+columns-spec = tie.close (tie.spec
+    returns (λ c κs. search needs) (λ c. search needs) code-requires (λ c. search needs) three-requires (λ c. search needs) returns-2 (λ c. search needs) (λ c. search needs) returns-3)

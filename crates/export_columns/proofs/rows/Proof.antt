@@ -49,8 +49,5 @@ returns-3 c =
     (c10 .before .if1 .left) (sym (ap means (g .1)) ∙ f .ensures .0) refl (f .ensures .1) (t .ensures)
 
 pub rows-spec : {M : Type 1} → statement M
-rows-spec =
-    tie.close
-    (tie.spec
-    returns (λ c κs. search needs) (λ c. search needs) code-requires (λ c. search needs) three-requires (λ c. search needs) returns-2 (λ c. search needs)
-    (λ c. search needs) returns-3)
+rows-spec = tie.close (tie.spec
+    returns (λ c κs. search needs) (λ c. search needs) code-requires (λ c. search needs) three-requires (λ c. search needs) returns-2 (λ c. search needs) (λ c. search needs) returns-3)

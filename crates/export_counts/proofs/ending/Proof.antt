@@ -37,8 +37,5 @@ returns-3 c = c .before .before .told3 .ensures ∙ ap (λ (x : Ending). endingB
     (sym (c .before .before .before .before .before .e3 .given .1))
 
 pub ending-spec : {M : Type 1} → statement M
-ending-spec =
-    tie.close
-    (tie.spec
-    (λ c. search needs) told-requires (λ c. search needs) told-requires-2 (λ c. search needs) told-requires-3 (λ c. search needs) returns (λ c. search needs)
-    returns-2 (λ c. search needs) returns-3)
+ending-spec = tie.close (tie.spec
+    (λ c. search needs) told-requires (λ c. search needs) told-requires-2 (λ c. search needs) told-requires-3 (λ c. search needs) returns (λ c. search needs) returns-2 (λ c. search needs) returns-3)

@@ -16,24 +16,6 @@ loop-holds c =
     let a = c .before .args in
     (omega arith, refl, omega arith, numbers-start (a .out .now) (a .start))
 
-mul-four : tie.Need-mul-four Inv-loop μ-loop
-mul-four c = search needs
-
-array-read-four : tie.Need-array-read-four Inv-loop μ-loop
-array-read-four c = search needs
-
-cast-four : tie.Need-cast-four Inv-loop μ-loop
-cast-four c = search needs
-
-four-requires : tie.Need-four-requires Inv-loop μ-loop
-four-requires c κs = (omega arith, c .before .before .before .before .pre .1 .small (c .before .before .loop .i))
-
-add-i : tie.Need-add-i Inv-loop μ-loop
-add-i c = omega arith
-
-loop-less : tie.Need-loop-less Inv-loop μ-loop
-loop-less c = omega arith
-
 loop-again : tie.Need-loop-again Inv-loop μ-loop
 unfolding fourBytes
 loop-again c =
@@ -46,9 +28,6 @@ loop-again c =
       numbers-turn (s .args .start) (l .loop .i) (s .args .t3) (omega (arith, s .pre .1 .long)) (omega (arith, l .loop .inv .2, l .loop .inv .0, s .pre .0)) (l .loop .inv .3) (w .four .ensures),
     )
 
-same-length : tie.Need-same-length Inv-loop μ-loop
-same-length c = c .before .loop .inv .1
-
 returns : tie.Need-returns Inv-loop μ-loop
 returns c =
     let l = c .before in
@@ -56,7 +35,6 @@ returns c =
     numbers-all (s .args .start) (l .loop .i) (s .args .t3) (s .pre .1 .long) (c .loop-test .left) (l .loop .inv .0) (l .loop .inv .2) (l .loop .inv .3)
 
 pub numbers-spec : {M : Type 1} → statement M
-numbers-spec =
-    tie.close
-    (tie.spec
-    Inv-loop μ-loop loop-holds mul-four array-read-four cast-four four-requires add-i loop-less loop-again same-length returns)
+numbers-spec = tie.close (tie.spec
+    Inv-loop μ-loop loop-holds (λ c. search needs) (λ c. search needs) (λ c. search needs) (λ c κs. (omega arith, c .before .before .before .before .pre .1 .small (c .before .before .loop .i)))
+    (λ c. omega arith) (λ c. omega arith) loop-again (λ c. c .before .loop .inv .1) returns)

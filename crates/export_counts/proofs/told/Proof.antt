@@ -4,9 +4,6 @@ use Rattle.model.specs.Bytes.{fourBytes}
 use Rattle.export_counts.proofs.{Tallied.put-counts, told.Statement.statement}
 use Rattle.export_counts.proofs.told.Tie as tie
 
-four-requires : tie.Need-four-requires
-four-requires c κs = (omega (arith, c .before .before .pre .0), c .before .before .pre .1)
-
 four-requires-2 : tie.Need-four-requires-2
 unfolding fourBytes
 four-requires-2 c κs =
@@ -41,7 +38,4 @@ returns c =
     put-counts (s .args .kind) (s .args .plans) (s .args .nodes) (s .args .counts) (s .pre .0) (s .pre .4 .long) (p .four .ensures) (q .four2 .ensures) (r .four3 .ensures) (n .numbers .ensures)
 
 pub told-spec : {M : Type 1} → statement M
-told-spec =
-    tie.close
-    (tie.spec
-    four-requires four-requires-2 four-requires-3 numbers-requires (λ c. search needs) returns)
+told-spec = tie.close (tie.spec (λ c κs. (omega (arith, c .before .before .pre .0), c .before .before .pre .1)) four-requires-2 four-requires-3 numbers-requires (λ c. search needs) returns)

@@ -38,7 +38,4 @@ returns c =
     put-four (s .args .kind) (s .args .a) (s .args .b) (s .args .c) (s .pre .0) (p .four .ensures) (q .four2 .ensures) (r .four3 .ensures) (t .four4 .ensures)
 
 pub numbers-spec : {M : Type 1} → statement M
-numbers-spec =
-    tie.close
-    (tie.spec
-    (λ c κs. search needs) four-requires-2 four-requires-3 four-requires-4 (λ c. search needs) returns)
+numbers-spec = tie.close (tie.spec (λ c κs. search needs) four-requires-2 four-requires-3 four-requires-4 (λ c. search needs) returns)

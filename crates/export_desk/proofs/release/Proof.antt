@@ -3,8 +3,7 @@ use Rattle.model.specs.Kit.{sym, _∙_, subst, [], needs}
 use Rattle.model.specs.Lists.{at}
 use Rattle.desk.specs.{Queue.QueueReply, Meaning.means}
 use Rattle.export_desk.specs.inner.Fits.{ReplyFits}
-use Rattle.export_desk.proofs.Replies.{code-any, answer-any, holds-any, release-reply, release-short, release-done}
-use Rattle.export_desk.proofs.release.Statement.{statement}
+use Rattle.export_desk.proofs.{Replies.code-any, Replies.answer-any, Replies.holds-any, Replies.release-reply, Replies.release-short, Replies.release-done, release.Statement.statement}
 use Rattle.export_desk.proofs.release.Tie as tie
 
 returns : tie.Need-returns
@@ -33,7 +32,4 @@ returns-2 c =
     (f .ensures .writes) (t .ensures .1 ∙ answer-any (f .result) _ (a .answer .now))
 
 pub release-spec : {M : Type 1} → statement M
-release-spec =
-    tie.close
-    (tie.spec
-    returns (λ c κs. search needs) told-requires (λ c. search needs) (λ c. search needs) (λ c. search needs) returns-2)
+release-spec = tie.close (tie.spec returns (λ c κs. search needs) told-requires (λ c. search needs) (λ c. search needs) (λ c. search needs) returns-2)

@@ -53,8 +53,6 @@ returns-5 : tie.Need-returns-5
 returns-5 c = search needs
 
 pub seen-spec : {M : Type 1} → statement M
-seen-spec =
-    tie.close
-    (tie.spec
-    (λ c. search needs) code-requires (λ c. search needs) (λ c κs. search needs) numbers-requires numbers-requires-2 (λ c. search needs) (λ c. search needs)
-    (λ c. search needs) returns (λ c. search needs) returns-2 returns-3 returns-4 returns-5)
+seen-spec = tie.close (tie.spec
+    (λ c. search needs) code-requires (λ c. search needs) (λ c κs. search needs) numbers-requires numbers-requires-2 (λ c. search needs) (λ c. search needs) (λ c. search needs) returns
+    (λ c. search needs) returns-2 returns-3 returns-4 returns-5)

@@ -30,7 +30,4 @@ returns-2 c =
     (f .ensures .counts) (t .result) (t .last .0) (t .ensures .0) (t .ensures .1)
 
 pub status-spec : {M : Type 1} → statement M
-status-spec =
-    tie.close
-    (tie.spec
-    returns (λ c κs. search needs) seen-requires (λ c. search needs) returns-2)
+status-spec = tie.close (tie.spec returns (λ c κs. search needs) seen-requires (λ c. search needs) returns-2)

@@ -28,7 +28,4 @@ returns-2 c =
     (f .ensures .answers) (t .result) (f .last .0) (t .last .0) (t .ensures .0) (f .ensures .leaves) (t .ensures .1)
 
 pub submit-spec : {M : Type 1} → statement M
-submit-spec =
-    tie.close
-    (tie.spec
-    returns (λ c κs. search needs) told-requires (λ c. search needs) (λ c. search needs) returns-2)
+submit-spec = tie.close (tie.spec returns (λ c κs. search needs) told-requires (λ c. search needs) (λ c. search needs) returns-2)

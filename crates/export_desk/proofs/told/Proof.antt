@@ -82,9 +82,6 @@ returns-5 c =
     )
 
 pub told-spec : {M : Type 1} → statement M
-told-spec =
-    tie.close
-    (tie.spec
-    (λ c. search needs) code-requires (λ c. search needs) three-requires (λ c. search needs) numbers-requires (λ c. search needs) (λ c κs. search needs)
-    numbers-requires-2 (λ c. search needs) three-requires-2 returns (λ c. search needs) returns-2 (λ c. search needs) returns-3 (λ c. search needs) returns-4
-    (λ c. search needs) returns-5)
+told-spec = tie.close (tie.spec
+    (λ c. search needs) code-requires (λ c. search needs) three-requires (λ c. search needs) numbers-requires (λ c. search needs) (λ c κs. search needs) numbers-requires-2 (λ c. search needs)
+    three-requires-2 returns (λ c. search needs) returns-2 (λ c. search needs) returns-3 (λ c. search needs) returns-4 (λ c. search needs) returns-5)

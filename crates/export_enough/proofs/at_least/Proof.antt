@@ -20,7 +20,4 @@ returns-2 c =
     right-size _ _ _ _ _ _ _ _ _ (t .before .before .before .if1 .left) (t .before .before .at-least .ensures) (t .said .ensures .0) (t .said .ensures .1)
 
 pub at-least-spec : {M : Type 1} → statement M
-at-least-spec =
-    tie.close
-    (tie.spec
-    returns (λ c κs. search needs) said-requires (λ c. search needs) returns-2)
+at-least-spec = tie.close (tie.spec returns (λ c κs. search needs) said-requires (λ c. search needs) returns-2)

@@ -5,9 +5,6 @@ use Rattle.export_enough.specs.{Enough.saidCode, Enough.saidBytes, inner
 use Rattle.export_enough.proofs.said.Statement.{statement}
 use Rattle.export_enough.proofs.said.Tie as tie
 
-code-requires : tie.Need-code-requires
-code-requires c κs = subst (λ (z : Enough). SmallSaid (saidEnough z)) (c .before .r .given .1) (c .before .before .before .before .pre .1)
-
 three-requires : tie.Need-three-requires
 three-requires c κs =
     let k = subst (λ (z : Enough). SmallSaid (saidEnough z)) (c .before .before .r2 .given .1) (c .before .before .before .before .before .pre .1) in
@@ -53,8 +50,6 @@ returns-4 c =
     )
 
 pub said-spec : {M : Type 1} → statement M
-said-spec =
-    tie.close
-    (tie.spec
-    (λ c. search needs) code-requires (λ c. search needs) three-requires (λ c. search needs) three-requires-2 (λ c. search needs) three-requires-3 returns
-    (λ c. search needs) returns-2 (λ c. search needs) returns-3 (λ c. search needs) returns-4)
+said-spec = tie.close (tie.spec
+    (λ c. search needs) (λ c κs. subst (λ (z : Enough). SmallSaid (saidEnough z)) (c .before .r .given .1) (c .before .before .before .before .pre .1)) (λ c. search needs) three-requires
+    (λ c. search needs) three-requires-2 (λ c. search needs) three-requires-3 returns (λ c. search needs) returns-2 (λ c. search needs) returns-3 (λ c. search needs) returns-4)

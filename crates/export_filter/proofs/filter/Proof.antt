@@ -52,7 +52,4 @@ returns-3 c =
     }
 
 pub filter-spec : {M : Type 1} → statement M
-filter-spec =
-    tie.close
-    (tie.spec
-    returns returns-2 (λ c. search needs) slice-aggregate-filter-words filter-words-requires (λ c. search needs) returns-3)
+filter-spec = tie.close (tie.spec returns returns-2 (λ c. search needs) slice-aggregate-filter-words filter-words-requires (λ c. search needs) returns-3)

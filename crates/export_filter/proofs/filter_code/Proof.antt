@@ -5,9 +5,6 @@ use Rattle.export_filter.specs.Filter.{filterAnswerCode, SmallAnswer}
 use Rattle.export_filter.proofs.filter_code.Statement.{statement}
 use Rattle.export_filter.proofs.filter_code.Tie as tie
 
-code-requires : tie.Need-code-requires
-code-requires c κs = subst (λ (z : Answer). SmallAnswer (means z)) (c .before .answer .given .1) (c .before .before .before .pre)
-
 returns : tie.Need-returns
 returns c = search needs
 
@@ -21,7 +18,6 @@ returns-4 : tie.Need-returns-4
 returns-4 c = c .code .ensures ∙ ap (λ (z : Answer). filterAnswerCode (means z)) (sym (c .before .before .answer .given .1))
 
 pub filter-code-spec : {M : Type 1} → statement M
-filter-code-spec =
-    tie.close
-    (tie.spec
-    (λ c. search needs) (λ c. search needs) (λ c. search needs) (λ c. search needs) code-requires returns returns-2 returns-3 returns-4)
+filter-code-spec = tie.close (tie.spec
+    (λ c. search needs) (λ c. search needs) (λ c. search needs) (λ c. search needs)
+    (λ c κs. subst (λ (z : Answer). SmallAnswer (means z)) (c .before .answer .given .1) (c .before .before .before .pre)) returns returns-2 returns-3 returns-4)

@@ -32,7 +32,4 @@ returns c =
     (c .filter-code .ensures ∙ ap filterAnswerCode (answer f), c .before .before .before .store .ensures ∙ ap bytesOf left)
 
 pub filter-words-spec : {M : Type 1} → statement M
-filter-words-spec =
-    tie.close
-    (tie.spec
-    (λ c κs. search needs) (λ c κs. search needs) (λ c κs. search needs) filter-code-requires (λ c. search needs) (λ c. search needs) returns)
+filter-words-spec = tie.close (tie.spec (λ c κs. search needs) (λ c κs. search needs) (λ c κs. search needs) filter-code-requires (λ c. search needs) (λ c. search needs) returns)

@@ -50,9 +50,6 @@ returns-4 c =
     (y .put-range .ensures) (z .put-zeros2 .ensures))
 
 pub join-heads-spec : {M : Type 1} → statement M
-join-heads-spec =
-    tie.close
-    (tie.spec
-    returns (λ c κs. search needs) (λ c. search needs) (λ c. search needs) (λ c. search needs) (λ c. search needs) (λ c κs. search needs) (λ c κs. search needs)
-    (λ c κs. search needs) (λ c. search needs) (λ c κs. search needs) put-range-requires (λ c κs. search needs) returns-2 (λ c. search needs) returns-3
-    (λ c. search needs) returns-4)
+join-heads-spec = tie.close (tie.spec
+    returns (λ c κs. search needs) (λ c. search needs) (λ c. search needs) (λ c. search needs) (λ c. search needs) (λ c κs. search needs) (λ c κs. search needs) (λ c κs. search needs)
+    (λ c. search needs) (λ c κs. search needs) put-range-requires (λ c κs. search needs) returns-2 (λ c. search needs) returns-3 (λ c. search needs) returns-4)

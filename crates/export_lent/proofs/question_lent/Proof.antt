@@ -21,7 +21,4 @@ unfolding lentQuestionCode
 returns-2 c = c .code .ensures ∙ ap codeOf (sym (ap means (c .before .before .answer .given .1)) ∙ c .before .before .before .before .question .ensures)
 
 pub question-lent-spec : {M : Type 1} → statement M
-question-lent-spec =
-    tie.close
-    (tie.spec
-    (λ c κs. search needs) (λ c. search needs) (λ c. search needs) code-requires returns returns-2)
+question-lent-spec = tie.close (tie.spec (λ c κs. search needs) (λ c. search needs) (λ c. search needs) code-requires returns returns-2)

@@ -7,8 +7,7 @@ use Rattle.run.specs.Meaning.{means}
 use Rattle.export_run.specs.Run.{endingBytes}
 use Rattle.export_counts.specs.Tallied.{numbersOf}
 use Rattle.wire.proofs.Codes.{refused-small}
-use Rattle.export_lent.proofs.Lent.{lent-small, refusal-lent-of, counted-lent, wrong-answer, right-answer, counts-of, counts-fit}
-use Rattle.export_lent.proofs.run_lent.Statement.{statement}
+use Rattle.export_lent.proofs.{Lent.lent-small, Lent.refusal-lent-of, Lent.counted-lent, Lent.wrong-answer, Lent.right-answer, Lent.counts-of, Lent.counts-fit, run_lent.Statement.statement}
 use Rattle.export_lent.proofs.run_lent.Tie as tie
 
 returns : tie.Need-returns
@@ -58,8 +57,5 @@ returns-3 c =
     (c10 .before .before .before .if1 .left) so refl (f .ensures .1) (t .ensures ∙ ap (λ (l : List ℕ). endingBytes (endingOf (g .0 .0)) ++ numbersOf l) same)
 
 pub run-lent-spec : {M : Type 1} → statement M
-run-lent-spec =
-    tie.close
-    (tie.spec
-    returns (λ c κs. search needs) (λ c. search needs) code-requires (λ c. search needs) ending-requires (λ c. search needs) returns-2 (λ c. search needs)
-    (λ c. search needs) returns-3)
+run-lent-spec = tie.close (tie.spec
+    returns (λ c κs. search needs) (λ c. search needs) code-requires (λ c. search needs) ending-requires (λ c. search needs) returns-2 (λ c. search needs) (λ c. search needs) returns-3)

@@ -18,9 +18,6 @@ code-requires c κs =
     let said = sym (ap means (g .1)) ∙ c .before .before .before .before .before .merge .ensures .answers in
     omega (arith, merge-item _ _ _ _ _ (g .0 .0) (g .0 .1 .0) (refused-is _ (merged _ _ _ _) (g .0 .0) (g .0 .1 .0) said))
 
-three-requires : tie.Need-three-requires
-three-requires c κs = (c .before .before .before .before .before .before .before .before .if1 .left, omega arith, omega arith, omega arith)
-
 returns-2 : tie.Need-returns-2
 returns-2 c =
     let c10 = c .before .before .before .before .before .before .before .before .before .before in
@@ -41,8 +38,7 @@ returns-3 c =
     (sym (ap means (g .1)) ∙ f .ensures .answers) refl (f .ensures .leaves) (t .ensures)
 
 pub merge-spec : {M : Type 1} → statement M
-merge-spec =
-    tie.close
-    (tie.spec
-    returns (λ c κs. search needs) (λ c. search needs) code-requires (λ c. search needs) three-requires (λ c. search needs) returns-2 (λ c. search needs)
+merge-spec = tie.close (tie.spec
+    returns (λ c κs. search needs) (λ c. search needs) code-requires (λ c. search needs)
+    (λ c κs. (c .before .before .before .before .before .before .before .before .if1 .left, omega arith, omega arith, omega arith)) (λ c. search needs) returns-2 (λ c. search needs)
     (λ c. search needs) returns-3)

@@ -6,8 +6,7 @@ use Rattle.run.specs.Meaning.{means}
 use Rattle.run_state.specs.Meaning.{endingOf}
 use Rattle.wire.proofs.Codes.{refused-small}
 use Rattle.export_lent.proofs.Lent.{lent-small}
-use Rattle.export_parts.proofs.Answered.{refusal-of, counted, counts-fit, wrong-answer, right-answer, pieces}
-use Rattle.export_parts.proofs.run_part.Statement.{statement}
+use Rattle.export_parts.proofs.{Answered.refusal-of, Answered.counted, Answered.counts-fit, Answered.wrong-answer, Answered.right-answer, Answered.pieces, run_part.Statement.statement}
 use Rattle.export_parts.proofs.run_part.Tie as tie
 
 returns : tie.Need-returns
@@ -69,8 +68,6 @@ returns-3 c =
     (ap (λ (t : Tally). t .counts) (f .ensures .counts)) (f .ensures .stands) (u .put-ending .ensures) (v .put-name .ensures) (w .put-paths .ensures))
 
 pub run-part-spec : {M : Type 1} → statement M
-run-part-spec =
-    tie.close
-    (tie.spec
-    returns (λ c κs. search needs) (λ c. search needs) code-requires (λ c. search needs) put-ending-requires (λ c κs. search needs) slice-aggregate-put-paths
-    (λ c κs. search needs) (λ c. search needs) returns-2 (λ c. search needs) (λ c. search needs) returns-3)
+run-part-spec = tie.close (tie.spec
+    returns (λ c κs. search needs) (λ c. search needs) code-requires (λ c. search needs) put-ending-requires (λ c κs. search needs) slice-aggregate-put-paths (λ c κs. search needs)
+    (λ c. search needs) returns-2 (λ c. search needs) (λ c. search needs) returns-3)

@@ -12,14 +12,10 @@ returns c =
     let r = c .before .before .sheet-report in
     subst (λ (b : List ℕ). Fitted (a .out .now) (reportFor (verdictOf b) b) (r .last .1 .0) (r .result)) (sym (take-all 65536 (a .input .now) (i .if1 .taken))) (r .ensures)
 
-slice-aggregate-sheet-report : tie.Need-slice-aggregate-sheet-report
-slice-aggregate-sheet-report c = sym (length-take-le _ (c .before .before .before .before .args .input .now) (omega (arith, c .before .if1 .left)))
-
 returns-2 : tie.Need-returns-2
 returns-2 c = c .before .before .sheet-report2 .ensures
 
 pub input-report-spec : {M : Type 1} → statement M
-input-report-spec =
-    tie.close
-    (tie.spec
-    (λ c κs. search needs) (λ c. search needs) returns slice-aggregate-sheet-report (λ c κs. search needs) (λ c. search needs) returns-2)
+input-report-spec = tie.close (tie.spec
+    (λ c κs. search needs) (λ c. search needs) returns (λ c. sym (length-take-le _ (c .before .before .before .before .args .input .now) (omega (arith, c .before .if1 .left))))
+    (λ c κs. search needs) (λ c. search needs) returns-2)

@@ -25,7 +25,4 @@ returns-3 c =
     (omega (arith, j .if2 .left, r .input-report .kept .1 .0)) (t .three .last .0) (t .three .ensures)
 
 pub write-report-spec : {M : Type 1} → statement M
-write-report-spec =
-    tie.close
-    (tie.spec
-    returns (λ c κs. search needs) (λ c. search needs) returns-2 (λ c κs. search needs) (λ c. search needs) (λ c. search needs) returns-3)
+write-report-spec = tie.close (tie.spec returns (λ c κs. search needs) (λ c. search needs) returns-2 (λ c κs. search needs) (λ c. search needs) (λ c. search needs) returns-3)

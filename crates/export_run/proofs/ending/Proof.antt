@@ -33,8 +33,6 @@ returns-3 : tie.Need-returns-3
 returns-3 c = c .before .before .three3 .ensures ∙ ap (λ (x : Ending). endingBytes (endingOf x)) (sym (c .before .before .before .before .before .e3 .given .1))
 
 pub ending-spec : {M : Type 1} → statement M
-ending-spec =
-    tie.close
-    (tie.spec
-    (λ c. search needs) three-requires (λ c. search needs) three-requires-2 (λ c. search needs) three-requires-3 (λ c. search needs) returns (λ c. search needs)
-    returns-2 (λ c. search needs) returns-3)
+ending-spec = tie.close (tie.spec
+    (λ c. search needs) three-requires (λ c. search needs) three-requires-2 (λ c. search needs) three-requires-3 (λ c. search needs) returns (λ c. search needs) returns-2 (λ c. search needs)
+    returns-3)

@@ -23,7 +23,4 @@ unfolding questionCode
 returns-2 c = c .code .ensures ∙ ap codeOf (sym (ap means (c .before .before .answer .given .1)) ∙ c .before .before .before .before .question .ensures)
 
 pub question-spec : {M : Type 1} → statement M
-question-spec =
-    tie.close
-    (tie.spec
-    (λ c κs. search needs) (λ c. search needs) (λ c. search needs) code-requires returns returns-2)
+question-spec = tie.close (tie.spec (λ c κs. search needs) (λ c. search needs) (λ c. search needs) code-requires returns returns-2)

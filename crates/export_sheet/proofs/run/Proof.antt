@@ -49,8 +49,5 @@ returns-3 c =
     (sym (f .ensures .answers) ∙ ap means (g .1)) refl (f .ensures .leaves) (t .ensures)
 
 pub run-spec : {M : Type 1} → statement M
-run-spec =
-    tie.close
-    (tie.spec
-    returns (λ c κs. search needs) (λ c. search needs) code-requires (λ c. search needs) ending-requires (λ c. search needs) returns-2 (λ c. search needs)
-    (λ c. search needs) returns-3)
+run-spec = tie.close (tie.spec
+    returns (λ c κs. search needs) (λ c. search needs) code-requires (λ c. search needs) ending-requires (λ c. search needs) returns-2 (λ c. search needs) (λ c. search needs) returns-3)

@@ -43,8 +43,5 @@ returns-3 c =
     answered (a .k) (a .out .now) (a .answer .now) (wrote (g .0 .0)) 0 _ _ (c10 .before .if1 .left) (sym (ap means (g .1)) ∙ s .ensures .0) refl (s .ensures .1) (c .before .before .three .ensures)
 
 pub small-sheet-spec : {M : Type 1} → statement M
-small-sheet-spec =
-    tie.close
-    (tie.spec
-    returns (λ c κs. search needs) (λ c. search needs) code-requires (λ c. search needs) three-requires (λ c. search needs) returns-2 (λ c. search needs)
-    (λ c. search needs) returns-3)
+small-sheet-spec = tie.close (tie.spec
+    returns (λ c κs. search needs) (λ c. search needs) code-requires (λ c. search needs) three-requires (λ c. search needs) returns-2 (λ c. search needs) (λ c. search needs) returns-3)

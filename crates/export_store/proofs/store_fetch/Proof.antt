@@ -28,7 +28,4 @@ returns-2 c =
     (t .result) (t .last .0) (t .ensures .0) (t .ensures .1) (f .last .1 .1 .1 .0) (f .ensures .1)
 
 pub store-fetch-spec : {M : Type 1} → statement M
-store-fetch-spec =
-    tie.close
-    (tie.spec
-    returns (λ c κs. search needs) told-requires (λ c. search needs) (λ c. search needs) returns-2)
+store-fetch-spec = tie.close (tie.spec returns (λ c κs. search needs) told-requires (λ c. search needs) (λ c. search needs) returns-2)

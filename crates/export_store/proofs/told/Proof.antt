@@ -6,9 +6,6 @@ use Rattle.export_store.specs.inner.Fits.{OutcomeFits}
 use Rattle.export_store.proofs.told.Statement.{statement}
 use Rattle.export_store.proofs.told.Tie as tie
 
-code-requires : tie.Need-code-requires
-code-requires c κs = subst (λ (q : Answer). OutcomeFits (means q)) (c .before .r .given .1) (c .before .before .before .before .pre .1)
-
 three-requires : tie.Need-three-requires
 three-requires c κs = (
   c .before .before .before .before .before .pre .0,
@@ -32,7 +29,6 @@ returns-2 c =
     )
 
 pub told-spec : {M : Type 1} → statement M
-told-spec =
-    tie.close
-    (tie.spec
-    (λ c. search needs) code-requires (λ c. search needs) three-requires returns (λ c. search needs) returns-2)
+told-spec = tie.close (tie.spec
+    (λ c. search needs) (λ c κs. subst (λ (q : Answer). OutcomeFits (means q)) (c .before .r .given .1) (c .before .before .before .before .pre .1)) (λ c. search needs) three-requires returns
+    (λ c. search needs) returns-2)

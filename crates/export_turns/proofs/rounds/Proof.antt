@@ -31,8 +31,6 @@ returns-3 c =
     rounded (a .queue .now) (a .turns) (a .answer .now) (c10 .before .if1 .left) _ (sym e ∙ f .ensures .answers) 0 (f .last .0) (t .last .0) refl (f .ensures .leaves) (t .ensures)
 
 pub rounds-spec : {M : Type 1} → statement M
-rounds-spec =
-    tie.close
-    (tie.spec
-    returns (λ c κs. search needs) (λ c. search needs) code-requires (λ c. search needs) (λ c. search needs) (λ c. search needs) (λ c κs. search needs)
-    (λ c. search needs) returns-2 (λ c. search needs) (λ c. search needs) returns-3)
+rounds-spec = tie.close (tie.spec
+    returns (λ c κs. search needs) (λ c. search needs) code-requires (λ c. search needs) (λ c. search needs) (λ c. search needs) (λ c κs. search needs) (λ c. search needs) returns-2
+    (λ c. search needs) (λ c. search needs) returns-3)

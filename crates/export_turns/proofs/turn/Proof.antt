@@ -27,7 +27,4 @@ returns-2 c =
     (f .last .0) (t .last .0) (t .ensures .0) (f .ensures .leaves) (t .ensures .1)
 
 pub turn-spec : {M : Type 1} → statement M
-turn-spec =
-    tie.close
-    (tie.spec
-    returns (λ c κs. search needs) told-requires (λ c. search needs) (λ c. search needs) returns-2)
+turn-spec = tie.close (tie.spec returns (λ c κs. search needs) told-requires (λ c. search needs) (λ c. search needs) returns-2)

@@ -2,8 +2,8 @@
 use Rattle.model.specs.Kit.{_≡_, sym, subst, ℕ, _+_, _-_, _*_, _/_, _%_, _^_, _≤_, _<_, arith, length}
 use Rattle.model.specs.{Lists.at, Problem.Problem}
 use Rattle.families.specs.inner.Numbered.{Imaging, Weighed}
-use Rattle.families.proofs.{Keys.digit-small, Rows.Carrying, Rows.sent, Rows.imaging-bounds, Rows.imaging-value, Rows.imaging-index, Rows.imaging-variable}
-use Rattle.families.proofs.{Rows.carrying-begin, Rows.carrying-small, Rows.carrying-turn, Rows.carrying-end, carry.Statement.statement}
+use Rattle.families.proofs.Rows.{Carrying, sent, imaging-bounds, imaging-value, imaging-index, imaging-variable, carrying-begin, carrying-small, carrying-turn, carrying-end}
+use Rattle.families.proofs.{Keys.digit-small, carry.Statement.statement}
 use Rattle.families.proofs.carry.Tie as tie
 
 abbrev Inv-loop : tie.InvT-loop
@@ -40,26 +40,8 @@ adds c = c .before .before .pre .2 (code c) (omega (arith, facts c))
 small : (c : tie.In-loop Inv-loop μ-loop) → digit c < 281474976710656
 small c = digit-small (c .before .before .args .variables) (code c / 16) (code c % 16) (facts c .3) (omega arith)
 
-mul-base : tie.Need-mul-base Inv-loop μ-loop
-mul-base c = omega (arith, imaging-bounds (c .pre .1))
-
-mul-from : tie.Need-mul-from Inv-loop μ-loop
-mul-from c = omega (arith, imaging-bounds (c .pre .1))
-
 loop-holds : tie.Need-loop-holds Inv-loop μ-loop
 loop-holds c = λ p a w. carrying-begin a
-
-mul-code : tie.Need-mul-code Inv-loop μ-loop
-mul-code c = omega (arith, imaging-bounds (c .before .before .pre .1))
-
-add-code : tie.Need-add-code Inv-loop μ-loop
-add-code c = omega (arith, imaging-bounds (c .before .before .pre .1))
-
-add-code-2 : tie.Need-add-code-2 Inv-loop μ-loop
-add-code-2 c = omega (arith, imaging-bounds (c .before .before .pre .1))
-
-shared-slice-read-code : tie.Need-shared-slice-read-code Inv-loop μ-loop
-shared-slice-read-code c = omega (arith, imaging-bounds (c .before .before .before .pre .1))
 
 cast-code : tie.Need-cast-code Inv-loop μ-loop
 unfolding at
@@ -89,12 +71,6 @@ add-r : tie.Need-add-r Inv-loop μ-loop
 unfolding at
 add-r c = let i = c .before .before .before in omega (arith, facts i, adds i, small i)
 
-add-x : tie.Need-add-x Inv-loop μ-loop
-add-x c = omega arith
-
-loop-less : tie.Need-loop-less Inv-loop μ-loop
-loop-less c = omega arith
-
 loop-again : tie.Need-loop-again Inv-loop μ-loop
 unfolding at
 loop-again c =
@@ -107,8 +83,8 @@ returns : tie.Need-returns Inv-loop μ-loop
 returns c = λ p a w. carrying-end (c .before .loop .inv p a w) (c .loop-test .left)
 
 pub carry-spec : {M : Type 1} → statement M
-carry-spec =
-    tie.close
-    (tie.spec
-    Inv-loop μ-loop mul-base mul-from loop-holds mul-code add-code add-code-2 shared-slice-read-code cast-code add-code-3 shared-slice-read-code-2 cast-r mul-r
-    element-copy-out-r add-r add-x loop-less loop-again returns)
+carry-spec = tie.close (tie.spec
+    Inv-loop μ-loop (λ c. omega (arith, imaging-bounds (c .pre .1))) (λ c. omega (arith, imaging-bounds (c .pre .1))) loop-holds (λ c. omega (arith, imaging-bounds (c .before .before .pre .1)))
+    (λ c. omega (arith, imaging-bounds (c .before .before .pre .1))) (λ c. omega (arith, imaging-bounds (c .before .before .pre .1)))
+    (λ c. omega (arith, imaging-bounds (c .before .before .before .pre .1))) cast-code add-code-3 shared-slice-read-code-2 cast-r mul-r element-copy-out-r add-r (λ c. omega arith) (λ c. omega arith)
+    loop-again returns)

@@ -2,8 +2,8 @@
 use Rattle.model.specs.Kit.{refl, ⊎-elim, _-_, arith}
 use Rattle.model.specs.{Lists.at, Problem.Problem}
 use Rattle.families.specs.inner.Numbered.{Counted}
-use Rattle.families.proofs.{Rows.listed-twelve, Chains.unlinked-begin, Turns.Counting, Turns.finder-made, Turns.counting-begin, Turns.counting-bounds, Turns.counting-room}
-use Rattle.families.proofs.{Turns.counting-start, Turns.counting-flooded, Turns.counting-known, Turns.counting-end, families.Statement.statement}
+use Rattle.families.proofs.Turns.{Counting, finder-made, counting-begin, counting-bounds, counting-room, counting-start, counting-flooded, counting-known, counting-end}
+use Rattle.families.proofs.{Rows.listed-twelve, Chains.unlinked-begin, families.Statement.statement}
 use Rattle.families.proofs.families.Tie as tie
 
 abbrev Inv-loop : tie.InvT-loop
@@ -25,46 +25,16 @@ At-turn c =
 counting : (c : tie.In-loop Inv-loop μ-loop) → At-turn c
 counting c = let r = c .before .before .before .before .before .before .before .before .before .pre in c .before .loop .inv (r .0) (r .1)
 
-fill-requires : tie.Need-fill-requires Inv-loop μ-loop
-fill-requires c κs = let r = c .before .before .before .before .pre in (r .0, r .1 .lent .listed, r .1 .every, refl, unlinked-begin)
-
-weigh-requires : tie.Need-weigh-requires Inv-loop μ-loop
-weigh-requires c κs = let r = c .before .before .before .before .before .before .pre in (listed-twelve (r .1 .lent .listed), refl)
-
 loop-holds : tie.Need-loop-holds Inv-loop μ-loop
 loop-holds c = λ p n. counting-begin n (finder-made n (c .before .before .fill .ensures p (n .lent .listed) (n .every) unlinked-begin) (c .weigh .ensures))
-
-array-read-if1 : tie.Need-array-read-if1 Inv-loop μ-loop
-array-read-if1 c = omega (arith, counting-bounds (counting c))
-
-array-write-seen : tie.Need-array-write-seen Inv-loop μ-loop
-array-write-seen c = omega (arith, counting-bounds (counting (c .before)))
-
-cast-queue : tie.Need-cast-queue Inv-loop μ-loop
-cast-queue c = omega (arith, counting-bounds (counting (c .before)))
-
-mul-queue : tie.Need-mul-queue Inv-loop μ-loop
-mul-queue c = omega (arith, counting-bounds (counting (c .before)))
 
 array-write-queue : tie.Need-array-write-queue Inv-loop μ-loop
 unfolding at
 array-write-queue c = let i = c .before in counting-room (counting i) (i .loop-test .taken) (c .if1 .taken)
 
-add-count : tie.Need-add-count Inv-loop μ-loop
-add-count c = omega (arith, counting-bounds (counting (c .before)))
-
-add-flood : tie.Need-add-flood Inv-loop μ-loop
-add-flood c = omega (arith, counting-bounds (counting (c .before .before .before .before .before .before)))
-
 flood-requires : tie.Need-flood-requires Inv-loop μ-loop
 unfolding at
 flood-requires c κs = let i = c .before .before .before .before .before .before in (_, _, _, counting-start (counting i) (i .loop-test .taken) (c .before .before .before .before .before .if1 .taken))
-
-add-i : tie.Need-add-i Inv-loop μ-loop
-add-i c = omega (arith, counting-bounds (counting (c .before)))
-
-loop-less : tie.Need-loop-less Inv-loop μ-loop
-loop-less c = omega arith
 
 loop-again : tie.Need-loop-again Inv-loop μ-loop
 unfolding at
@@ -79,8 +49,9 @@ returns : tie.Need-returns Inv-loop μ-loop
 returns c = λ p n. counting-end (c .before .loop .inv p n) (c .loop-test .left)
 
 pub families-spec : {M : Type 1} → statement M
-families-spec =
-    tie.close
-    (tie.spec
-    Inv-loop μ-loop fill-requires weigh-requires loop-holds array-read-if1 array-write-seen cast-queue mul-queue array-write-queue add-count add-flood
-    flood-requires add-i loop-less loop-again returns)
+families-spec = tie.close (tie.spec
+    Inv-loop μ-loop (λ c κs. let r = c .before .before .before .before .pre in (r .0, r .1 .lent .listed, r .1 .every, refl, unlinked-begin))
+    (λ c κs. let r = c .before .before .before .before .before .before .pre in (listed-twelve (r .1 .lent .listed), refl)) loop-holds (λ c. omega (arith, counting-bounds (counting c)))
+    (λ c. omega (arith, counting-bounds (counting (c .before)))) (λ c. omega (arith, counting-bounds (counting (c .before)))) (λ c. omega (arith, counting-bounds (counting (c .before))))
+    array-write-queue (λ c. omega (arith, counting-bounds (counting (c .before)))) (λ c. omega (arith, counting-bounds (counting (c .before .before .before .before .before .before)))) flood-requires
+    (λ c. omega (arith, counting-bounds (counting (c .before)))) (λ c. omega arith) loop-again returns)

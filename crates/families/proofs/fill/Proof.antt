@@ -2,8 +2,7 @@
 use Rattle.model.specs.Kit.{_≡_, _∙_, subst, _+_, _*_, _-_, _%_, _≤_, _<_, arith, length, length-set}
 use Rattle.model.specs.{Lists.at, Problem.Problem}
 use Rattle.families.specs.{Families.solutionsOf, inner.Numbered.Chained, inner.Numbered.Unlinked, inner.Numbered.Listed}
-use Rattle.families.proofs.{Keys.key-small, Rows.listed-twelve, Rows.listed-row, Rows.listed-small, Chains.chained-begin, Chains.chained-link, Chains.chained-turn}
-use Rattle.families.proofs.fill.Statement.{statement}
+use Rattle.families.proofs.{Keys.key-small, Rows.listed-twelve, Rows.listed-row, Rows.listed-small, Chains.chained-begin, Chains.chained-link, Chains.chained-turn, fill.Statement.statement}
 use Rattle.families.proofs.fill.Tie as tie
 
 abbrev Inv-loop : tie.InvT-loop
@@ -47,21 +46,6 @@ link c =
 loop-holds : tie.Need-loop-holds Inv-loop μ-loop
 loop-holds c = (omega arith, c .before .pre .3, c .before .pre .4 .size, λ p a e u. chained-begin u)
 
-mul-key : tie.Need-mul-key Inv-loop μ-loop
-mul-key c = omega (arith, bounds c)
-
-key-requires : tie.Need-key-requires Inv-loop μ-loop
-key-requires c κs = let r = c .before .before .before .pre in (bounds c .2, listed-twelve (r .1), listed-small (r .1) (c .before .loop .i) (bounds c .0))
-
-mul-keys : tie.Need-mul-keys Inv-loop μ-loop
-mul-keys c = omega (arith, short c)
-
-mul-keys-2 : tie.Need-mul-keys-2 Inv-loop μ-loop
-mul-keys-2 c = omega arith
-
-element-copy-out-keys : tie.Need-element-copy-out-keys Inv-loop μ-loop
-element-copy-out-keys c = omega arith
-
 cast-keys : tie.Need-cast-keys Inv-loop μ-loop
 unfolding at
 cast-keys c = omega (arith, link (c .before))
@@ -69,30 +53,6 @@ cast-keys c = omega (arith, link (c .before))
 add-keys : tie.Need-add-keys Inv-loop μ-loop
 unfolding at
 add-keys c = omega (arith, short (c .before), link (c .before))
-
-mul-keys-3 : tie.Need-mul-keys-3 Inv-loop μ-loop
-mul-keys-3 c = omega (arith, bounds (c .before .before))
-
-element-write-keys : tie.Need-element-write-keys Inv-loop μ-loop
-element-write-keys c = bounds (c .before .before) .1
-
-add-heads : tie.Need-add-heads Inv-loop μ-loop
-add-heads c = omega (arith, bounds (c .before .before))
-
-cast-heads : tie.Need-cast-heads Inv-loop μ-loop
-cast-heads c = omega (arith, bounds (c .before .before))
-
-mul-heads : tie.Need-mul-heads Inv-loop μ-loop
-mul-heads c = omega arith
-
-element-write-heads : tie.Need-element-write-heads Inv-loop μ-loop
-element-write-heads c = omega arith
-
-add-i : tie.Need-add-i Inv-loop μ-loop
-add-i c = omega (arith, bounds (c .before .before))
-
-loop-less : tie.Need-loop-less Inv-loop μ-loop
-loop-less c = omega arith
 
 loop-again : tie.Need-loop-again Inv-loop μ-loop
 unfolding at
@@ -117,8 +77,8 @@ returns c =
     λ p a e u. subst (Chained p (l .keys) (l .heads)) (let z : l .i ≡ c .before .before .before .args .solutions = omega arith in z) (l .inv .3 p a e u)
 
 pub fill-spec : {M : Type 1} → statement M
-fill-spec =
-    tie.close
-    (tie.spec
-    Inv-loop μ-loop loop-holds mul-key key-requires mul-keys mul-keys-2 element-copy-out-keys cast-keys add-keys mul-keys-3 element-write-keys add-heads
-    cast-heads mul-heads element-write-heads add-i loop-less loop-again returns)
+fill-spec = tie.close (tie.spec
+    Inv-loop μ-loop loop-holds (λ c. omega (arith, bounds c))
+    (λ c κs. let r = c .before .before .before .pre in (bounds c .2, listed-twelve (r .1), listed-small (r .1) (c .before .loop .i) (bounds c .0))) (λ c. omega (arith, short c)) (λ c. omega arith)
+    (λ c. omega arith) cast-keys add-keys (λ c. omega (arith, bounds (c .before .before))) (λ c. bounds (c .before .before) .1) (λ c. omega (arith, bounds (c .before .before)))
+    (λ c. omega (arith, bounds (c .before .before))) (λ c. omega arith) (λ c. omega arith) (λ c. omega (arith, bounds (c .before .before))) (λ c. omega arith) loop-again returns)

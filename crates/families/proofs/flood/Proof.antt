@@ -27,15 +27,6 @@ spreading c = let r = c .before .before .before .before .pre in flooding-spread 
 loop-holds : tie.Need-loop-holds Inv-loop μ-loop
 loop-holds c = λ p starts count f. f
 
-spread-requires : tie.Need-spread-requires Inv-loop μ-loop
-spread-requires c κs = let i = c .before .before in (_, _, _, spreading i)
-
-add-first : tie.Need-add-first Inv-loop μ-loop
-add-first c = omega (arith, spread-head (spreading (c .before .before .before)))
-
-loop-less : tie.Need-loop-less Inv-loop μ-loop
-loop-less c = omega (arith, spread-head (spreading (c .before .before .before)))
-
 loop-again : tie.Need-loop-again Inv-loop μ-loop
 loop-again c =
     let i = c .before .before .before in λ p starts count f.
@@ -46,7 +37,6 @@ returns : tie.Need-returns Inv-loop μ-loop
 returns c = λ p starts count f. flooding-end (c .before .loop .inv p starts count f) (c .loop-test .left)
 
 pub flood-spec : {M : Type 1} → statement M
-flood-spec =
-    tie.close
-    (tie.spec
-    Inv-loop μ-loop loop-holds spread-requires add-first loop-less loop-again returns)
+flood-spec = tie.close (tie.spec
+    Inv-loop μ-loop loop-holds (λ c κs. let i = c .before .before in (_, _, _, spreading i)) (λ c. omega (arith, spread-head (spreading (c .before .before .before))))
+    (λ c. omega (arith, spread-head (spreading (c .before .before .before)))) loop-again returns)

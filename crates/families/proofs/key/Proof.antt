@@ -22,27 +22,6 @@ loop-holds : tie.Need-loop-holds Inv-loop μ-loop
 unfolding keyOf
 loop-holds c = (omega arith, refl)
 
-mul-r : tie.Need-mul-r Inv-loop μ-loop
-mul-r c = omega (arith, short c)
-
-add-r : tie.Need-add-r Inv-loop μ-loop
-add-r c = omega arith
-
-shared-slice-read-r : tie.Need-shared-slice-read-r Inv-loop μ-loop
-shared-slice-read-r c = omega arith
-
-cast-r : tie.Need-cast-r Inv-loop μ-loop
-cast-r c = omega (arith, c .shared-slice-known .given (c .before .before .before .args .from + c .before .before .loop .x))
-
-add-r-2 : tie.Need-add-r-2 Inv-loop μ-loop
-add-r-2 c = omega (arith, short (c .before), c .shared-slice-known .given (c .before .before .before .args .from + c .before .before .loop .x))
-
-add-x : tie.Need-add-x Inv-loop μ-loop
-add-x c = omega arith
-
-loop-less : tie.Need-loop-less Inv-loop μ-loop
-loop-less c = omega arith
-
 loop-again : tie.Need-loop-again Inv-loop μ-loop
 unfolding at
 loop-again c =
@@ -58,7 +37,8 @@ returns c =
     l .inv .1 ∙ ap (λ (n : ℕ). keyOf n (λ x. at (a .rows .now) (a .from + x))) (let z : l .x ≡ a .variables = omega arith in z)
 
 pub key-spec : {M : Type 1} → statement M
-key-spec =
-    tie.close
-    (tie.spec
-    Inv-loop μ-loop loop-holds mul-r add-r shared-slice-read-r cast-r add-r-2 add-x loop-less loop-again returns)
+key-spec = tie.close (tie.spec
+    Inv-loop μ-loop loop-holds (λ c. omega (arith, short c)) (λ c. omega arith) (λ c. omega arith)
+    (λ c. omega (arith, c .shared-slice-known .given (c .before .before .before .args .from + c .before .before .loop .x)))
+    (λ c. omega (arith, short (c .before), c .shared-slice-known .given (c .before .before .before .args .from + c .before .before .loop .x))) (λ c. omega arith) (λ c. omega arith) loop-again
+    returns)

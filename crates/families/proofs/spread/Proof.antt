@@ -2,8 +2,8 @@
 use Rattle.model.specs.Kit.{⊎-elim, ℕ, _-_, _≤_, _<_, arith, getD}
 use Rattle.model.specs.{Lists.at, Problem.Problem}
 use Rattle.families.specs.inner.Numbered.{Spreading}
-use Rattle.families.proofs.Turns.{Turning, spread-head, turning-begin, turning-tail, turning-end, turning-numbering, turning-small, turning-room, turning-pushed}
-use Rattle.families.proofs.{Turns.turning-stayed, spread.Statement.statement}
+use Rattle.families.proofs.Turns.{Turning, spread-head, turning-begin, turning-tail, turning-end, turning-numbering, turning-small, turning-room, turning-pushed, turning-stayed}
+use Rattle.families.proofs.spread.Statement.{statement}
 use Rattle.families.proofs.spread.Tie as tie
 
 abbrev Inv-loop : tie.InvT-loop
@@ -50,18 +50,6 @@ image-requires : tie.Need-image-requires Inv-loop μ-loop
 unfolding at
 image-requires c κs = (_, turning-numbering (turning c) (c .loop-test .taken))
 
-element-copy-out-if1 : tie.Need-element-copy-out-if1 Inv-loop μ-loop
-element-copy-out-if1 c = small c
-
-element-write-seen : tie.Need-element-write-seen Inv-loop μ-loop
-element-write-seen c = small (c .before .before)
-
-cast-queue : tie.Need-cast-queue Inv-loop μ-loop
-cast-queue c = omega (arith, small (c .before .before))
-
-mul-queue : tie.Need-mul-queue Inv-loop μ-loop
-mul-queue c = omega (arith, turning-tail (turning (c .before .before .before)))
-
 element-write-queue : tie.Need-element-write-queue Inv-loop μ-loop
 unfolding at
 element-write-queue c =
@@ -69,15 +57,6 @@ element-write-queue c =
     let t = turning i in
     let l = i .loop-test .taken in
     turning-room t l (c .before .before .image .ensures _ (turning-numbering t l)) (c .if1 .taken)
-
-add-end : tie.Need-add-end Inv-loop μ-loop
-add-end c = omega (arith, turning-tail (turning (c .before .before .before)))
-
-add-k : tie.Need-add-k Inv-loop μ-loop
-add-k c = omega arith
-
-loop-less : tie.Need-loop-less Inv-loop μ-loop
-loop-less c = omega arith
 
 loop-again : tie.Need-loop-again Inv-loop μ-loop
 unfolding at
@@ -95,8 +74,7 @@ returns : tie.Need-returns Inv-loop μ-loop
 returns c = λ p starts count s. turning-end (c .before .loop .inv .1 p starts count s) (omega arith)
 
 pub spread-spec : {M : Type 1} → statement M
-spread-spec =
-    tie.close
-    (tie.spec
-    Inv-loop μ-loop mul-i element-copy-out-i cast-i loop-holds image-requires element-copy-out-if1 element-write-seen cast-queue mul-queue element-write-queue
-    add-end add-k loop-less loop-again returns)
+spread-spec = tie.close (tie.spec
+    Inv-loop μ-loop mul-i element-copy-out-i cast-i loop-holds image-requires (λ c. small c) (λ c. small (c .before .before)) (λ c. omega (arith, small (c .before .before)))
+    (λ c. omega (arith, turning-tail (turning (c .before .before .before)))) element-write-queue (λ c. omega (arith, turning-tail (turning (c .before .before .before)))) (λ c. omega arith)
+    (λ c. omega arith) loop-again returns)

@@ -11,35 +11,8 @@ Inv-loop variables weights₀ end c₀ weights c = (c ≤ end) × (length weight
 abbrev μ-loop : tie.MeasureT-loop
 μ-loop variables weights₀ end c₀ weights c = end - c
 
-mul-end : tie.Need-mul-end Inv-loop μ-loop
-mul-end c = omega (arith, c .pre .0)
-
 loop-holds : tie.Need-loop-holds Inv-loop μ-loop
 loop-holds c = (omega arith, c .pre .1, λ d l. absurd (omega arith))
-
-sub-weights : tie.Need-sub-weights Inv-loop μ-loop
-sub-weights c = omega arith
-
-sub-weights-2 : tie.Need-sub-weights-2 Inv-loop μ-loop
-sub-weights-2 c = omega arith
-
-mul-weights : tie.Need-mul-weights Inv-loop μ-loop
-mul-weights c = omega (arith, c .before .before .pre .0)
-
-shl-weights : tie.Need-shl-weights Inv-loop μ-loop
-shl-weights c = omega (arith, c .before .before .pre .0)
-
-mul-weights-2 : tie.Need-mul-weights-2 Inv-loop μ-loop
-mul-weights-2 c = omega (arith, c .before .before .pre .0)
-
-element-write-weights : tie.Need-element-write-weights Inv-loop μ-loop
-element-write-weights c = omega (arith, c .before .before .pre .0)
-
-add-c : tie.Need-add-c Inv-loop μ-loop
-add-c c = omega (arith, c .before .before .pre .0)
-
-loop-less : tie.Need-loop-less Inv-loop μ-loop
-loop-less c = omega arith
 
 loop-again : tie.Need-loop-again Inv-loop μ-loop
 unfolding at
@@ -58,7 +31,6 @@ returns : tie.Need-returns Inv-loop μ-loop
 returns c = λ d l. c .before .loop .inv .2 d (omega arith)
 
 pub weigh-spec : {M : Type 1} → statement M
-weigh-spec =
-    tie.close
-    (tie.spec
-    Inv-loop μ-loop mul-end loop-holds sub-weights sub-weights-2 mul-weights shl-weights mul-weights-2 element-write-weights add-c loop-less loop-again returns)
+weigh-spec = tie.close (tie.spec
+    Inv-loop μ-loop (λ c. omega (arith, c .pre .0)) loop-holds (λ c. omega arith) (λ c. omega arith) (λ c. omega (arith, c .before .before .pre .0)) (λ c. omega (arith, c .before .before .pre .0))
+    (λ c. omega (arith, c .before .before .pre .0)) (λ c. omega (arith, c .before .before .pre .0)) (λ c. omega (arith, c .before .before .pre .0)) (λ c. omega arith) loop-again returns)

@@ -7,12 +7,6 @@ use Rattle.sheet.proofs.Whole.{zeros}
 use Rattle.families_closed.proofs.{Testing.passed-of, Testing.told-for, closed.Statement.statement}
 use Rattle.families_closed.proofs.closed.Tie as tie
 
-ask-requires : tie.Need-ask-requires
-ask-requires c κs = (zeros NUMBERS, zeros SUPPORTS, refl, refl)
-
-test-requires : tie.Need-test-requires
-test-requires c κs = (_, _, passed-of _ _ _ _ _ _ _ _ (c .before .before .before .before .ask .ensures) (c .before .before .enum-told .given .1))
-
 returns : tie.Need-returns
 returns c =
     let g = c .before .asked .given in
@@ -25,7 +19,6 @@ returns-2 c =
     told-for _ _ _ _ _ _ _ _ a accepted _ (ap means e) (c .test .ensures _ _ (passed-of _ _ _ _ _ _ _ _ a e))
 
 pub closed-spec : {M : Type 1} → statement M
-closed-spec =
-    tie.close
-    (tie.spec
-    ask-requires (λ c. search needs) (λ c. search needs) test-requires returns returns-2)
+closed-spec = tie.close (tie.spec
+    (λ c κs. (zeros NUMBERS, zeros SUPPORTS, refl, refl)) (λ c. search needs) (λ c. search needs)
+    (λ c κs. (_, _, passed-of _ _ _ _ _ _ _ _ (c .before .before .before .before .ask .ensures) (c .before .before .enum-told .given .1))) returns returns-2)

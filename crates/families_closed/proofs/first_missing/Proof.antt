@@ -2,8 +2,7 @@
 use Rattle.model.specs.Kit.{_≡_, refl, sym, _∙_, true, ℕ, _-_, _*_, _/_, _%_, _≤_, _<_, arith, needs, length}
 use Rattle.model.specs.Problem.{Problem}
 use Rattle.families_closed.specs.{Open.made, inner.Held.Held}
-use Rattle.families_closed.proofs.{Open.not-true, Open.not-false, Open.pair-parts, Open.missing-found, Open.missing-all, Codes.and-last, Codes.square-few}
-use Rattle.families_closed.proofs.first_missing.Statement.{statement}
+use Rattle.families_closed.proofs.{Open.not-true, Open.not-false, Open.pair-parts, Open.missing-found, Open.missing-all, Codes.and-last, Codes.square-few, first_missing.Statement.statement}
 use Rattle.families_closed.proofs.first_missing.Tie as tie
 
 abbrev Inv-loop : tie.InvT-loop
@@ -14,17 +13,8 @@ Inv-loop images variables values symmetries all k₀ k =
 abbrev μ-loop : tie.MeasureT-loop
 μ-loop images variables values symmetries all k₀ k = all - k
 
-mul-all : tie.Need-mul-all Inv-loop μ-loop
-mul-all c = omega (arith, square-few (c .pre .1) (c .pre .2))
-
 loop-holds : tie.Need-loop-holds Inv-loop μ-loop
 loop-holds c = (omega arith, refl, λ p n e j l. absurd (omega arith))
-
-div-is-made : tie.Need-div-is-made Inv-loop μ-loop
-div-is-made c = pair-parts (c .before .before .args .symmetries) (c .before .loop .k) (omega arith) .0
-
-rem-is-made : tie.Need-rem-is-made Inv-loop μ-loop
-rem-is-made c = pair-parts (c .before .before .args .symmetries) (c .before .loop .k) (omega arith) .0
 
 is-made-requires : tie.Need-is-made-requires Inv-loop μ-loop
 is-made-requires c κs =
@@ -37,12 +27,6 @@ returns c = λ p n e.
     let q = pair-parts (c .before .before .before .before .args .symmetries) (c .before .before .before .loop .k) (omega arith) in
     missing-found p _ (c .before .before .before .loop .k) e (omega arith) (c .before .before .before .loop .inv .2 p n e)
     (sym (c .before .is-made .ensures p n e (q .1) (q .2)) ∙ not-true (c .before .is-made .result) (c .if1 .taken))
-
-add-k : tie.Need-add-k Inv-loop μ-loop
-add-k c = let r = c .before .before .before .before .pre in omega (arith, square-few (r .1) (r .2))
-
-loop-less : tie.Need-loop-less Inv-loop μ-loop
-loop-less c = search needs
 
 loop-again : tie.Need-loop-again Inv-loop μ-loop
 loop-again c = (
@@ -58,7 +42,7 @@ returns-2 : tie.Need-returns-2 Inv-loop μ-loop
 returns-2 c = λ p n e. missing-all p _ (c .before .loop .k) e (omega arith) (c .before .loop .inv .2 p n e)
 
 pub first-missing-spec : {M : Type 1} → statement M
-first-missing-spec =
-    tie.close
-    (tie.spec
-    Inv-loop μ-loop mul-all loop-holds div-is-made rem-is-made is-made-requires returns add-k loop-less loop-again returns-2)
+first-missing-spec = tie.close (tie.spec
+    Inv-loop μ-loop (λ c. omega (arith, square-few (c .pre .1) (c .pre .2))) loop-holds (λ c. pair-parts (c .before .before .args .symmetries) (c .before .loop .k) (omega arith) .0)
+    (λ c. pair-parts (c .before .before .args .symmetries) (c .before .loop .k) (omega arith) .0) is-made-requires returns
+    (λ c. let r = c .before .before .before .before .pre in omega (arith, square-few (r .1) (r .2))) (λ c. search needs) loop-again returns-2)

@@ -13,7 +13,4 @@ unfolding at
 returns c = search needs
 
 pub goes-spec : {M : Type 1} → statement M
-goes-spec =
-    tie.close
-    (tie.spec
-    (λ c. search needs) (λ c. search needs) (λ c. search needs) cast-result returns)
+goes-spec = tie.close (tie.spec (λ c. search needs) (λ c. search needs) (λ c. search needs) cast-result returns)

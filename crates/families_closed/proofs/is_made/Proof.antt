@@ -14,27 +14,15 @@ Inv-loop images variables values symmetries a b c₀ c =
 abbrev μ-loop : tie.MeasureT-loop
 μ-loop images variables values symmetries a b c₀ c = symmetries - c
 
-moves-none-requires : tie.Need-moves-none-requires Inv-loop μ-loop
-moves-none-requires c κs = let r = c .pre in (r .0, r .1, omega (arith, r .2, r .3), omega (arith, r .2, r .4))
-
 returns : tie.Need-returns Inv-loop μ-loop
 returns c = λ p n e la lb. made-still p _ _ (sym (c .if1 .taken) ∙ c .before .moves-none .ensures p n (omega (arith, e)) (omega (arith, e)))
 
 loop-holds : tie.Need-loop-holds Inv-loop μ-loop
 loop-holds c = (omega arith, λ p n e la lb k l. absurd (omega arith))
 
-makes-one-requires : tie.Need-makes-one-requires Inv-loop μ-loop
-makes-one-requires c κs = let r = c .before .before .before .before .pre in (r .0, r .1, omega (arith, r .2, r .3), omega (arith, r .2, r .4), omega (arith, r .2))
-
 returns-2 : tie.Need-returns-2 Inv-loop μ-loop
 returns-2 c = λ p n e la lb. made-one p _ _ (c .before .before .before .loop .c) (omega (arith, e))
     (sym (c .if2 .taken) ∙ c .before .makes-one .ensures p n (omega (arith, e)) (omega (arith, e)) (omega (arith, e)))
-
-add-c : tie.Need-add-c Inv-loop μ-loop
-add-c c = search needs
-
-loop-less : tie.Need-loop-less Inv-loop μ-loop
-loop-less c = search needs
 
 loop-again : tie.Need-loop-again Inv-loop μ-loop
 loop-again c = (
@@ -48,7 +36,7 @@ returns-3 c = λ p n e la lb. made-not p _ _ (sym (c .before .before .if1 .left)
     (λ k l. c .before .loop .inv .1 p n e la lb k (omega (arith, e, l)))
 
 pub is-made-spec : {M : Type 1} → statement M
-is-made-spec =
-    tie.close
-    (tie.spec
-    Inv-loop μ-loop moves-none-requires returns loop-holds makes-one-requires returns-2 add-c loop-less loop-again returns-3)
+is-made-spec = tie.close (tie.spec
+    Inv-loop μ-loop (λ c κs. let r = c .pre in (r .0, r .1, omega (arith, r .2, r .3), omega (arith, r .2, r .4))) returns loop-holds
+    (λ c κs. let r = c .before .before .before .before .pre in (r .0, r .1, omega (arith, r .2, r .3), omega (arith, r .2, r .4), omega (arith, r .2))) returns-2 (λ c. search needs)
+    (λ c. search needs) loop-again returns-3)

@@ -14,14 +14,8 @@ Inv-loop images variables values a b c size q₀ q =
 abbrev μ-loop : tie.MeasureT-loop
 μ-loop images variables values a b c size q₀ q = size - q
 
-mul-size : tie.Need-mul-size Inv-loop μ-loop
-mul-size c = omega (arith, held-size (c .pre .1))
-
 loop-holds : tie.Need-loop-holds Inv-loop μ-loop
 loop-holds c = (omega arith, refl, λ p n la lb lc k l. absurd (omega arith))
-
-code-requires : tie.Need-code-requires Inv-loop μ-loop
-code-requires c κs = let r = c .before .before .pre .1 in (held-bounds r .0, omega (arith, held-size r))
 
 goes-requires : tie.Need-goes-requires Inv-loop μ-loop
 goes-requires c κs =
@@ -49,12 +43,6 @@ returns c = λ p n la lb lc.
     agree-not n _ _ la lb q _ l y _ (c .before .goes3 .result) (goes-is n _ lc q _ (c .before .goes3 .result) l (c .before .before .before .before .code .ensures) (c .before .goes3 .ensures))
     (c .if1 .taken)
 
-add-q : tie.Need-add-q Inv-loop μ-loop
-add-q c = omega (arith, held-size (c .before .before .before .before .before .before .before .pre .1))
-
-loop-less : tie.Need-loop-less Inv-loop μ-loop
-loop-less c = search needs
-
 loop-again : tie.Need-loop-again Inv-loop μ-loop
 loop-again c = (
   omega arith,
@@ -73,7 +61,6 @@ returns-2 : tie.Need-returns-2 Inv-loop μ-loop
 returns-2 c = λ p n la lb lc. agree-all n _ _ la lb _ (c .before .loop .q) (omega arith) (c .before .loop .inv .2 p n la lb lc)
 
 pub makes-one-spec : {M : Type 1} → statement M
-makes-one-spec =
-    tie.close
-    (tie.spec
-    Inv-loop μ-loop mul-size loop-holds code-requires goes-requires goes-requires-2 goes-requires-3 returns add-q loop-less loop-again returns-2)
+makes-one-spec = tie.close (tie.spec
+    Inv-loop μ-loop (λ c. omega (arith, held-size (c .pre .1))) loop-holds (λ c κs. let r = c .before .before .pre .1 in (held-bounds r .0, omega (arith, held-size r))) goes-requires goes-requires-2
+    goes-requires-3 returns (λ c. omega (arith, held-size (c .before .before .before .before .before .before .before .pre .1))) (λ c. search needs) loop-again returns-2)

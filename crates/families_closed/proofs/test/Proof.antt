@@ -7,9 +7,6 @@ use Rattle.run_input.specs.Lent.{problemWith}
 use Rattle.families_closed.proofs.{Testing.imaged-of, Testing.block-passed, Testing.held-of, test.Statement.statement}
 use Rattle.families_closed.proofs.test.Tie as tie
 
-widen-requires : tie.Need-widen-requires
-widen-requires c κs = zeros WIDE .sized
-
 put-images-requires : tie.Need-put-images-requires
 put-images-requires c κs =
     let w = c .before in
@@ -39,7 +36,4 @@ returns c = λ b pairs h.
     c .two-of .ensures p (t .put .all) (c .before .first-missing .ensures p (held-of _ _ _ _ _ h _ _ _ t) (t .put .all))
 
 pub test-spec : {M : Type 1} → statement M
-test-spec =
-    tie.close
-    (tie.spec
-    widen-requires put-images-requires (λ c. search needs) (λ c. search needs) first-missing-requires two-of-requires returns)
+test-spec = tie.close (tie.spec (λ c κs. zeros WIDE .sized) put-images-requires (λ c. search needs) (λ c. search needs) first-missing-requires two-of-requires returns)

@@ -1,6 +1,6 @@
 -- The first two whose product is missing, of a problem; of a caller it is in specs/Calls. The proofs are in proofs/Open.antt.
 use Rattle.model.specs.Kit.{_≡_, _↔_, ℕ}
-use Rattle.model.specs.{Problem.Problem}
+use Rattle.model.specs.Problem.{Problem}
 use Rattle.families.specs.Families.{Closed}
 use Rattle.families_closed.specs.Open.{firstOpen, FirstOpen, none, two}
 

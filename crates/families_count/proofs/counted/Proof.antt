@@ -35,7 +35,4 @@ returns c = λ b pairs block h.
     counted-so _ _ _ _ _ _ _ _ _ _ h _ _ r _ _ (c .before .figure .ensures _ _ _ h r)
 
 pub counted-spec : {M : Type 1} → statement M
-counted-spec =
-    tie.close
-    (tie.spec
-    (λ c. search needs) mul-used (λ c κs. search needs) array-borrow-prefix-list slice-aggregate-figure figure-requires returns)
+counted-spec = tie.close (tie.spec (λ c. search needs) mul-used (λ c κs. search needs) array-borrow-prefix-list slice-aggregate-figure figure-requires returns)

@@ -7,9 +7,6 @@ use Rattle.sheet.proofs.Whole.{zeros}
 use Rattle.families_count.proofs.{Images.asked-so, Bare.new-whole, Bare.counted-refused, families.Statement.statement}
 use Rattle.families_count.proofs.families.Tie as tie
 
-ask-requires : tie.Need-ask-requires
-ask-requires c κs = (zeros NUMBERS, zeros SUPPORTS, zeros IMAGES .sized, zeros 16 .sized)
-
 put-images-requires : tie.Need-put-images-requires
 unfolding at
 put-images-requires c κs =
@@ -42,7 +39,6 @@ returns-2 : tie.Need-returns-2
 returns-2 c = counted-refused _ _ _ _ _ _ (sym (ap means (c .before .verdict .given .1)) ∙ c .before .before .before .ask .ensures .answers)
 
 pub families-spec : {M : Type 1} → statement M
-families-spec =
-    tie.close
-    (tie.spec
-    ask-requires (λ c. search needs) put-images-requires slice-aggregate-counted counted-requires (λ c. search needs) returns returns-2)
+families-spec = tie.close (tie.spec
+    (λ c κs. (zeros NUMBERS, zeros SUPPORTS, zeros IMAGES .sized, zeros 16 .sized)) (λ c. search needs) put-images-requires slice-aggregate-counted counted-requires (λ c. search needs) returns
+    returns-2)

@@ -30,7 +30,4 @@ returns-2 c = λ b pairs block h r.
     bare-number _ _ _ _ _ _ _ _ _ _ h _ _ r _ _ _ _ _ _ _ _ _ g s _ (c .families .ensures _ k)
 
 pub figure-spec : {M : Type 1} → statement M
-figure-spec =
-    tie.close
-    (tie.spec
-    (λ c. search needs) (λ c. search needs) run-arrays-requires (λ c. search needs) returns (λ c. search needs) families-requires (λ c. search needs) returns-2)
+figure-spec = tie.close (tie.spec (λ c. search needs) (λ c. search needs) run-arrays-requires (λ c. search needs) returns (λ c. search needs) families-requires (λ c. search needs) returns-2)

@@ -43,7 +43,4 @@ returns-2 c = λ b a.
     (put-same _ _ _ _ _ _ _ a _ _ t (search needs), t .sized)
 
 pub put-images-spec : {M : Type 1} → statement M
-put-images-spec =
-    tie.close
-    (tie.spec
-    widen-requires put-images-requires (λ c. search needs) reorder-requires returns returns-2)
+put-images-spec = tie.close (tie.spec widen-requires put-images-requires (λ c. search needs) reorder-requires returns returns-2)

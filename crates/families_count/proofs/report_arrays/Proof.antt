@@ -58,8 +58,5 @@ returns c = λ b k.
     (c .report-figure .ensures _ s) _ refl (w .run-arrays .kept .1 .1 .1 .1 .1 .1 .1 .0)
 
 pub report-arrays-spec : {M : Type 1} → statement M
-report-arrays-spec =
-    tie.close
-    (tie.spec
-    (λ c. search needs) mul-used slice-relend-prefix-run-arrays slice-aggregate-run-arrays run-arrays-requires answered-requires report-figure-requires
-    (λ c. search needs) returns)
+report-arrays-spec = tie.close (tie.spec
+    (λ c. search needs) mul-used slice-relend-prefix-run-arrays slice-aggregate-run-arrays run-arrays-requires answered-requires report-figure-requires (λ c. search needs) returns)

@@ -21,7 +21,4 @@ unfolding at
 returns-3 c = λ b h. report-told _ _ (h .verdict) _ (c .counted .ensures _ _ _ (listed-whole _ _ _ _ _ _ _ _ _ h))
 
 pub report-figure-spec : {M : Type 1} → statement M
-report-figure-spec =
-    tie.close
-    (tie.spec
-    returns (λ c. search needs) (λ c. search needs) returns-2 counted-requires returns-3)
+report-figure-spec = tie.close (tie.spec returns (λ c. search needs) (λ c. search needs) returns-2 counted-requires returns-3)

@@ -6,9 +6,6 @@ use Rattle.families_count.proofs.{ReportRuns.new-arrays, ReportRuns.acc
 use Rattle.arrays.specs.inner.Places.{IMAGES, NUMBERS, SUPPORTS}
 use Rattle.families_count.proofs.report_run.Tie as tie
 
-compile-requires : tie.Need-compile-requires
-compile-requires c κs = (zeros NUMBERS, zeros SUPPORTS, zeros IMAGES .sized)
-
 report-arrays-requires : tie.Need-report-arrays-requires
 report-arrays-requires c κs =
     let t = c .before .before .before .before .before .before .before in
@@ -23,7 +20,5 @@ returns-2 : tie.Need-returns-2
 returns-2 c = report-refused _ _ _ _ _ _ (sym (ap means (c .before .verdict .given .1)) ∙ c .before .before .before .compile .ensures .answers)
 
 pub report-run-spec : {M : Type 1} → statement M
-report-run-spec =
-    tie.close
-    (tie.spec
-    compile-requires (λ c. search needs) report-arrays-requires (λ c. search needs) (λ c. search needs) returns returns-2)
+report-run-spec = tie.close (tie.spec
+    (λ c κs. (zeros NUMBERS, zeros SUPPORTS, zeros IMAGES .sized)) (λ c. search needs) report-arrays-requires (λ c. search needs) (λ c. search needs) returns returns-2)

@@ -34,7 +34,4 @@ returns c = λ p h.
     runs-so _ _ _ _ _ _ _ _ h (a .args .limit) _ (s .put-bounds .ensures) (a .fits .limit .fits) _ _ _ _ _ (g .begin .ensures _ _ _ l) _ _ _ _ _ (w .walk-tree .ensures)
 
 pub run-arrays-spec : {M : Type 1} → statement M
-run-arrays-spec =
-    tie.close
-    (tie.spec
-    (λ c κs. search needs) (λ c κs. search needs) begin-requires walk-tree-requires (λ c. search needs) returns)
+run-arrays-spec = tie.close (tie.spec (λ c κs. search needs) (λ c κs. search needs) begin-requires walk-tree-requires (λ c. search needs) returns)

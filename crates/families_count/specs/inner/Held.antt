@@ -1,7 +1,6 @@
 -- What the functions are lent and leave.
 use Rattle.model.specs.Kit.{_≡_, List, ℕ, _*_, _≤_, _<_, length, take}
-use Rattle.model.specs.{Lists.at, Problem.Problem, inner.WellFormed.Respected, Verdict.accepted, Sheet.verdictOf, Sheet.problemOf, Run.plansIn, Run.nodesIn, Run.resultOf, Run.written}
-use Rattle.model.specs.Run.{Tally}
+use Rattle.model.specs.{Lists.at, Problem.Problem, inner.WellFormed.Respected, Verdict.accepted, Sheet.verdictOf, Sheet.problemOf, Run.plansIn, Run.nodesIn, Run.resultOf, Run.written, Run.Tally}
 use Rattle.run_input.specs.{Lent.verdictLent, Lent.problemLent, inner.Compile.WithinLimits}
 use Rattle.arrays.specs.{inner.Places.LIMIT, inner.Places.PLANS, inner.Places.NUMBERS, inner.Layout.Compiled}
 use Rattle.run_state.specs.inner.Walk.{stopIn}

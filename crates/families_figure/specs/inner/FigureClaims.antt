@@ -4,8 +4,7 @@ use Rattle.model.specs.{Problem.isSolution, Verdict.accepted, Sheet.headerOf, S
 use Rattle.order.specs.RunBy.{resultBy}
 use Rattle.run_input.specs.Lent.{verdictLent, problemWith, orderLent, answerLent, listLent, plansLent}
 use Rattle.families.specs.Families.{FamilyCount, Closed, familiesOf}
-use Rattle.families_figure.specs.Figure.{problemBare, bareSheet, number, dash, familiesLent}
-use Rattle.families_figure.specs.FigureClaims.{OneListedEach}
+use Rattle.families_figure.specs.{Figure.problemBare, Figure.bareSheet, Figure.number, Figure.dash, Figure.familiesLent, FigureClaims.OneListedEach}
 
 -- ---- the figure
 -- the run that is lent the block, and the bare one, ended so

@@ -1,8 +1,8 @@
 -- `filter::resolve` meets its contract: by recursion, where what is left of the entries falls. Assumes nothing.
 use Rattle.model.specs.Kit.{ℕ, _+_, _-_, _<_, arith, length, now, needs}
+use Rattle.model.specs.Lists.{at}
 use borrow.Fn.Kinds.{In}
 use borrow.Fn.PlainCycle.{Measures, is, falls, and}
-use Rattle.model.specs.Lists.{at}
 use Rattle.filter.specs.inner.Lists.{AtSplit, PassResult}
 use Rattle.filter.proofs.Splits.{split-asks, split-ready, resolved-gone, resolved-end, next-split, next-later, resolved-changed, resolved-consistent, resolved-again}
 use Rattle.filter.proofs.{+resolve.statement, +resolve.Tie.close}

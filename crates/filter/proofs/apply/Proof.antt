@@ -17,9 +17,6 @@ scanned c =
     c .propagate .ensures (length (s .args .sets .now)) (load-ready (s .args .sets .now) (entries (s .args .index .now) (s .args .equal .now) (s .args .not-equal .now)) (l .last .1 .0) (l .result)
     (l .ensures) (c .before .before .if1 .left) (s .pre .1))
 
-load-requires : tie.Need-load-requires
-load-requires c κs = (search needs, refl, ones-small 16)
-
 returns : tie.Need-returns
 returns c =
     let a = c .before .before .before .before .before .before .before .before .before .before .before .before .args in
@@ -81,8 +78,6 @@ returns-4 c =
     (p .propagate .last .0) (p .propagate .result) (scanned p) (c .before .before .before .before .before .enum-told3 .given .1) (c .before .before .store2 .ensures)
 
 pub apply-spec : {M : Type 1} → statement M
-apply-spec =
-    tie.close
-    (tie.spec
-    load-requires (λ c κs. search needs) (λ c. search needs) returns propagate-requires (λ c. search needs) (λ c κs. search needs) (λ c. search needs)
-    store-requires (λ c. search needs) store-requires-2 (λ c. search needs) returns-2 (λ c. search needs) returns-3 (λ c. search needs) returns-4)
+apply-spec = tie.close (tie.spec
+    (λ c κs. (search needs, refl, ones-small 16)) (λ c κs. search needs) (λ c. search needs) returns propagate-requires (λ c. search needs) (λ c κs. search needs) (λ c. search needs) store-requires
+    (λ c. search needs) store-requires-2 (λ c. search needs) returns-2 (λ c. search needs) returns-3 (λ c. search needs) returns-4)

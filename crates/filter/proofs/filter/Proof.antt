@@ -18,7 +18,4 @@ returns-2 c = let a = c .before .before .before .before .before .before .before 
     after-refused (a .sets .now) (a .index .now) (a .equal .now) (a .not-equal .now) (q .result) (q .ensures) (g .0 .0) (g .0 .1 .0) (g .1)
 
 pub filter-spec : {M : Type 1} → statement M
-filter-spec =
-    tie.close
-    (tie.spec
-    (λ c κs. search needs) (λ c. search needs) apply-requires (λ c. search needs) (λ c. search needs) returns (λ c. search needs) returns-2)
+filter-spec = tie.close (tie.spec (λ c κs. search needs) (λ c. search needs) apply-requires (λ c. search needs) (λ c. search needs) returns (λ c. search needs) returns-2)

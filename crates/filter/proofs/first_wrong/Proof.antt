@@ -13,18 +13,6 @@ abbrev μ-loop : tie.MeasureT-loop
 loop-holds : tie.Need-loop-holds Inv-loop μ-loop
 loop-holds c = (search needs, λ k l. absurd (not-suc-le-zero l))
 
-shared-slice-read-right : tie.Need-shared-slice-read-right Inv-loop μ-loop
-shared-slice-read-right c = search needs
-
-shared-slice-read-right-2 : tie.Need-shared-slice-read-right-2 Inv-loop μ-loop
-shared-slice-read-right-2 c = search needs
-
-shared-slice-read-right-3 : tie.Need-shared-slice-read-right-3 Inv-loop μ-loop
-shared-slice-read-right-3 c = search needs
-
-right-requires : tie.Need-right-requires Inv-loop μ-loop
-right-requires c κs = search needs
-
 returns : tie.Need-returns Inv-loop μ-loop
 unfolding at
 returns c =
@@ -32,12 +20,6 @@ returns c =
     let l = c .before .before .before .before .before .before .loop in
     wrong-at (a .n) (a .index .now) (a .equal .now) (a .not-equal .now) (l .i) (c .before .before .before .before .before .loop-test .taken) (l .inv .1)
     (sym (c .before .right .ensures) ∙ not-true (c .before .right .result) (c .if1 .taken))
-
-add-i : tie.Need-add-i Inv-loop μ-loop
-add-i c = search needs
-
-loop-less : tie.Need-loop-less Inv-loop μ-loop
-loop-less c = search needs
 
 loop-again : tie.Need-loop-again Inv-loop μ-loop
 unfolding at
@@ -56,8 +38,5 @@ returns-2 c =
     wrong-none (a .n) (a .index .now) (a .equal .now) (a .not-equal .now) (l .i) (c .loop-test .left) (l .inv .0) (l .inv .1)
 
 pub first-wrong-spec : {M : Type 1} → statement M
-first-wrong-spec =
-    tie.close
-    (tie.spec
-    Inv-loop μ-loop loop-holds shared-slice-read-right shared-slice-read-right-2 shared-slice-read-right-3 right-requires returns add-i loop-less loop-again
-    returns-2)
+first-wrong-spec = tie.close (tie.spec
+    Inv-loop μ-loop loop-holds (λ c. search needs) (λ c. search needs) (λ c. search needs) (λ c κs. search needs) returns (λ c. search needs) (λ c. search needs) loop-again returns-2)

@@ -14,32 +14,11 @@ abbrev μ-loop : tie.MeasureT-loop
 loop-holds : tie.Need-loop-holds Inv-loop μ-loop
 loop-holds c = (search needs, filled-begin (λ k. k) (Copied (c .before .args .source .now)) (c .before .args .target .now))
 
-mul-t5 : tie.Need-mul-t5 Inv-loop μ-loop
-mul-t5 c = search needs
-
-shared-slice-read-t8 : tie.Need-shared-slice-read-t8 Inv-loop μ-loop
-shared-slice-read-t8 c = search needs
-
-is-empty-requires : tie.Need-is-empty-requires Inv-loop μ-loop
-is-empty-requires c κs = search needs
-
 returns : tie.Need-returns Inv-loop μ-loop
 unfolding at
 returns c =
     let l = c .before .before .before .before .loop in
     (l .i, c .before .before .before .loop-test .taken, eqb-true _ 0 (sym (c .before .is-empty .ensures) ∙ c .if1 .taken))
-
-mul-target : tie.Need-mul-target Inv-loop μ-loop
-mul-target c = search needs
-
-element-write-target : tie.Need-element-write-target Inv-loop μ-loop
-element-write-target c = search needs
-
-add-i : tie.Need-add-i Inv-loop μ-loop
-add-i c = search needs
-
-loop-less : tie.Need-loop-less Inv-loop μ-loop
-loop-less c = search needs
 
 loop-again : tie.Need-loop-again Inv-loop μ-loop
 unfolding at
@@ -59,7 +38,6 @@ returns-2 c =
     (c .before .before .before .pre .2)
 
 pub load-spec : {M : Type 1} → statement M
-load-spec =
-    tie.close
-    (tie.spec
-    Inv-loop μ-loop loop-holds mul-t5 shared-slice-read-t8 is-empty-requires returns mul-target element-write-target add-i loop-less loop-again returns-2)
+load-spec = tie.close (tie.spec
+    Inv-loop μ-loop loop-holds (λ c. search needs) (λ c. search needs) (λ c κs. search needs) returns (λ c. search needs) (λ c. search needs) (λ c. search needs) (λ c. search needs) loop-again
+    returns-2)

@@ -1,7 +1,7 @@
 -- `filter::propagate` meets its contract. Assumes nothing.
 use Rattle.model.specs.Kit.{_≡_, subst, Bool, List, ℕ, needs}
-use Rattle.filter.proofs.{Splits.propagate-failed, Splits.propagate-end, Splits.propagate-at-split, Splits.propagate-split, propagate.Statement.statement}
 use Rattle.model.specs.Nogood.{Entry}
+use Rattle.filter.proofs.{Splits.propagate-failed, Splits.propagate-end, Splits.propagate-at-split, Splits.propagate-split, propagate.Statement.statement}
 use Rattle.filter.specs.inner.Scan.{Resolved}
 use Rattle.filter.proofs.propagate.Tie as tie
 
@@ -38,7 +38,4 @@ returns-4 c = λ n w.
     (c .before .resolve .ensures n (propagate-at-split w (p .pass .last .0) (p .pass .result) h (d .0 .0) (d .1))))
 
 pub propagate-spec : {M : Type 1} → statement M
-propagate-spec =
-    tie.close
-    (tie.spec
-    (λ c κs. search needs) (λ c. search needs) (λ c. search needs) (λ c. search needs) resolve-requires returns returns-2 returns-3 returns-4)
+propagate-spec = tie.close (tie.spec (λ c κs. search needs) (λ c. search needs) (λ c. search needs) (λ c. search needs) resolve-requires returns returns-2 returns-3 returns-4)

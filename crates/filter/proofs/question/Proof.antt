@@ -17,9 +17,6 @@ returns-2 c =
     (⊎-elim (λ w. other-others (a .sets .now) (a .index .now) (a .equal .now) (a .not-equal .now) (search needs) (search needs) (eqb-false _ _ (not-true _ (w .1 .taken))))
     (λ w. long-lists (a .sets .now) (a .index .now) (a .equal .now) (a .not-equal .now) (search needs) (search needs) (ltb-true _ _ (w .2 .taken)))) (c .if3 .came)
 
-first-wrong-requires : tie.Need-first-wrong-requires
-first-wrong-requires c κs = (c .before .before .if3 .left, eqb-true _ _ (not-false _ (c .before .if4 .left)))
-
 returns-3 : tie.Need-returns-3
 returns-3 c =
     let a = c .before .before .before .before .before .before .before .before .before .before .before .args in
@@ -35,4 +32,4 @@ returns-4 c =
     (c .if6 .left)
 
 pub question-spec : {M : Type 1} → statement M
-question-spec = tie.close (tie.spec returns returns-2 first-wrong-requires returns-3 returns-4)
+question-spec = tie.close (tie.spec returns returns-2 (λ c κs. (c .before .before .if3 .left, eqb-true _ _ (not-false _ (c .before .if4 .left)))) returns-3 returns-4)

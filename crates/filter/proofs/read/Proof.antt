@@ -5,18 +5,6 @@ use Rattle.filter.specs.inner.Scan.{Stepped}
 use Rattle.filter.proofs.{Marks.reads-variable, Marks.reads-equality, Marks.reads-disequality, Marks.reads-absent, Marks.reads-present, read.Statement.statement}
 use Rattle.filter.proofs.read.Tie as tie
 
-equality-requires : tie.Need-equality-requires
-equality-requires c κs = let s = c .before .before .before .before .before in reads-variable (s .args .x) (s .args .equal) (s .args .not-equal) (s .pre)
-
-disequality-requires : tie.Need-disequality-requires
-disequality-requires c κs = let s = c .before .before .before .before .before in reads-variable (s .args .x) (s .args .equal) (s .args .not-equal) (s .pre)
-
-disequality-requires-2 : tie.Need-disequality-requires-2
-disequality-requires-2 c κs = let s = c .before .before .before .before in reads-variable (s .args .x) (s .args .equal) (s .args .not-equal) (s .pre)
-
-equality-requires-2 : tie.Need-equality-requires-2
-equality-requires-2 c κs = let s = c .before .before .before .before in reads-variable (s .args .x) (s .args .equal) (s .args .not-equal) (s .pre)
-
 returns : tie.Need-returns
 returns c =
     let k = c .before .before .before .before .before in
@@ -48,8 +36,8 @@ returns-4 c =
     (sym (reads-present (s .args .x) (s .args .equal) (s .args .not-equal) (s .pre) (sym (c .before .before .enum-told2 .given .1) ∙ k .kind-of .ensures))) (c .equality2 .ensures)
 
 pub read-spec : {M : Type 1} → statement M
-read-spec =
-    tie.close
-    (tie.spec
-    (λ c κs. search needs) (λ c. search needs) equality-requires (λ c. search needs) disequality-requires (λ c. search needs) disequality-requires-2
-    (λ c. search needs) equality-requires-2 returns returns-2 returns-3 returns-4)
+read-spec = tie.close (tie.spec
+    (λ c κs. search needs) (λ c. search needs) (λ c κs. let s = c .before .before .before .before .before in reads-variable (s .args .x) (s .args .equal) (s .args .not-equal) (s .pre))
+    (λ c. search needs) (λ c κs. let s = c .before .before .before .before .before in reads-variable (s .args .x) (s .args .equal) (s .args .not-equal) (s .pre)) (λ c. search needs)
+    (λ c κs. let s = c .before .before .before .before in reads-variable (s .args .x) (s .args .equal) (s .args .not-equal) (s .pre)) (λ c. search needs)
+    (λ c κs. let s = c .before .before .before .before in reads-variable (s .args .x) (s .args .equal) (s .args .not-equal) (s .pre)) returns returns-2 returns-3 returns-4)

@@ -31,7 +31,4 @@ returns-5 c =
     ok-kind (a .n) (a .x) (a .equal) (a .not-equal) (k .before .if1 .left) _ (sym (c .enum-told2 .given .1) ∙ k .kind-of .ensures)
 
 pub right-spec : {M : Type 1} → statement M
-right-spec =
-    tie.close
-    (tie.spec
-    returns (λ c κs. search needs) (λ c. search needs) (λ c. search needs) (λ c. search needs) (λ c. search needs) returns-2 returns-3 returns-4 returns-5)
+right-spec = tie.close (tie.spec returns (λ c κs. search needs) (λ c. search needs) (λ c. search needs) (λ c. search needs) (λ c. search needs) returns-2 returns-3 returns-4 returns-5)

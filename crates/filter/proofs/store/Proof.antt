@@ -14,33 +14,12 @@ abbrev μ-loop : tie.MeasureT-loop
 loop-holds : tie.Need-loop-holds Inv-loop μ-loop
 loop-holds c = filled-begin (λ k. k) (λ k s. s ≡ at (c .args .source .now) k) (c .args .target .now)
 
-mul-target : tie.Need-mul-target Inv-loop μ-loop
-mul-target c = search needs
-
-element-copy-out-target : tie.Need-element-copy-out-target Inv-loop μ-loop
-element-copy-out-target c = search needs
-
-mul-target-2 : tie.Need-mul-target-2 Inv-loop μ-loop
-mul-target-2 c = search needs
-
-slice-write-target : tie.Need-slice-write-target Inv-loop μ-loop
-slice-write-target c = search needs
-
-add-i : tie.Need-add-i Inv-loop μ-loop
-add-i c = search needs
-
-loop-less : tie.Need-loop-less Inv-loop μ-loop
-loop-less c = search needs
-
 loop-again : tie.Need-loop-again Inv-loop μ-loop
 unfolding at
 loop-again c =
     let a = c .before .before .before .args in
     let l = c .before .before .loop in
     front-more (λ k s. s ≡ at (a .source .now) k) (a .target .now) (l .target) (l .i) _ (l .inv) (c .before .loop-test .taken) refl
-
-same-length : tie.Need-same-length Inv-loop μ-loop
-same-length c = c .before .loop .inv .size
 
 returns : tie.Need-returns Inv-loop μ-loop
 returns c =
@@ -49,7 +28,6 @@ returns c =
     front-copied (a .source .now) (a .target .now) (l .target) (l .i) (l .inv) (c .loop-test .left) (c .before .before .pre .0) (c .before .before .pre .1)
 
 pub store-spec : {M : Type 1} → statement M
-store-spec =
-    tie.close
-    (tie.spec
-    Inv-loop μ-loop loop-holds mul-target element-copy-out-target mul-target-2 slice-write-target add-i loop-less loop-again same-length returns)
+store-spec = tie.close (tie.spec
+    Inv-loop μ-loop loop-holds (λ c. search needs) (λ c. search needs) (λ c. search needs) (λ c. search needs) (λ c. search needs) (λ c. search needs) loop-again (λ c. c .before .loop .inv .size)
+    returns)

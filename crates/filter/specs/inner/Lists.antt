@@ -1,7 +1,7 @@
 -- What the functions that read the three lists say to each other.
 use Rattle.model.specs.Kit.{_≡_, Bool, true, false, List, [], map, ℕ, _≤_, _<_, length, set, take, drop}
-use Rattle.model.specs.{Lists.at, ValueSets.onlyMask, Verdict.Verdict, Verdict.accepted, Verdict.refused, Nogood.Entry, Nogood.equality, Nogood.filtered}
-use Rattle.model.specs.Nogood.{filterEnding, answered, Kind, isEquality, isDisequality, bothAbsent, bothPresent, entryOf, entries}
+use Rattle.model.specs.Nogood.{Entry, equality, filtered, filterEnding, answered, Kind, isEquality, isDisequality, bothAbsent, bothPresent, entryOf, entries}
+use Rattle.model.specs.{Lists.at, ValueSets.onlyMask, Verdict.Verdict, Verdict.accepted, Verdict.refused}
 use Rattle.filter.specs.{Meaning.means, declared.Answer.Answer, declared.Ending.Ending, declared.Kind.the-variants.Equality, declared.Kind.the-variants.Disequality}
 use Rattle.filter.specs.{declared.Kind.the-variants.BothAbsent, declared.Kind.the-variants.BothPresent, declared.Reached.Reached, declared.Reached.the-variants.Failed}
 use Rattle.filter.specs.{declared.Reached.the-variants.End, declared.Reached.the-variants.Split, inner.Scan.Right, inner.Scan.stepOf, inner.Scan.None, inner.Scan.Live}

@@ -1,9 +1,9 @@
 -- What the functions of the crate say to each other: what one entry does to the sets, and what the entries passed so far come to.
 use Rattle.model.specs.Kit.{_≡_, Bool, true, false, List, ℕ, _^_, _≤_, _<_, length, set, take, T, eqb}
-use Rattle.model.specs.{Lists.any, Lists.at, ValueSets.withoutMask, ValueSets.onlyMask, ValueSets.Inside, Nogood.Entry, Nogood.equality, Nogood.disequality, Nogood.obeying}
-use Rattle.model.specs.Nogood.{filtered, endingBy, filterEnding}
-use Rattle.filter.specs.{declared.entry.Step.Step, declared.entry.Step.the-variants.Next, declared.entry.Step.the-variants.Failed, declared.entry.Step.the-variants.Obeyed}
-use Rattle.filter.specs.declared.entry.Step.the-variants.{Split}
+use Rattle.model.specs.Nogood.{Entry, equality, disequality, obeying, filtered, endingBy, filterEnding}
+use Rattle.model.specs.{Lists.any, Lists.at, ValueSets.withoutMask, ValueSets.onlyMask, ValueSets.Inside}
+use Rattle.filter.specs.declared.entry.Step.{Step}
+use Rattle.filter.specs.declared.entry.Step.the-variants.{Next, Failed, Obeyed, Split}
 
 -- ---- one entry
 -- a disequality, by whether nothing is left of its variable's set

@@ -1,7 +1,7 @@
 -- `copy`: after i turns the first i cells are copied. Assumes nothing.
 use Rattle.model.specs.Kit.{_≡_, refl, subst, ℕ, _+_, _*_, _-_, _≤_, _<_, arith, needs, length, length-set}
-use native.Mathlib.Nat.{le-antisymm}
 use Rattle.model.specs.Lists.{at}
+use native.Mathlib.Nat.{le-antisymm}
 use Rattle.list_columns.specs.inner.Steps.{Copied}
 use Rattle.list_columns.proofs.{Copying.copied-none, Copying.copied-turn, copy.Statement.statement}
 use Rattle.list_columns.proofs.copy.Tie as tie
@@ -24,38 +24,11 @@ loop-holds c =
     let a = c .args in
     (search needs, refl, copied-none (a .out .now) (a .at) (a .step) (a .cells .now) (a .from) (a .stride))
 
-mul-out : tie.Need-mul-out Inv-loop μ-loop
-mul-out c = omega (arith, inside c .1)
-
-add-out : tie.Need-add-out Inv-loop μ-loop
-add-out c = omega (arith, inside c .1)
-
-shared-slice-read-out : tie.Need-shared-slice-read-out Inv-loop μ-loop
-shared-slice-read-out c = inside (c .before) .1
-
-mul-out-2 : tie.Need-mul-out-2 Inv-loop μ-loop
-mul-out-2 c = omega (arith, inside (c .before) .0)
-
-add-out-2 : tie.Need-add-out-2 Inv-loop μ-loop
-add-out-2 c = omega (arith, inside (c .before) .0)
-
-slice-write-out : tie.Need-slice-write-out Inv-loop μ-loop
-slice-write-out c = omega (arith, inside (c .before) .0)
-
-add-i : tie.Need-add-i Inv-loop μ-loop
-add-i c = search needs
-
-loop-less : tie.Need-loop-less Inv-loop μ-loop
-loop-less c = search needs
-
 loop-again : tie.Need-loop-again Inv-loop μ-loop
 unfolding at
 loop-again c =
     let l = c .before .before in
     (search needs, simp length-set (l .loop .inv .1), copied-turn (l .before .pre .0) (omega (arith, inside (c .before) .0)) (l .loop .inv .2))
-
-same-length : tie.Need-same-length Inv-loop μ-loop
-same-length c = c .before .loop .inv .1
 
 returns : tie.Need-returns Inv-loop μ-loop
 returns c =
@@ -64,7 +37,6 @@ returns c =
     subst (λ (k : ℕ). Copied (a .out .now) (a .at) (a .step) (a .cells .now) (a .from) (a .stride) k (l .loop .out)) (le-antisymm (l .loop .inv .0) (c .loop-test .left)) (l .loop .inv .2)
 
 pub copy-spec : {M : Type 1} → statement M
-copy-spec =
-    tie.close
-    (tie.spec
-    Inv-loop μ-loop loop-holds mul-out add-out shared-slice-read-out mul-out-2 add-out-2 slice-write-out add-i loop-less loop-again same-length returns)
+copy-spec = tie.close (tie.spec
+    Inv-loop μ-loop loop-holds (λ c. omega (arith, inside c .1)) (λ c. omega (arith, inside c .1)) (λ c. inside (c .before) .1) (λ c. omega (arith, inside (c .before) .0))
+    (λ c. omega (arith, inside (c .before) .0)) (λ c. omega (arith, inside (c .before) .0)) (λ c. search needs) (λ c. search needs) loop-again (λ c. c .before .loop .inv .1) returns)

@@ -12,12 +12,6 @@ returns-2 c = sym (no-store _ (λ w. c .if2 .taken (c .before .word-at .ensures 
 returns-3 : tie.Need-returns-3
 returns-3 c = sym (no-store _ (λ w. c .if3 .taken (w .total ∙ sym (c .before .word-at2 .ensures .0))))
 
-mul-result : tie.Need-mul-result
-mul-result c = omega (arith, product _ _ (c .before .word-at3 .ensures .1) (c .word-at4 .ensures .1))
-
-add-result : tie.Need-add-result
-add-result c = omega (arith, product _ _ (c .before .word-at3 .ensures .1) (c .word-at4 .ensures .1))
-
 returns-4 : tie.Need-returns-4
 returns-4 c =
     let third = c .before .before in
@@ -26,7 +20,7 @@ returns-4 c =
     (c .before .word-at3 .ensures .0) (c .word-at4 .ensures .0)
 
 pub is-store-spec : {M : Type 1} → statement M
-is-store-spec =
-    tie.close
-    (tie.spec
-    returns (λ c κs. search needs) returns-2 (λ c κs. search needs) returns-3 (λ c κs. search needs) (λ c κs. search needs) mul-result add-result returns-4)
+is-store-spec = tie.close (tie.spec
+    returns (λ c κs. search needs) returns-2 (λ c κs. search needs) returns-3 (λ c κs. search needs) (λ c κs. search needs)
+    (λ c. omega (arith, product _ _ (c .before .word-at3 .ensures .1) (c .word-at4 .ensures .1))) (λ c. omega (arith, product _ _ (c .before .word-at3 .ensures .1) (c .word-at4 .ensures .1)))
+    returns-4)

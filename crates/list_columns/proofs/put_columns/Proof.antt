@@ -1,8 +1,7 @@
 -- `put_columns`: after x turns the values of the first x variables are put. Assumes nothing.
 use Rattle.model.specs.Kit.{_-_, _≤_, suc-mul, mul-le-mul-right, arith, needs}
 use native.Mathlib.Nat.{le-antisymm}
-use Rattle.list_columns.proofs.Copying.{ColumnsPut, put-none, column-fits, column-inside, column-turn, columns-whole}
-use Rattle.list_columns.proofs.put_columns.Statement.{statement}
+use Rattle.list_columns.proofs.{Copying.ColumnsPut, Copying.put-none, Copying.column-fits, Copying.column-inside, Copying.column-turn, Copying.columns-whole, put_columns.Statement.statement}
 use Rattle.list_columns.proofs.put_columns.Tie as tie
 
 abbrev Inv-loop : tie.InvT-loop
@@ -36,12 +35,6 @@ copy-requires c κs =
           (a .variables) (a .plans) (a .out .now) (s .pre .0) (s .pre .1) (l .loop .x) h,
     )
 
-add-x : tie.Need-add-x Inv-loop μ-loop
-add-x c = search needs
-
-loop-less : tie.Need-loop-less Inv-loop μ-loop
-loop-less c = search needs
-
 loop-again : tie.Need-loop-again Inv-loop μ-loop
 loop-again c =
     let p = c .before .before in
@@ -53,9 +46,6 @@ loop-again c =
           (p .copy .ensures) (l .loop .inv .1),
     )
 
-same-length : tie.Need-same-length Inv-loop μ-loop
-same-length c = c .before .loop .inv .1 .same
-
 returns : tie.Need-returns Inv-loop μ-loop
 returns c =
     let l = c .before in
@@ -64,7 +54,4 @@ returns c =
     columns-whole (a .at) (a .rows .now) (a .variables) (a .plans) (a .out .now) (s .pre .0) (s .pre .1) (l .loop .x) (le-antisymm (l .loop .inv .0) (c .loop-test .left)) (l .loop .inv .1)
 
 pub put-columns-spec : {M : Type 1} → statement M
-put-columns-spec =
-    tie.close
-    (tie.spec
-    Inv-loop μ-loop loop-holds mul-copy add-copy copy-requires add-x loop-less loop-again same-length returns)
+put-columns-spec = tie.close (tie.spec Inv-loop μ-loop loop-holds mul-copy add-copy copy-requires (λ c. search needs) (λ c. search needs) loop-again (λ c. c .before .loop .inv .1 .same) returns)

@@ -34,7 +34,4 @@ returns c =
     put-four (s .args .variables) (s .args .plans) (s .pre .0) (p .put-word .ensures) (q .put-word2 .ensures) (r .put-word3 .ensures) (u .put-word4 .ensures)
 
 pub put-heading-spec : {M : Type 1} → statement M
-put-heading-spec =
-    tie.close
-    (tie.spec
-    (λ c κs. search needs) put-word-requires-2 put-word-requires-3 (λ c. search needs) (λ c. search needs) put-word-requires-4 (λ c. search needs) returns)
+put-heading-spec = tie.close (tie.spec (λ c κs. search needs) put-word-requires-2 put-word-requires-3 (λ c. search needs) (λ c. search needs) put-word-requires-4 (λ c. search needs) returns)

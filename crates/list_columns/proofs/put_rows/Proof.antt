@@ -30,12 +30,6 @@ copy-requires c κs =
           (a .plans) (a .out .now) (s .pre .0) (s .pre .1) (l .loop .x) h,
     )
 
-add-x : tie.Need-add-x Inv-loop μ-loop
-add-x c = search needs
-
-loop-less : tie.Need-loop-less Inv-loop μ-loop
-loop-less c = search needs
-
 loop-again : tie.Need-loop-again Inv-loop μ-loop
 loop-again c =
     let p = c .before .before in
@@ -47,9 +41,6 @@ loop-again c =
           (p .copy .ensures) (l .loop .inv .1),
     )
 
-same-length : tie.Need-same-length Inv-loop μ-loop
-same-length c = c .before .loop .inv .1 .same
-
 returns : tie.Need-returns Inv-loop μ-loop
 returns c =
     let l = c .before in
@@ -58,7 +49,4 @@ returns c =
     rows-whole (a .columns .now) (a .variables) (a .plans) (a .out .now) (s .pre .0) (s .pre .1) (l .loop .x) (le-antisymm (l .loop .inv .0) (c .loop-test .left)) (l .loop .inv .1)
 
 pub put-rows-spec : {M : Type 1} → statement M
-put-rows-spec =
-    tie.close
-    (tie.spec
-    Inv-loop μ-loop loop-holds mul-copy copy-requires add-x loop-less loop-again same-length returns)
+put-rows-spec = tie.close (tie.spec Inv-loop μ-loop loop-holds mul-copy copy-requires (λ c. search needs) (λ c. search needs) loop-again (λ c. c .before .loop .inv .1 .same) returns)

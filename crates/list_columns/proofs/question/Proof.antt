@@ -19,9 +19,6 @@ returns-3 c = no-rows _ _ _ _ (λ w. c .if3 .taken (w .whole))
 returns-4 : tie.Need-returns-4
 returns-4 c = no-rows _ _ _ _ (λ w. omega (arith, w .many))
 
-add-fits : tie.Need-add-fits
-add-fits c = omega (arith, few-bytes (rows (c .before)))
-
 returns-5 : tie.Need-returns-5
 returns-5 c = large _ _ _ _ (rows (c .before .before)) (sym (c .before .small .ensures) ∙ not-true _ (c .if5 .taken))
 
@@ -36,7 +33,5 @@ returns-7 c =
     passes _ _ _ _ (rows (s .before)) (sym (s .small .ensures) ∙ not-false _ (c .before .if5 .left)) (leb-true _ _ (not-false _ (c .if6 .left)))
 
 pub question-spec : {M : Type 1} → statement M
-question-spec =
-    tie.close
-    (tie.spec
-    returns returns-2 (λ c. search needs) returns-3 (λ c. search needs) returns-4 (λ c κs. search needs) add-fits returns-5 returns-6 returns-7)
+question-spec = tie.close (tie.spec
+    returns returns-2 (λ c. search needs) returns-3 (λ c. search needs) returns-4 (λ c κs. search needs) (λ c. omega (arith, few-bytes (rows (c .before)))) returns-5 returns-6 returns-7)

@@ -12,18 +12,6 @@ abbrev μ-loop : tie.MeasureT-loop
 loop-holds : tie.Need-loop-holds Inv-loop μ-loop
 loop-holds c = (search needs, ((λ k l. absurd (omega arith)), λ f. omega arith))
 
-shared-slice-read-if1 : tie.Need-shared-slice-read-if1 Inv-loop μ-loop
-shared-slice-read-if1 c = search needs
-
-shared-slice-read-most : tie.Need-shared-slice-read-most Inv-loop μ-loop
-shared-slice-read-most c = search needs
-
-add-i : tie.Need-add-i Inv-loop μ-loop
-add-i c = search needs
-
-loop-less : tie.Need-loop-less Inv-loop μ-loop
-loop-less c = search needs
-
 loop-again : tie.Need-loop-again Inv-loop μ-loop
 loop-again c =
     let l = c .before .before .before in (
@@ -36,7 +24,4 @@ returns : tie.Need-returns Inv-loop μ-loop
 returns c = small-is (c .before .before .args .bytes .now) (c .before .loop .most) (c .before .loop .i) (omega arith) (c .before .loop .inv .1)
 
 pub small-spec : {M : Type 1} → statement M
-small-spec =
-    tie.close
-    (tie.spec
-    Inv-loop μ-loop loop-holds shared-slice-read-if1 shared-slice-read-most add-i loop-less loop-again returns)
+small-spec = tie.close (tie.spec Inv-loop μ-loop loop-holds (λ c. search needs) (λ c. search needs) (λ c. search needs) (λ c. search needs) loop-again returns)

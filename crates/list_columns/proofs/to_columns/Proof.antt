@@ -3,8 +3,8 @@ use Rattle.model.specs.Kit.{_≡_, _+_, _/_, _≤_, arith, length, needs}
 use Rattle.model.specs.Verdict.{accepted}
 use Rattle.model.proofs.Room.{refused-out, none-accepted, wrote-out}
 use Rattle.list_columns.specs.Columns.{columnsOf, bytesVerdict, columnsVerdict}
-use Rattle.list_columns.proofs.{Asking.Passed, Asking.passed, Asking.cells, Asking.few-bytes, Cells.heading-length, Storing.heading-fits, Storing.columns-fit}
-use Rattle.list_columns.proofs.{Storing.store-fronted, to_columns.Statement.statement}
+use Rattle.list_columns.proofs.Asking.{Passed, passed, cells, few-bytes}
+use Rattle.list_columns.proofs.{Cells.heading-length, Storing.heading-fits, Storing.columns-fit, Storing.store-fronted, to_columns.Statement.statement}
 use Rattle.list_columns.proofs.to_columns.Tie as tie
 
 -- past the questions
@@ -19,12 +19,6 @@ sound c = passed _ _ _ _ (none c)
 returns : tie.Need-returns
 unfolding columnsVerdict
 returns c = let a = c .before .before .before .before .args in refused-out _ _ (columnsOf (a .n) (a .rows .now)) _ (c .if1 .taken) (c .before .question .ensures)
-
-div-plans : tie.Need-div-plans
-div-plans c = omega (arith, sound c .rows .some)
-
-put-heading-requires : tie.Need-put-heading-requires
-put-heading-requires c κs = heading-fits (sound (c .before))
 
 put-columns-requires : tie.Need-put-columns-requires
 put-columns-requires c κs =
@@ -49,7 +43,5 @@ returns-2 c =
     wrote-out (columnsVerdict (a .n) (a .rows .now) (length (a .room .now))) (columnsOf (a .n) (a .rows .now)) (a .room .now) _ _ (none u) (f .bytes) (f .count)
 
 pub to-columns-spec : {M : Type 1} → statement M
-to-columns-spec =
-    tie.close
-    (tie.spec
-    (λ c κs. search needs) returns div-plans put-heading-requires put-columns-requires add-t14 (λ c. search needs) returns-2)
+to-columns-spec = tie.close (tie.spec
+    (λ c κs. search needs) returns (λ c. omega (arith, sound c .rows .some)) (λ c κs. heading-fits (sound (c .before))) put-columns-requires add-t14 (λ c. search needs) returns-2)

@@ -3,8 +3,7 @@ use Rattle.model.specs.Kit.{_≡_, sym, _∙_, true, _+_, _-_, _≤_, arith, no
 use Rattle.model.specs.Verdict.{accepted}
 use Rattle.model.proofs.{Lists.T-of, Room.none-accepted}
 use Rattle.list_columns.specs.Columns.{isStore, bytesVerdict, rowsOf}
-use Rattle.list_columns.proofs.{Asking.store-e, Storing.body-is, Storing.not-a-store, Storing.rows-refused, Storing.rows-fit, Storing.rows-wrote}
-use Rattle.list_columns.proofs.to_rows.Statement.{statement}
+use Rattle.list_columns.proofs.{Asking.store-e, Storing.body-is, Storing.not-a-store, Storing.rows-refused, Storing.rows-fit, Storing.rows-wrote, to_rows.Statement.statement}
 use Rattle.list_columns.proofs.to_rows.Tie as tie
 
 -- past question 23, and past the others
@@ -24,18 +23,6 @@ none c = none-accepted (c .before .question .result) _ (c .if2 .left) (c .before
 
 returns : tie.Need-returns
 returns c = not-a-store _ _ (rowsOf (c .before .before .before .before .args .store .now)) _ (sym (c .before .is-store .ensures) ∙ not-true _ (c .if1 .taken))
-
-word-at-requires : tie.Need-word-at-requires
-word-at-requires c κs = omega (arith, long c)
-
-word-at-requires-2 : tie.Need-word-at-requires-2
-word-at-requires-2 c κs = omega (arith, long (c .before))
-
-sub-columns : tie.Need-sub-columns
-sub-columns c = long (c .before .before)
-
-part-columns-start : tie.Need-part-columns-start
-part-columns-start c = long (c .before .before)
 
 returns-2 : tie.Need-returns-2
 returns-2 c =
@@ -63,8 +50,6 @@ returns-3 c =
     (c .before .before .put-rows .ensures)
 
 pub to-rows-spec : {M : Type 1} → statement M
-to-rows-spec =
-    tie.close
-    (tie.spec
-    (λ c κs. search needs) returns word-at-requires word-at-requires-2 sub-columns part-columns-start (λ c. search needs) (λ c κs. search needs) returns-2
-    put-rows-requires (λ c. search needs) returns-3)
+to-rows-spec = tie.close (tie.spec
+    (λ c κs. search needs) returns (λ c κs. omega (arith, long c)) (λ c κs. omega (arith, long (c .before))) (λ c. long (c .before .before)) (λ c. long (c .before .before)) (λ c. search needs)
+    (λ c κs. search needs) returns-2 put-rows-requires (λ c. search needs) returns-3)

@@ -3,8 +3,8 @@ use Rattle.model.specs.Kit.{_≡_, refl, sym, ap₂, _∙_, subst, ⊎-elim, �
 use Rattle.model.specs.Room.{rowsIn}
 use Rattle.order.specs.Reordered.{earlierBy}
 use Rattle.list_merge.specs.{Merge.ascends, inner.Inner.wayOf}
-use Rattle.list_merge.proofs.{Reading.plain-way, Turning.part-is, Turning.front-a, Turning.front-after, Turning.whole-after, Turning.shorter, Turning.goes-on}
-use Rattle.list_merge.proofs.{Turning.equal-rows, Turning.falls, Turning.last-row, ascend.Statement.statement}
+use Rattle.list_merge.proofs.Turning.{part-is, front-a, front-after, whole-after, shorter, goes-on, equal-rows, falls, last-row}
+use Rattle.list_merge.proofs.{Reading.plain-way, ascend.Statement.statement}
 use Rattle.list_merge.proofs.ascend.Tie as tie
 
 abbrev Inv-loop : tie.InvT-loop
@@ -15,15 +15,6 @@ abbrev μ-loop : tie.MeasureT-loop
 
 loop-holds : tie.Need-loop-holds Inv-loop μ-loop
 loop-holds c = (c .before .before .pre .2, refl)
-
-sub-after : tie.Need-sub-after Inv-loop μ-loop
-sub-after c = search needs
-
-part-after-start : tie.Need-part-after-start Inv-loop μ-loop
-part-after-start c = search needs
-
-part-after-end : tie.Need-part-after-end Inv-loop μ-loop
-part-after-end c = search needs
 
 slice-aggregate-by-words : tie.Need-slice-aggregate-by-words Inv-loop μ-loop
 slice-aggregate-by-words c =
@@ -126,9 +117,6 @@ stood c =
 enum-told : tie.Need-enum-told Inv-loop μ-loop
 enum-told c = search needs
 
-enum-told-2 : tie.Need-enum-told-2 Inv-loop μ-loop
-enum-told-2 c = search needs
-
 returns : tie.Need-returns Inv-loop μ-loop
 returns c =
     let l = c .before .before .before .before .before in
@@ -139,9 +127,6 @@ returns c =
     let after = take (length rest - n) (drop n rest) in
     let h = c .before .before .before .before .loop-test .taken in
     sym (l .loop .inv .1 ∙ equal-rows n order rest after (s .pre .0) (l .loop .inv .0) h (part-is rest n) (c .before .before .if1 .way) (stood (c .before .before)) (c .enum-told2 .given .1))
-
-enum-told-3 : tie.Need-enum-told-3 Inv-loop μ-loop
-enum-told-3 c = search needs
 
 returns-2 : tie.Need-returns-2 Inv-loop μ-loop
 returns-2 c =
@@ -186,8 +171,6 @@ returns-3 c =
     sym (l .loop .inv .1 ∙ last-row (s .args .n) (s .args .order .now) (l .loop .rest .now) (s .pre .0) (l .loop .inv .0) (c .loop-test .left))
 
 pub ascend-spec : {M : Type 1} → statement M
-ascend-spec =
-    tie.close
-    (tie.spec
-    Inv-loop μ-loop loop-holds sub-after part-after-start part-after-end slice-aggregate-by-words slice-aggregate-by-words-2 by-words-requires
-    slice-aggregate-by-places slice-aggregate-by-places-2 by-places-requires enum-told enum-told-2 returns enum-told-3 returns-2 loop-less loop-again returns-3)
+ascend-spec = tie.close (tie.spec
+    Inv-loop μ-loop loop-holds (λ c. search needs) (λ c. search needs) (λ c. search needs) slice-aggregate-by-words slice-aggregate-by-words-2 by-words-requires slice-aggregate-by-places
+    slice-aggregate-by-places-2 by-places-requires enum-told (λ c. search needs) returns (λ c. search needs) returns-2 loop-less loop-again returns-3)

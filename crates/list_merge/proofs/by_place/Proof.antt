@@ -15,20 +15,8 @@ returns c = not-plain _ _ (c .before .pre .1)
 loop-holds : tie.Need-loop-holds Inv-loop μ-loop
 loop-holds c = (search needs, λ k h. absurd (omega arith))
 
-shared-slice-read-if2 : tie.Need-shared-slice-read-if2 Inv-loop μ-loop
-shared-slice-read-if2 c = search needs
-
-cast-if2 : tie.Need-cast-if2 Inv-loop μ-loop
-cast-if2 c = omega (arith, c .shared-slice-known .given (c .before .before .loop .i))
-
 returns-2 : tie.Need-returns-2 Inv-loop μ-loop
 returns-2 c = not-plain _ _ (c .before .before .before .before .before .pre .1)
-
-add-i : tie.Need-add-i Inv-loop μ-loop
-add-i c = search needs
-
-loop-less : tie.Need-loop-less Inv-loop μ-loop
-loop-less c = search needs
 
 loop-again : tie.Need-loop-again Inv-loop μ-loop
 loop-again c = (search needs, below-more (λ (k : ℕ). getD (c .before .before .before .before .before .args .order .now) k 0 ≡ k) _ (c .before .before .before .loop .inv .1) (c .if2 .left))
@@ -38,7 +26,6 @@ returns-3 c = let l = c .before in let s = l .before .before in in-place (s .arg
     (λ k h. l .loop .inv .1 k (omega (arith, c .loop-test .left)))
 
 pub by-place-spec : {M : Type 1} → statement M
-by-place-spec =
-    tie.close
-    (tie.spec
-    Inv-loop μ-loop returns loop-holds shared-slice-read-if2 cast-if2 returns-2 add-i loop-less loop-again returns-3)
+by-place-spec = tie.close (tie.spec
+    Inv-loop μ-loop returns loop-holds (λ c. search needs) (λ c. omega (arith, c .shared-slice-known .given (c .before .before .loop .i))) returns-2 (λ c. search needs) (λ c. search needs)
+    loop-again returns-3)

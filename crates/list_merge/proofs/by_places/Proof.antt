@@ -26,9 +26,6 @@ abbrev μ-loop : tie.MeasureT-loop
 loop-holds : tie.Need-loop-holds Inv-loop μ-loop
 loop-holds c = (search needs, refl, refl)
 
-add-loop : tie.Need-add-loop Inv-loop μ-loop
-add-loop c = search needs
-
 at-place-requires : tie.Need-at-place-requires Inv-loop μ-loop
 at-place-requires c κs = let s = c .before .before .before .before .before in (
   omega (arith, c .loop-test .taken),
@@ -43,18 +40,12 @@ at-place-requires-2 c κs = let s = c .before .before .before .before .before .b
       (mem-getD (s .args .order .now) (c .before .before .loop .i) 0 (omega (arith, c .before .loop-test .taken))) .1,
 )
 
-way-of-requires : tie.Need-way-of-requires Inv-loop μ-loop
-way-of-requires c κs = search needs
-
 returns : tie.Need-returns Inv-loop μ-loop
 returns c =
     let l = c .before .before .before .before .before in
     let s = l .before .before .before .before in
     c .way-of .ensures ∙ decided (s .args .order .now) (s .args .a .now) (s .args .b .now) (l .loop .i) _ _ (omega (arith, c .before .before .before .before .loop-test .taken)) (l .loop .inv .1)
     (l .loop .inv .2) (c .before .before .before .at-place .ensures) (c .before .before .at-place2 .ensures) (λ z. absurd (c .before .if1 .taken z))
-
-add-at-place : tie.Need-add-at-place Inv-loop μ-loop
-add-at-place c = search needs
 
 at-place-requires-3 : tie.Need-at-place-requires-3 Inv-loop μ-loop
 at-place-requires-3 c κs = let s = c .before .before .before .before .before .before .before .before in (
@@ -63,18 +54,12 @@ at-place-requires-3 c κs = let s = c .before .before .before .before .before .b
       (omega (arith, c .before .before .before .loop-test .taken))) .0,
 )
 
-add-at-place-2 : tie.Need-add-at-place-2 Inv-loop μ-loop
-add-at-place-2 c = search needs
-
 at-place-requires-4 : tie.Need-at-place-requires-4 Inv-loop μ-loop
 at-place-requires-4 c κs = let s = c .before .before .before .before .before .before .before .before .before in (
   omega (arith, c .before .before .before .before .loop-test .taken),
   s .pre _ (mem-getD (s .args .order .now) (c .before .before .before .before .before .loop .i + 1) 0
       (omega (arith, c .before .before .before .before .loop-test .taken))) .1,
 )
-
-way-of-requires-2 : tie.Need-way-of-requires-2 Inv-loop μ-loop
-way-of-requires-2 c κs = search needs
 
 returns-2 : tie.Need-returns-2 Inv-loop μ-loop
 returns-2 c =
@@ -91,12 +76,6 @@ returns-2 c =
     ∙ decided o a b (l .loop .i + 1) _ _ (omega arith) (onward o a b (l .loop .i) (l .loop .i + 1) _ _ (omega arith) refl (l .loop .inv .1) x y e)
     (onward o b a (l .loop .i) (l .loop .i + 1) _ _ (omega arith) refl (l .loop .inv .2) y x (sym e)) (c .before .before .before .at-place3 .ensures) (c .before .before .at-place4 .ensures)
     (λ z. absurd (c .before .if2 .taken z))
-
-add-i : tie.Need-add-i Inv-loop μ-loop
-add-i c = search needs
-
-loop-less : tie.Need-loop-less Inv-loop μ-loop
-loop-less c = search needs
 
 loop-again : tie.Need-loop-again Inv-loop μ-loop
 loop-again c =
@@ -128,9 +107,6 @@ at-place-requires-6 : tie.Need-at-place-requires-6 Inv-loop μ-loop
 at-place-requires-6 c κs = let s = c .before .before .before .before .before .before .before in
     (omega (arith, c .before .if3 .taken), s .pre _ (mem-getD (s .args .order .now) (c .before .before .before .loop .i) 0 (omega (arith, c .before .if3 .taken))) .1)
 
-way-of-requires-3 : tie.Need-way-of-requires-3 Inv-loop μ-loop
-way-of-requires-3 c κs = search needs
-
 returns-3 : tie.Need-returns-3 Inv-loop μ-loop
 returns-3 c =
     let l = c .before .before .before .before .before in
@@ -146,8 +122,6 @@ returns-4 c =
     (l .loop .inv .2 ∙ come-end (a .order .now) (a .b .now) (a .a .now) (l .loop .i) (c .if3 .left))
 
 pub by-places-spec : {M : Type 1} → statement M
-by-places-spec =
-    tie.close
-    (tie.spec
-    Inv-loop μ-loop loop-holds add-loop at-place-requires at-place-requires-2 way-of-requires returns add-at-place at-place-requires-3 add-at-place-2
-    at-place-requires-4 way-of-requires-2 returns-2 add-i loop-less loop-again at-place-requires-5 at-place-requires-6 way-of-requires-3 returns-3 returns-4)
+by-places-spec = tie.close (tie.spec
+    Inv-loop μ-loop loop-holds (λ c. search needs) at-place-requires at-place-requires-2 (λ c κs. search needs) returns (λ c. search needs) at-place-requires-3 (λ c. search needs)
+    at-place-requires-4 (λ c κs. search needs) returns-2 (λ c. search needs) (λ c. search needs) loop-again at-place-requires-5 at-place-requires-6 (λ c κs. search needs) returns-3 returns-4)

@@ -10,7 +10,4 @@ returns c =
     c .way-of .ensures ∙ words-way (s .args .n) (s .args .a .now) (s .args .b .now) (s .pre) (d .result) _ _ (d .ensures) (c .before .before .word .ensures) (c .before .word2 .ensures)
 
 pub by-words-spec : {M : Type 1} → statement M
-by-words-spec =
-    tie.close
-    (tie.spec
-    (λ c κs. search needs) (λ c κs. search needs) (λ c κs. search needs) (λ c κs. search needs) returns)
+by-words-spec = tie.close (tie.spec (λ c κs. search needs) (λ c κs. search needs) (λ c κs. search needs) (λ c κs. search needs) returns)

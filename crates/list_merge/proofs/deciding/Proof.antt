@@ -22,7 +22,4 @@ returns-3 : tie.Need-returns-3
 returns-3 c = search needs
 
 pub deciding-spec : {M : Type 1} → statement M
-deciding-spec =
-    tie.close
-    (tie.spec
-    (λ c κs. search needs) (λ c κs. search needs) (λ c. search needs) returns (λ c κs. search needs) (λ c κs. search needs) returns-2 returns-3)
+deciding-spec = tie.close (tie.spec (λ c κs. search needs) (λ c κs. search needs) (λ c. search needs) returns (λ c κs. search needs) (λ c κs. search needs) returns-2 returns-3)

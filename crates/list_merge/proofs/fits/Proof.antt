@@ -11,9 +11,6 @@ returns c = let s = c .before .before .before .before .before .before in (
   refl,
 )
 
-walk-requires : tie.Need-walk-requires
-walk-requires c κs = let s = c .before .before .before .before .before .before .before in (s .pre .0, s .pre .1, λ z. absurd (subst T (sym z) tt))
-
 returns-2 : tie.Need-returns-2
 returns-2 c = (told-yes _ _ _ _ _ (c .before .before .before .before .walk .ensures) _ (ap means (c .enum-told .given .1)), c .before .before .before .before .walk .ensures .kept refl)
 
@@ -21,7 +18,6 @@ returns-3 : tie.Need-returns-3
 returns-3 c = (told-no _ _ _ _ _ (c .before .before .before .before .walk .ensures) _ _ (ap means (c .enum-told2 .given .1)), c .before .before .before .before .walk .ensures .kept refl)
 
 pub fits-spec : {M : Type 1} → statement M
-fits-spec =
-    tie.close
-    (tie.spec
-    (λ c κs. search needs) returns walk-requires (λ c. search needs) (λ c. search needs) (λ c. search needs) returns-2 (λ c. search needs) returns-3)
+fits-spec = tie.close (tie.spec
+    (λ c κs. search needs) returns (λ c κs. let s = c .before .before .before .before .before .before .before in (s .pre .0, s .pre .1, λ z. absurd (subst T (sym z) tt))) (λ c. search needs)
+    (λ c. search needs) (λ c. search needs) returns-2 (λ c. search needs) returns-3)

@@ -65,8 +65,6 @@ returns-3 c =
     record { answers = q .0; leaves = q .1 }
 
 pub merge-spec : {M : Type 1} → statement M
-merge-spec =
-    tie.close
-    (tie.spec
-    (λ c κs. search needs) (λ c κs. search needs) returns settling-order-requires (λ c κs. search needs) returns-2 array-share-prefix-order
-    slice-aggregate-merge-by merge-by-requires (λ c. search needs) returns-3)
+merge-spec = tie.close (tie.spec
+    (λ c κs. search needs) (λ c κs. search needs) returns settling-order-requires (λ c κs. search needs) returns-2 array-share-prefix-order slice-aggregate-merge-by merge-by-requires
+    (λ c. search needs) returns-3)

@@ -40,9 +40,6 @@ returns-2 c =
     (sym (c .before .before .ascend2 .ensures) ∙ not-true _ (c .before .if2 .taken)) in
     (c .refused2 .ensures ∙ r .0, r .1)
 
-fits-requires : tie.Need-fits-requires
-fits-requires c κs = (sorted (c .before), c .before .before .before .before .before .by-place .ensures)
-
 returns-3 : tie.Need-returns-3
 returns-3 c =
     let c10 = c .before .before .before .before .before .before .before .before .before .before in
@@ -71,8 +68,6 @@ returns-4 c =
     (c .before .before .before .before .before .before .before .fits2 .ensures .1) (c .before .before .walk .ensures)
 
 pub merge-by-spec : {M : Type 1} → statement M
-merge-by-spec =
-    tie.close
-    (tie.spec
-    (λ c κs. search needs) (λ c κs. search needs) (λ c κs. search needs) returns (λ c κs. search needs) (λ c κs. search needs) returns-2 fits-requires
-    (λ c κs. search needs) (λ c. search needs) returns-3 walk-requires (λ c. search needs) returns-4)
+merge-by-spec = tie.close (tie.spec
+    (λ c κs. search needs) (λ c κs. search needs) (λ c κs. search needs) returns (λ c κs. search needs) (λ c κs. search needs) returns-2
+    (λ c κs. (sorted (c .before), c .before .before .before .before .before .by-place .ensures)) (λ c κs. search needs) (λ c. search needs) returns-3 walk-requires (λ c. search needs) returns-4)

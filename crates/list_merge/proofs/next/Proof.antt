@@ -1,8 +1,7 @@
 -- `next`: the front of one of the lists, at that list's own address. Assumes nothing.
 use Rattle.model.specs.Kit.{sym, ap, _∙_, subst, arith, take, length-take-le, take-all, needs}
 use Rattle.list_merge.specs.inner.Inner.{Fronts}
-use Rattle.list_merge.proofs.{Stepping.chosen-second, Stepping.chosen-first, Stepping.chosen-rest, Turning.fronts, Turning.next-is, Turning.which-is}
-use Rattle.list_merge.proofs.next.Statement.{statement}
+use Rattle.list_merge.proofs.{Stepping.chosen-second, Stepping.chosen-first, Stepping.chosen-rest, Turning.fronts, Turning.next-is, Turning.which-is, next.Statement.statement}
 use Rattle.list_merge.proofs.next.Tie as tie
 
 slice-aggregate-result : tie.Need-slice-aggregate-result
@@ -52,8 +51,5 @@ returns-4 c = let s = c .before .before .before .before in let a = s .args in le
 )
 
 pub next-spec : {M : Type 1} → statement M
-next-spec =
-    tie.close
-    (tie.spec
-    (λ c. search needs) slice-aggregate-result (λ c. search needs) slice-aggregate-result-2 (λ c. search needs) returns slice-aggregate-result-3 returns-2
-    returns-3 returns-4)
+next-spec = tie.close (tie.spec
+    (λ c. search needs) slice-aggregate-result (λ c. search needs) slice-aggregate-result-2 (λ c. search needs) returns slice-aggregate-result-3 returns-2 returns-3 returns-4)

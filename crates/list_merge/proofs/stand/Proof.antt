@@ -10,12 +10,6 @@ returns c = stand-after _ _ _ _ (c .if1 .taken)
 returns-2 : tie.Need-returns-2
 returns-2 c = stand-before _ _ _ _ (c .before .if1 .left) (c .if2 .taken)
 
-slice-aggregate-by-words : tie.Need-slice-aggregate-by-words
-slice-aggregate-by-words c = let s = c .before .before .before .before .before .before .before in front-length _ _ (s .pre .0 .second) (c .before .before .before .if1 .left)
-
-slice-aggregate-by-words-2 : tie.Need-slice-aggregate-by-words-2
-slice-aggregate-by-words-2 c = let s = c .before .before .before .before .before .before .before .before in front-length _ _ (s .pre .0 .first) (c .before .before .before .if2 .left)
-
 by-words-requires : tie.Need-by-words-requires
 by-words-requires c κs =
     let s = c .before .before .before .before .before .before .before .before in
@@ -38,12 +32,6 @@ returns-3 c =
     c .by-words .ensures ∙ ap₂ wayOf (plain-way n _ p (take n b) (take n a) eb ea) (plain-way n _ p (take n a) (take n b) ea eb) ∙ stand-rows n _ a b
     (c .before .before .before .before .before .if1 .left) (c .before .before .before .before .if2 .left)
 
-slice-aggregate-by-places : tie.Need-slice-aggregate-by-places
-slice-aggregate-by-places c = let s = c .before .before .before .before .before .before .before in front-length _ _ (s .pre .0 .second) (c .before .before .before .if1 .left)
-
-slice-aggregate-by-places-2 : tie.Need-slice-aggregate-by-places-2
-slice-aggregate-by-places-2 c = let s = c .before .before .before .before .before .before .before .before in front-length _ _ (s .pre .0 .first) (c .before .before .before .if2 .left)
-
 by-places-requires : tie.Need-by-places-requires
 by-places-requires c κs =
     let s = c .before .before .before .before .before .before .before .before in
@@ -56,8 +44,8 @@ returns-4 : tie.Need-returns-4
 returns-4 c = c .by-places .ensures ∙ stand-rows _ _ _ _ (c .before .before .before .before .before .if1 .left) (c .before .before .before .before .if2 .left)
 
 pub stand-spec : {M : Type 1} → statement M
-stand-spec =
-    tie.close
-    (tie.spec
-    returns returns-2 slice-aggregate-by-words slice-aggregate-by-words-2 by-words-requires returns-3 slice-aggregate-by-places slice-aggregate-by-places-2
-    by-places-requires returns-4)
+stand-spec = tie.close (tie.spec
+    returns returns-2 (λ c. let s = c .before .before .before .before .before .before .before in front-length _ _ (s .pre .0 .second) (c .before .before .before .if1 .left))
+    (λ c. let s = c .before .before .before .before .before .before .before .before in front-length _ _ (s .pre .0 .first) (c .before .before .before .if2 .left)) by-words-requires returns-3
+    (λ c. let s = c .before .before .before .before .before .before .before in front-length _ _ (s .pre .0 .second) (c .before .before .before .if1 .left))
+    (λ c. let s = c .before .before .before .before .before .before .before .before in front-length _ _ (s .pre .0 .first) (c .before .before .before .if2 .left)) by-places-requires returns-4)

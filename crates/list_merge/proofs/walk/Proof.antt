@@ -1,9 +1,9 @@
 -- `walk`: the rows so far and those that are left are the whole. Assumes nothing.
 use Rattle.model.specs.Kit.{_≡_, sym, _∙_, subst, ⊎-elim, inl, inr, List, ℕ, _+_, _-_, _≤_, arith, needs, length, take, drop}
-use Rattle.list_merge.specs.{Merge.mergedBy, Merge.nextRow, inner.Inner.taken, inner.Inner.Walked}
 use Rattle.model.specs.{Room.Outcome, Written.Written}
-use Rattle.list_merge.proofs.{Turning.part-is, Turning.first-taken, Turning.second-taken, Turning.left, Turning.right, Turning.fewer, Walking.Walking, Walking.walking}
-use Rattle.list_merge.proofs.{Walking.Put, Walking.walked, Walking.has-room, Walking.width, Walking.lacks, Walking.on, walk.Statement.statement}
+use Rattle.list_merge.specs.{Merge.mergedBy, Merge.nextRow, inner.Inner.taken, inner.Inner.Walked}
+use Rattle.list_merge.proofs.Walking.{Walking, walking, Put, walked, has-room, width, lacks, on}
+use Rattle.list_merge.proofs.{Turning.part-is, Turning.first-taken, Turning.second-taken, Turning.left, Turning.right, Turning.fewer, walk.Statement.statement}
 use Rattle.list_merge.proofs.walk.Tie as tie
 
 abbrev Inv-loop : tie.InvT-loop
@@ -14,15 +14,6 @@ abbrev μ-loop : tie.MeasureT-loop
 
 loop-holds : tie.Need-loop-holds Inv-loop μ-loop
 loop-holds c = let s = c .before .before .before .before in walking (s .args .n) (s .args .order .now) (s .args .writes) (s .args .out .now) (s .args .first .now) (s .args .second .now) (s .pre .0)
-
-stand-requires : tie.Need-stand-requires Inv-loop μ-loop
-stand-requires c κs = (c .loop .inv .rests .rests, c .before .before .before .before .before .pre .1)
-
-next-requires : tie.Need-next-requires Inv-loop μ-loop
-next-requires c κs = (c .before .loop .inv .rests .rests, c .stand .ensures)
-
-same-length : tie.Need-same-length Inv-loop μ-loop
-same-length c = c .before .before .before .loop .inv .size
 
 -- the next row, and what it takes of each list
 row-is : (c : tie.After-next Inv-loop μ-loop) → c .next .result .now ≡ nextRow (c .before .before .before .before .before .before .before .args .n)
@@ -99,15 +90,6 @@ put-row-requires c κs =
       ),
     )
 
-sub-if3 : tie.Need-sub-if3 Inv-loop μ-loop
-sub-if3 c = let l = c .before .before .before .before in omega (arith, l .loop .inv .room, l .loop .inv .size)
-
-refused-requires : tie.Need-refused-requires Inv-loop μ-loop
-refused-requires c κs = search needs
-
-same-length-2 : tie.Need-same-length-2 Inv-loop μ-loop
-same-length-2 c = c .before .before .before .before .before .before .loop .inv .size
-
 returns-2 : tie.Need-returns-2 Inv-loop μ-loop
 returns-2 c =
     let l = c .before .before .before .before .before .before in
@@ -117,30 +99,6 @@ returns-2 c =
     (lacks (s .args .n) (s .args .order .now) (s .args .writes) (s .args .out .now) _ (l .loop .a .now) (l .loop .b .now) (l .loop .out) (l .loop .at) (l .loop .inv)
     (c .before .before .before .before .next .result .now) (row-is (c .before .before .before .before)) (c .before .before .before .if1 .left) (c .before .before .if2 .left)
     (c .before .if3 .taken))
-
-past-first-requires : tie.Need-past-first-requires Inv-loop μ-loop
-past-first-requires c κs = search needs
-
-past-second-requires : tie.Need-past-second-requires Inv-loop μ-loop
-past-second-requires c κs = search needs
-
-sub-a : tie.Need-sub-a Inv-loop μ-loop
-sub-a c = first-fits c
-
-part-a-start : tie.Need-part-a-start Inv-loop μ-loop
-part-a-start c = let h = first-fits c in search needs
-
-part-a-end : tie.Need-part-a-end Inv-loop μ-loop
-part-a-end c = let h = first-fits c in search needs
-
-sub-b : tie.Need-sub-b Inv-loop μ-loop
-sub-b c = second-fits (c .before)
-
-part-b-start : tie.Need-part-b-start Inv-loop μ-loop
-part-b-start c = let h = second-fits (c .before) in search needs
-
-part-b-end : tie.Need-part-b-end Inv-loop μ-loop
-part-b-end c = let h = second-fits (c .before) in search needs
 
 add-at : tie.Need-add-at Inv-loop μ-loop
 add-at c =
@@ -184,8 +142,9 @@ loop-again c =
     (take (length b - j) (drop j b)) (part-is a i) (part-is b j) (s .pre .2) (k .before .before .if2 .out) (put (k .before .before)) .1
 
 pub walk-spec : {M : Type 1} → statement M
-walk-spec =
-    tie.close
-    (tie.spec
-    Inv-loop μ-loop loop-holds stand-requires next-requires same-length returns put-row-requires sub-if3 refused-requires same-length-2 returns-2
-    past-first-requires past-second-requires sub-a part-a-start part-a-end sub-b part-b-start part-b-end add-at loop-less loop-again)
+walk-spec = tie.close (tie.spec
+    Inv-loop μ-loop loop-holds (λ c κs. (c .loop .inv .rests .rests, c .before .before .before .before .before .pre .1)) (λ c κs. (c .before .loop .inv .rests .rests, c .stand .ensures))
+    (λ c. c .before .before .before .loop .inv .size) returns put-row-requires (λ c. let l = c .before .before .before .before in omega (arith, l .loop .inv .room, l .loop .inv .size))
+    (λ c κs. search needs) (λ c. c .before .before .before .before .before .before .loop .inv .size) returns-2 (λ c κs. search needs) (λ c κs. search needs) (λ c. first-fits c)
+    (λ c. let h = first-fits c in search needs) (λ c. let h = first-fits c in search needs) (λ c. second-fits (c .before)) (λ c. let h = second-fits (c .before) in search needs)
+    (λ c. let h = second-fits (c .before) in search needs) add-at loop-less loop-again)

@@ -16,7 +16,4 @@ returns-4 : tie.Need-returns-4
 returns-4 c = by-second _ _ _ (c .before .before .if1 .left) (c .before .if2 .left) (c .if3 .left)
 
 pub whole-spec : {M : Type 1} → statement M
-whole-spec =
-    tie.close
-    (tie.spec
-    returns returns-2 (λ c. search needs) returns-3 (λ c. search needs) returns-4)
+whole-spec = tie.close (tie.spec returns returns-2 (λ c. search needs) returns-3 (λ c. search needs) returns-4)

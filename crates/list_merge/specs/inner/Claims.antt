@@ -1,6 +1,6 @@
 -- What else holds of the merge (paper 02, #106): proofs/Claimed has the proofs.
 use Rattle.model.specs.Kit.{_≡_, List, [], ℕ}
-use Rattle.model.specs.{Verdict.accepted}
+use Rattle.model.specs.Verdict.{accepted}
 use Rattle.list_merge.specs.Merge.{merged, mergeVerdict}
 
 -- merging a list with itself gives the list, and with an empty list the other; the order of the two lists does not matter

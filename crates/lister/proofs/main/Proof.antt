@@ -13,12 +13,6 @@ returns c = search needs
 returns-2 : tie.Need-returns-2
 returns-2 c = search needs
 
-array-share-prefix-out : tie.Need-array-share-prefix-out
-array-share-prefix-out c = inside c
-
-slice-aggregate-write-all-3 : tie.Need-slice-aggregate-write-all-3
-slice-aggregate-write-all-3 c = let l = c .before in sym (length-take-le (l .length-told .result) (l .before .before .before .before .before .write-report .last .1 .0) (inside l))
-
 returns-3 : tie.Need-returns-3
 returns-3 c = search needs
 
@@ -26,10 +20,8 @@ returns-4 : tie.Need-returns-4
 returns-4 c = search needs
 
 pub main-spec : {M : Type 1} → statement M
-main-spec =
-    tie.close
-    (tie.spec
-    (λ c κs. search needs) (λ c. search needs) (λ c κs. search needs) (λ c. search needs) (λ c κs. search needs) returns (λ c κs. search needs)
-    (λ c. search needs) (λ c. search needs) (λ c. search needs) (λ c. search needs) (λ c κs. search needs) (λ c. search needs) (λ c κs. search needs) returns-2
-    (λ c. search needs) (λ c κs. search needs) array-share-prefix-out slice-aggregate-write-all-3 (λ c κs. search needs) (λ c. search needs)
-    (λ c κs. search needs) returns-3 returns-4)
+main-spec = tie.close (tie.spec
+    (λ c κs. search needs) (λ c. search needs) (λ c κs. search needs) (λ c. search needs) (λ c κs. search needs) returns (λ c κs. search needs) (λ c. search needs) (λ c. search needs)
+    (λ c. search needs) (λ c. search needs) (λ c κs. search needs) (λ c. search needs) (λ c κs. search needs) returns-2 (λ c. search needs) (λ c κs. search needs) (λ c. inside c)
+    (λ c. let l = c .before in sym (length-take-le (l .length-told .result) (l .before .before .before .before .before .write-report .last .1 .0) (inside l))) (λ c κs. search needs)
+    (λ c. search needs) (λ c κs. search needs) returns-3 returns-4)

@@ -14,17 +14,8 @@ abbrev μ-loop : tie.MeasureT-loop
 loop-holds : tie.Need-loop-holds Inv-loop μ-loop
 loop-holds c = (search needs, λ pairs l b h j k. absurd (omega arith))
 
-can-follow-requires : tie.Need-can-follow-requires Inv-loop μ-loop
-can-follow-requires c κs = search needs
-
 returns : tie.Need-returns Inv-loop μ-loop
 returns c = λ pairs l b h. sym (least-at _ _ _ (search needs) (c .before .before .before .loop .inv .1 pairs l b h) (sym (c .before .can-follow .ensures pairs l b h) ∙ c .if1 .taken))
-
-add-y : tie.Need-add-y Inv-loop μ-loop
-add-y c = search needs
-
-loop-less : tie.Need-loop-less Inv-loop μ-loop
-loop-less c = search needs
 
 loop-again : tie.Need-loop-again Inv-loop μ-loop
 loop-again c = (search needs, λ pairs l b h. more-no _ _ (c .before .before .before .loop .inv .1 pairs l b h) (sym (c .before .can-follow .ensures pairs l b h) ∙ c .if1 .left))
@@ -33,7 +24,4 @@ returns-2 : tie.Need-returns-2 Inv-loop μ-loop
 returns-2 c = λ pairs l b h. sym (least-none _ _ (λ j k. c .before .loop .inv .1 pairs l b h j (omega arith)))
 
 pub next-spec : {M : Type 1} → statement M
-next-spec =
-    tie.close
-    (tie.spec
-    Inv-loop μ-loop loop-holds can-follow-requires returns add-y loop-less loop-again returns-2)
+next-spec = tie.close (tie.spec Inv-loop μ-loop loop-holds (λ c κs. search needs) returns (λ c. search needs) (λ c. search needs) loop-again returns-2)

@@ -3,12 +3,12 @@
 -- reads earlier. They are stated once, of any order of the variables (#108): crate run_input has the run that is lent pairs and a block besides.
 -- The proofs are in proofs/Demanded.antt.
 use Rattle.model.specs.Kit.{_≡_, _↔_, List, map, List·Memᴰ, ℕ, _*_, _≤_, length, take, drop, T}
-use mathlib.Core.List.{Sublistᴰ}
-use Rattle.model.specs.{Lists.at, Lists.below, Lists.earlier, Lists.rowsAscend, Lists.total, Problem.isSolution, Verdict.accepted, Verdict.refused, Sheet.problemOf}
-use Rattle.model.specs.{Sheet.verdictOf, Search.nodes, Run.Ending, Run.finished, Run.plansIn, Run.nodesIn, Run.refusal, Run.ended, Run.answerOf, Run.listOf, Run.Tally, Run.tallyOf}
+use Rattle.model.specs.Run.{Ending, finished, plansIn, nodesIn, refusal, ended, answerOf, listOf, Tally, tallyOf}
 use Rattle.model.specs.Claims.{Leader, leaders, Chain, CountsAt, Largest, OneMore}
-use Rattle.order.specs.{Reordered.read, Reordered.earlierBy, Reordered.reordered, RunBy.Input, RunBy.sheetInput, RunBy.placeCounts, RunBy.leadersBy, RunBy.setsBy}
-use Rattle.order.specs.RunBy.{isLiveBy, answerBy, listBy, plansBy, talliedBy}
+use Rattle.model.specs.{Lists.at, Lists.below, Lists.earlier, Lists.rowsAscend, Lists.total, Problem.isSolution, Verdict.accepted, Verdict.refused, Sheet.problemOf, Sheet.verdictOf, Search.nodes}
+use mathlib.Core.List.{Sublistᴰ}
+use Rattle.order.specs.Reordered.{read, earlierBy, reordered}
+use Rattle.order.specs.RunBy.{Input, sheetInput, placeCounts, leadersBy, setsBy, isLiveBy, answerBy, listBy, plansBy, talliedBy}
 
 -- ---- the tally of a run that ended: the nodes that the ending carries, and of these, the first of the tree, those that settle each of twelve variables; they add up
 -- to the nodes, and a variable that the problem has not has none

@@ -4,9 +4,8 @@ use Rattle.model.specs.{Lists.at, Problem.Problem}
 use Rattle.model.proofs.Sets.{size}
 use Rattle.arrays.specs.inner.Places.{LINKED}
 use Rattle.prune.specs.inner.Steps.{ArraysHold, Blocked, BeforeFixpoint, AllFilteredOr, OnlyMarks}
-use Rattle.prune.proofs.{FilterLoop.kept-none, FilterLoop.kept-trans, Starts.some-one, FixpointLoop.after-from, FixpointLoop.constrained-dead, FixpointLoop.constrained-done}
-use Rattle.prune.proofs.FixpointLoop.{constrained-size, filters-dead, fixpoint-end, fixpoint-turn, fixpoint-less}
-use Rattle.prune.proofs.alternate.Statement.{statement}
+use Rattle.prune.proofs.FixpointLoop.{after-from, constrained-dead, constrained-done, constrained-size, filters-dead, fixpoint-end, fixpoint-turn, fixpoint-less}
+use Rattle.prune.proofs.{FilterLoop.kept-none, FilterLoop.kept-trans, Starts.some-one, alternate.Statement.statement}
 use Rattle.prune.proofs.alternate.Tie as tie
 
 abbrev Inv-loop : tie.InvT-loop
@@ -38,12 +37,6 @@ turned c p gs s b n = let f = all-filtered (c .before .before .before .before .b
 few : (c : tie.Start Inv-loop μ-loop) → c .args .k < 64
 few c = let q = c .pre in omega (arith, q .4 .startable .prefix-held .depth, q .2 .wellFormed .few)
 
-shl-settled : tie.Need-shl-settled Inv-loop μ-loop
-shl-settled c = few c
-
-sub-settled : tie.Need-sub-settled Inv-loop μ-loop
-sub-settled c = some-one _ (few c)
-
 loop-holds : tie.Need-loop-holds Inv-loop μ-loop
 loop-holds c = λ p gs s b n. (n, kept-none _ _)
 
@@ -59,21 +52,12 @@ returns c = λ p gs s b n₀.
     let f = c .before .filters .ensures p _ s (i .0 .startable .prefix-held) (i .0 .startable .live) (i .0 .startable .marking) in
     after-from s (n₀ .startable .prefix-held .work-length) (n₀ .startable .prefix-held .depth) (i .1) (filters-dead s b (i .0) _ _ (f .kept) (f .ended (c .if1 .taken)))
 
-difference-requires : tie.Need-difference-requires Inv-loop μ-loop
-difference-requires c κs = search needs
-
 returns-2 : tie.Need-returns-2 Inv-loop μ-loop
 returns-2 c = λ p gs s b n₀.
     let i = c .before .before .before .before .before .before .before .before .before .loop .inv p gs s b n₀ in
     let f = all-filtered (c .before .before .before .before) p gs s b (i .0) in
     after-from s (n₀ .startable .prefix-held .work-length) (n₀ .startable .prefix-held .depth) (i .1)
     (fixpoint-end s b (i .0) (f .all-filtered refl) (f .marking refl) (f .kept) (c .before .difference .ensures) (c .if2 .taken))
-
-touched-requires : tie.Need-touched-requires Inv-loop μ-loop
-touched-requires c κs = search needs
-
-element-copy-out-constrain : tie.Need-element-copy-out-constrain Inv-loop μ-loop
-element-copy-out-constrain c = search needs
 
 constrain-requires : tie.Need-constrain-requires Inv-loop μ-loop
 unfolding at
@@ -113,8 +97,6 @@ loop-again c = λ p gs s b n₀.
     (constrained-done s b t (c .before .constrain .ensures p s (t .startable .pending) .all-constrained (c .if3 .left)), kept-trans _ _ _ _ (i .1) (f .kept))
 
 pub alternate-spec : {M : Type 1} → statement M
-alternate-spec =
-    tie.close
-    (tie.spec
-    Inv-loop μ-loop shl-settled sub-settled loop-holds filters-requires returns difference-requires returns-2 touched-requires element-copy-out-constrain
-    constrain-requires returns-3 loop-less loop-again)
+alternate-spec = tie.close (tie.spec
+    Inv-loop μ-loop (λ c. few c) (λ c. some-one _ (few c)) loop-holds filters-requires returns (λ c κs. search needs) returns-2 (λ c κs. search needs) (λ c. search needs) constrain-requires
+    returns-3 loop-less loop-again)

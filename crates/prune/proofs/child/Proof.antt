@@ -109,10 +109,7 @@ returns-3 c =
     (c .before .before .before .before .fixpoint .ensures p gs (arrays-hold (a .ready)) (blocked (a .ready)) n) (c .before .before .before .if2 .left) (c .store .ensures)
 
 pub child-spec : {M : Type 1} → statement M
-child-spec =
-    tie.close
-    (tie.spec
-    (λ c κs. search needs) (λ c. search needs) (λ c. search needs) (λ c. search needs) (λ c κs. search needs) (λ c. search needs) (λ c. search needs)
-    (λ c κs. search needs) (λ c. search needs) (λ c. search needs) (λ c. search needs) (λ c κs. search needs) (λ c. search needs) (λ c. search needs)
-    (λ c κs. search needs) (λ c. search needs) (λ c. search needs) (λ c. search needs) cut-later-requires returns (λ c. search needs) (λ c κs. search needs)
-    (λ c. search needs) (λ c. search needs) fixpoint-requires returns-2 add-store store-requires returns-3)
+child-spec = tie.close (tie.spec
+    (λ c κs. search needs) (λ c. search needs) (λ c. search needs) (λ c. search needs) (λ c κs. search needs) (λ c. search needs) (λ c. search needs) (λ c κs. search needs) (λ c. search needs)
+    (λ c. search needs) (λ c. search needs) (λ c κs. search needs) (λ c. search needs) (λ c. search needs) (λ c κs. search needs) (λ c. search needs) (λ c. search needs) (λ c. search needs)
+    cut-later-requires returns (λ c. search needs) (λ c κs. search needs) (λ c. search needs) (λ c. search needs) fixpoint-requires returns-2 add-store store-requires returns-3)

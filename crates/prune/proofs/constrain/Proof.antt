@@ -4,8 +4,8 @@ use Rattle.model.specs.Problem.{Problem}
 use Rattle.model.proofs.Sets.{size}
 use Rattle.prune_pairs.proofs.Settled.{none-settled}
 use Rattle.prune.specs.inner.Steps.{ArraysHold, Pending, PrunedSoFar}
-use Rattle.prune.proofs.Pending.{pruned-none, ended-more, all-constrained-dead, all-constrained-live, nothing-due, arcs-pending, arcs-pruned, arcs-size, arcs-turn}
-use Rattle.prune.proofs.{Pending.constraints-pending, Pending.pending-turn, Pending.pruned-turn, Pending.pending-less, constrain.Statement.statement}
+use Rattle.prune.proofs.{Pending.pruned-none, Pending.ended-more, Pending.all-constrained-dead, Pending.all-constrained-live, Pending.nothing-due, Pending.arcs-pending, Pending.arcs-pruned}
+use Rattle.prune.proofs.{Pending.arcs-size, Pending.arcs-turn, Pending.constraints-pending, Pending.pending-turn, Pending.pruned-turn, Pending.pending-less, constrain.Statement.statement}
 use Rattle.prune.proofs.constrain.Tie as tie
 
 abbrev Inv-loop : tie.InvT-loop
@@ -18,16 +18,10 @@ abbrev μ-loop : tie.MeasureT-loop
 loop-holds : tie.Need-loop-holds Inv-loop μ-loop
 loop-holds c = λ p s w. (pruned-none p _, w)
 
-arcs-requires : tie.Need-arcs-requires Inv-loop μ-loop
-arcs-requires c κs = let q = c .before .before .pre in (none-settled _ _, (q .0, arcs-pending (q .1) (c .before .loop .inv (q .0) (q .1) (q .2) .1)))
-
 returns : tie.Need-returns Inv-loop μ-loop
 returns c = λ p s w.
     let i = c .before .before .before .loop .inv p s w in
     all-constrained-dead p _ _ (ended-more p _ _ (i .0) (c .before .arcs .ensures p (arcs-pending s (i .1)) .ended (c .if1 .taken)))
-
-touched-requires : tie.Need-touched-requires Inv-loop μ-loop
-touched-requires c κs = search needs
 
 constrain-requires : tie.Need-constrain-requires Inv-loop μ-loop
 unfolding Rattle.model.specs.Lists.at
@@ -47,9 +41,6 @@ returns-2 c = λ p s w.
     let live = c .before .before .before .before .if1 .left in
     let n = arcs-turn s (i .1) l live (c .before .before .before .touched .ensures) refl in
     all-constrained-dead p _ _ (ended-more p _ _ (arcs-pruned s (i .1) l live _ (i .0)) (c .before .constrain .ensures p (constraints-pending s n) .ended (c .if2 .taken)))
-
-element-copy-out-moved : tie.Need-element-copy-out-moved Inv-loop μ-loop
-element-copy-out-moved c = search needs
 
 returns-3 : tie.Need-returns-3 Inv-loop μ-loop
 unfolding Rattle.model.specs.Lists.at
@@ -86,7 +77,6 @@ loop-again c = λ p s w.
     (pruned-turn s n k alive refl _ (arcs-pruned s (i .1) l live _ (i .0)), pending-turn s n k alive refl)
 
 pub constrain-spec : {M : Type 1} → statement M
-constrain-spec =
-    tie.close
-    (tie.spec
-    Inv-loop μ-loop loop-holds arcs-requires returns touched-requires constrain-requires returns-2 element-copy-out-moved returns-3 loop-less loop-again)
+constrain-spec = tie.close (tie.spec
+    Inv-loop μ-loop loop-holds (λ c κs. let q = c .before .before .pre in (none-settled _ _, (q .0, arcs-pending (q .1) (c .before .loop .inv (q .0) (q .1) (q .2) .1)))) returns
+    (λ c κs. search needs) constrain-requires returns-2 (λ c. search needs) returns-3 loop-less loop-again)

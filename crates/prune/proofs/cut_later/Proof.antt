@@ -4,9 +4,6 @@ use Rattle.prune_pairs.proofs.OneCut.{bit-in}
 use Rattle.prune.proofs.{BlockCut.bit-out, BlockCut.two-some, BlockCut.later-small, BlockCut.after-none, BlockCut.after-some, cut_later.Statement.statement}
 use Rattle.prune.proofs.cut_later.Tie as tie
 
-sub-cut : tie.Need-sub-cut
-sub-cut c = two-some _ (c .before .before .pre .1)
-
 cut-requires : tie.Need-cut-requires
 cut-requires c κs = let q = c .before .before .pre in let a = c .before .before .args in (
   q .0,
@@ -22,7 +19,4 @@ returns-2 : tie.Need-returns-2
 returns-2 c = after-none _ _ _ _ (c .before .pre .0) (bit-out _ _ (c .if1 .left))
 
 pub cut-later-spec : {M : Type 1} → statement M
-cut-later-spec =
-    tie.close
-    (tie.spec
-    (λ c. search needs) (λ c. search needs) sub-cut cut-requires returns returns-2)
+cut-later-spec = tie.close (tie.spec (λ c. search needs) (λ c. search needs) (λ c. two-some _ (c .before .before .pre .1)) cut-requires returns returns-2)

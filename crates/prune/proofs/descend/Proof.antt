@@ -36,8 +36,6 @@ returns-2 c = λ p gs a.
     descent-reached a (c .prune-all .ensures p gs (a .ready) n)
 
 pub descend-spec : {M : Type 1} → statement M
-descend-spec =
-    tie.close
-    (tie.spec
-    (λ c κs. search needs) (λ c. search needs) (λ c. search needs) (λ c. search needs) (λ c. search needs) (λ c. search needs) (λ c κs. search needs)
-    (λ c. search needs) (λ c. search needs) (λ c. search needs) cut-later-requires returns (λ c. search needs) prune-all-requires returns-2)
+descend-spec = tie.close (tie.spec
+    (λ c κs. search needs) (λ c. search needs) (λ c. search needs) (λ c. search needs) (λ c. search needs) (λ c. search needs) (λ c κs. search needs) (λ c. search needs) (λ c. search needs)
+    (λ c. search needs) cut-later-requires returns (λ c. search needs) prune-all-requires returns-2)

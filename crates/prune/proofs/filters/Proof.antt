@@ -25,30 +25,9 @@ few-e c = let q = c .before .before .before .pre in e-few (q .2) (q .3) _ (turn 
 few-k : (c : tie.In-loop Inv-loop μ-loop) → c .before .before .before .args .k ≤ 12
 few-k c = let q = c .before .before .before .pre in k-few (q .2) (q .3) _ (turn c) (c .before .loop .inv .1 (q .0) (q .1) (q .2) (q .3) (q .4) (q .5))
 
-element-copy-out-g : tie.Need-element-copy-out-g Inv-loop μ-loop
-element-copy-out-g c = search needs
-
 loop-holds : tie.Need-loop-holds Inv-loop μ-loop
 unfolding at
 loop-holds c = (refl, λ p su s g l m. filtered-begin s g _ l m)
-
-mul-start : tie.Need-mul-start Inv-loop μ-loop
-mul-start c = omega (arith, few-k c)
-
-add-start : tie.Need-add-start Inv-loop μ-loop
-add-start c = omega (arith, few-k c)
-
-add-start-2 : tie.Need-add-start-2 Inv-loop μ-loop
-add-start-2 c = omega (arith, few-k c, few-e c)
-
-mul-start-2 : tie.Need-mul-start-2 Inv-loop μ-loop
-mul-start-2 c = omega (arith, few-k c, few-e c)
-
-element-copy-out-start : tie.Need-element-copy-out-start Inv-loop μ-loop
-element-copy-out-start c = omega (arith, few-k c, few-e c)
-
-due-requires : tie.Need-due-requires Inv-loop μ-loop
-due-requires c κs = few-k (c .before)
 
 filter-requires : tie.Need-filter-requires Inv-loop μ-loop
 unfolding at
@@ -65,27 +44,6 @@ returns c = λ p su s g l m.
     let r = i .before .loop .inv .1 p su s g l m in
     let d = sym (t .before .due .ensures) ∙ t .if1 .taken in
     filtered-dead s g _ (turn i) r d (c .before .filter .ensures p (levelled s g _ (turn i) r d)) (c .if2 .taken)
-
-mul-work : tie.Need-mul-work Inv-loop μ-loop
-mul-work c = omega (arith, few-k (c .before .before .before .before .before .before .before))
-
-add-work : tie.Need-add-work Inv-loop μ-loop
-add-work c = omega (arith, few-k (c .before .before .before .before .before .before .before))
-
-add-work-2 : tie.Need-add-work-2 Inv-loop μ-loop
-add-work-2 c = omega (arith, few-k (c .before .before .before .before .before .before .before), few-e (c .before .before .before .before .before .before .before))
-
-mul-work-2 : tie.Need-mul-work-2 Inv-loop μ-loop
-mul-work-2 c = omega (arith, few-k (c .before .before .before .before .before .before .before), few-e (c .before .before .before .before .before .before .before))
-
-element-write-work : tie.Need-element-write-work Inv-loop μ-loop
-element-write-work c = omega (arith, few-k (c .before .before .before .before .before .before .before), few-e (c .before .before .before .before .before .before .before))
-
-add-e : tie.Need-add-e Inv-loop μ-loop
-add-e c = omega (arith, few-e (c .before .before .before))
-
-loop-less : tie.Need-loop-less Inv-loop μ-loop
-loop-less c = omega (arith, c .before .before .before .loop-test .taken)
 
 loop-again : tie.Need-loop-again Inv-loop μ-loop
 unfolding at
@@ -109,8 +67,11 @@ returns-2 : tie.Need-returns-2 Inv-loop μ-loop
 returns-2 c = λ p su s g l m. filtered-end s g _ _ _ _ (subst (λ (n : ℕ). n ≤ c .before .loop .e) (c .before .loop .inv .0) (c .loop-test .left)) (c .before .loop .inv .1 p su s g l m)
 
 pub filters-spec : {M : Type 1} → statement M
-filters-spec =
-    tie.close
-    (tie.spec
-    Inv-loop μ-loop element-copy-out-g loop-holds mul-start add-start add-start-2 mul-start-2 element-copy-out-start due-requires filter-requires returns
-    mul-work add-work add-work-2 mul-work-2 element-write-work add-e loop-less loop-again returns-2)
+filters-spec = tie.close (tie.spec
+    Inv-loop μ-loop (λ c. search needs) loop-holds (λ c. omega (arith, few-k c)) (λ c. omega (arith, few-k c)) (λ c. omega (arith, few-k c, few-e c)) (λ c. omega (arith, few-k c, few-e c))
+    (λ c. omega (arith, few-k c, few-e c)) (λ c κs. few-k (c .before)) filter-requires returns (λ c. omega (arith, few-k (c .before .before .before .before .before .before .before)))
+    (λ c. omega (arith, few-k (c .before .before .before .before .before .before .before)))
+    (λ c. omega (arith, few-k (c .before .before .before .before .before .before .before), few-e (c .before .before .before .before .before .before .before)))
+    (λ c. omega (arith, few-k (c .before .before .before .before .before .before .before), few-e (c .before .before .before .before .before .before .before)))
+    (λ c. omega (arith, few-k (c .before .before .before .before .before .before .before), few-e (c .before .before .before .before .before .before .before)))
+    (λ c. omega (arith, few-e (c .before .before .before))) (λ c. omega (arith, c .before .before .before .loop-test .taken)) loop-again returns-2)

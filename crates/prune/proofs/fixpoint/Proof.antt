@@ -5,9 +5,8 @@ use Rattle.arrays.specs.inner.Places.{LINKED, LOOKS}
 use Rattle.prune_constraints.specs.inner.LookUps.{LookUpsPending}
 use Rattle.prune_constraints.proofs.Touching.{touchedOf}
 use Rattle.prune.specs.inner.Steps.{ArraysHold, Blocked, AllConstrained, BeforeFixpoint}
-use Rattle.prune.proofs.{Pending.pruned-none, Pending.nothing-due, Pending.arcs-pending, Starts.some-one, FixpointLoop.constrained-dead, FixpointLoop.constrained-done}
-use Rattle.prune.proofs.FixpointLoop.{looks-pending, looks-settled, looks-done, cuts-done, bare-end}
-use Rattle.prune.proofs.fixpoint.Statement.{statement}
+use Rattle.prune.proofs.FixpointLoop.{constrained-dead, constrained-done, looks-pending, looks-settled, looks-done, cuts-done, bare-end}
+use Rattle.prune.proofs.{Pending.pruned-none, Pending.nothing-due, Pending.arcs-pending, Starts.some-one, fixpoint.Statement.statement}
 use Rattle.prune.proofs.fixpoint.Tie as tie
 
 few : (c : tie.Start) → c .args .k < 64
@@ -63,9 +62,6 @@ returns : tie.Need-returns
 unfolding at
 returns c = λ p gs s b n. constrained-dead s b n _ (c .before .look-ups .ensures p _ (looks (c .before .before .before .before .before) p gs s b n) .ended (c .if1 .taken))
 
-sub-arcs : tie.Need-sub-arcs
-sub-arcs c = c .before .before .before .before .before .before .before .pre .5 .some
-
 arcs-requires : tie.Need-arcs-requires
 unfolding at
 arcs-requires c κs = let q = c .before .before .before .before .before .before .before .pre in (
@@ -79,12 +75,6 @@ returns-2 : tie.Need-returns-2
 unfolding at
 returns-2 c = λ p gs s b n. let m = looks-made (c .before .before .before .before) p gs s b n in constrained-dead s b m _
     (c .before .arcs .ensures p (arcs-pending s (m .startable .pending)) .ended (c .if2 .taken))
-
-shl-constrain : tie.Need-shl-constrain
-shl-constrain c = few (c .before .before .before .before .before .before .before .before .before .before .before .before)
-
-sub-constrain : tie.Need-sub-constrain
-sub-constrain c = some-one _ (few (c .before .before .before .before .before .before .before .before .before .before .before .before))
 
 constrain-requires : tie.Need-constrain-requires
 unfolding at
@@ -111,8 +101,8 @@ unfolding at
 returns-5 c = λ p gs s b n. c .alternate .ensures p gs s b (rested (c .before .before .before .before .before) p gs s b n)
 
 pub fixpoint-spec : {M : Type 1} → statement M
-fixpoint-spec =
-    tie.close
-    (tie.spec
-    (λ c. search needs) (λ c. search needs) (λ c. search needs) look-ups-requires returns (λ c. search needs) sub-arcs arcs-requires returns-2
-    (λ c κs. search needs) shl-constrain sub-constrain constrain-requires returns-3 (λ c. search needs) returns-4 alternate-requires returns-5)
+fixpoint-spec = tie.close (tie.spec
+    (λ c. search needs) (λ c. search needs) (λ c. search needs) look-ups-requires returns (λ c. search needs) (λ c. c .before .before .before .before .before .before .before .pre .5 .some)
+    arcs-requires returns-2 (λ c κs. search needs) (λ c. few (c .before .before .before .before .before .before .before .before .before .before .before .before))
+    (λ c. some-one _ (few (c .before .before .before .before .before .before .before .before .before .before .before .before))) constrain-requires returns-3 (λ c. search needs) returns-4
+    alternate-requires returns-5)

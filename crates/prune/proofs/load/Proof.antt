@@ -13,30 +13,6 @@ abbrev μ-loop : tie.MeasureT-loop
 loop-holds : tie.Need-loop-holds Inv-loop μ-loop
 loop-holds c = (search needs, filled-begin _ 0 _)
 
-mul-sets : tie.Need-mul-sets Inv-loop μ-loop
-mul-sets c = search needs
-
-add-sets : tie.Need-add-sets Inv-loop μ-loop
-add-sets c = search needs
-
-mul-sets-2 : tie.Need-mul-sets-2 Inv-loop μ-loop
-mul-sets-2 c = search needs
-
-element-copy-out-sets : tie.Need-element-copy-out-sets Inv-loop μ-loop
-element-copy-out-sets c = search needs
-
-mul-sets-3 : tie.Need-mul-sets-3 Inv-loop μ-loop
-mul-sets-3 c = search needs
-
-element-write-sets : tie.Need-element-write-sets Inv-loop μ-loop
-element-write-sets c = search needs
-
-add-i : tie.Need-add-i Inv-loop μ-loop
-add-i c = search needs
-
-loop-less : tie.Need-loop-less Inv-loop μ-loop
-loop-less c = search needs
-
 loop-again : tie.Need-loop-again Inv-loop μ-loop
 unfolding at
 loop-again c = (search needs, filled-turn _ 0 _ _ _ _ (c .before .before .loop .inv .1) (omega arith) (omega arith))
@@ -45,7 +21,6 @@ returns : tie.Need-returns Inv-loop μ-loop
 returns c = from-start _ _ _ _ (search needs) (search needs) (c .before .loop .inv .1)
 
 pub load-spec : {M : Type 1} → statement M
-load-spec =
-    tie.close
-    (tie.spec
-    Inv-loop μ-loop loop-holds mul-sets add-sets mul-sets-2 element-copy-out-sets mul-sets-3 element-write-sets add-i loop-less loop-again returns)
+load-spec = tie.close (tie.spec
+    Inv-loop μ-loop loop-holds (λ c. search needs) (λ c. search needs) (λ c. search needs) (λ c. search needs) (λ c. search needs) (λ c. search needs) (λ c. search needs) (λ c. search needs)
+    loop-again returns)

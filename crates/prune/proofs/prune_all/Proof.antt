@@ -3,8 +3,8 @@ use Rattle.model.specs.Kit.{refl, List, ℕ, arith, needs}
 use Rattle.model.specs.{Lists.at, Problem.Problem}
 use Rattle.arrays.specs.inner.Places.{LINKED}
 use Rattle.prune.specs.{inner.Node.Ready, inner.Steps.BeforeFixpoint, inner.Steps.Unpruned}
-use Rattle.prune.proofs.{FixpointLoop.constrained-dead, FixpointLoop.constrained-done, Starts.some-few, Starts.some-one, Starts.arrays-hold, Starts.blocked}
-use Rattle.prune.proofs.{Starts.unpruned-few, Starts.unpruned-start, Starts.unpruned-dead, Starts.unpruned-live, prune_all.Statement.statement}
+use Rattle.prune.proofs.Starts.{some-few, some-one, arrays-hold, blocked, unpruned-few, unpruned-start, unpruned-dead, unpruned-live}
+use Rattle.prune.proofs.{FixpointLoop.constrained-dead, FixpointLoop.constrained-done, prune_all.Statement.statement}
 use Rattle.prune.proofs.prune_all.Tie as tie
 
 -- all is due
@@ -67,8 +67,6 @@ returns-3 c = λ p gs r n.
     (c .before .before .before .before .alternate .ensures p gs (arrays-hold r) (blocked r) (rested e p gs r n)) (c .before .before .before .if2 .left) (c .store .ensures)
 
 pub prune-all-spec : {M : Type 1} → statement M
-prune-all-spec =
-    tie.close
-    (tie.spec
-    (λ c κs. search needs) (λ c. search needs) shl-touched sub-touched (λ c κs. search needs) (λ c. search needs) (λ c. search needs) sub-settled
-    constrain-requires returns alternate-requires returns-2 (λ c κs. search needs) returns-3)
+prune-all-spec = tie.close (tie.spec
+    (λ c κs. search needs) (λ c. search needs) shl-touched sub-touched (λ c κs. search needs) (λ c. search needs) (λ c. search needs) sub-settled constrain-requires returns alternate-requires
+    returns-2 (λ c κs. search needs) returns-3)

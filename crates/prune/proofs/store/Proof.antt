@@ -13,30 +13,6 @@ abbrev μ-loop : tie.MeasureT-loop
 loop-holds : tie.Need-loop-holds Inv-loop μ-loop
 loop-holds c = (search needs, filled-begin _ _ _)
 
-mul-stack : tie.Need-mul-stack Inv-loop μ-loop
-mul-stack c = search needs
-
-element-copy-out-stack : tie.Need-element-copy-out-stack Inv-loop μ-loop
-element-copy-out-stack c = search needs
-
-mul-stack-2 : tie.Need-mul-stack-2 Inv-loop μ-loop
-mul-stack-2 c = search needs
-
-add-stack : tie.Need-add-stack Inv-loop μ-loop
-add-stack c = search needs
-
-mul-stack-3 : tie.Need-mul-stack-3 Inv-loop μ-loop
-mul-stack-3 c = search needs
-
-element-write-stack : tie.Need-element-write-stack Inv-loop μ-loop
-element-write-stack c = search needs
-
-add-i : tie.Need-add-i Inv-loop μ-loop
-add-i c = search needs
-
-loop-less : tie.Need-loop-less Inv-loop μ-loop
-loop-less c = search needs
-
 loop-again : tie.Need-loop-again Inv-loop μ-loop
 unfolding at
 loop-again c = (search needs, filled-turn _ _ _ _ _ _ (c .before .before .loop .inv .1) refl (omega arith))
@@ -45,7 +21,6 @@ returns : tie.Need-returns Inv-loop μ-loop
 returns c = stored _ _ _ _ _ (search needs) (c .before .loop .inv .1)
 
 pub store-spec : {M : Type 1} → statement M
-store-spec =
-    tie.close
-    (tie.spec
-    Inv-loop μ-loop loop-holds mul-stack element-copy-out-stack mul-stack-2 add-stack mul-stack-3 element-write-stack add-i loop-less loop-again returns)
+store-spec = tie.close (tie.spec
+    Inv-loop μ-loop loop-holds (λ c. search needs) (λ c. search needs) (λ c. search needs) (λ c. search needs) (λ c. search needs) (λ c. search needs) (λ c. search needs) (λ c. search needs)
+    loop-again returns)

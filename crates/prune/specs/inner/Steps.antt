@@ -1,7 +1,7 @@
 -- What the functions inside this crate say to each other: sixteen sets at hand, of which the first are those of p's variables.
 use Rattle.model.specs.Kit.{_≡_, Bool, true, false, not, List, List·Memᴰ, ℕ, _+_, _-_, _*_, _≤_, _<_, T, eqb, ltb, length, take}
-use Rattle.model.specs.{Lists.both, Lists.at, Lists.tabulate, ValueSets.has, ValueSets.maskOf, ValueSets.anyEmpty, ValueSets.Inside, Problem.Problem, Problem.withSymmetries}
-use Rattle.model.specs.{Problem.constraintAt, Nogood.filtered, Search.nogoodsOf, Search.setsAt, Search.isLive, inner.Pruning.Sets, inner.Pruning.Way, inner.Pruning.Prunes}
+use Rattle.model.specs.{Lists.both, Lists.at, Lists.tabulate, ValueSets.has, ValueSets.maskOf, ValueSets.anyEmpty, ValueSets.Inside, Problem.Problem, Problem.withSymmetries, Problem.constraintAt}
+use Rattle.model.specs.{Nogood.filtered, Search.nogoodsOf, Search.setsAt, Search.isLive, inner.Pruning.Sets, inner.Pruning.Way, inner.Pruning.Prunes}
 use Rattle.model.specs.inner.WellFormed.{WellFormed}
 use Rattle.arrays.specs.{inner.Places.MARKS, inner.Places.DEAD, inner.Places.WORK, inner.Tables.Indexed, inner.Tables.byRows, inner.Pruning.Given, inner.Pruning.Ended}
 use Rattle.arrays.specs.inner.Pruning.{Fixed, Arc, setsOf}

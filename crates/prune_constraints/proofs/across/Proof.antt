@@ -26,24 +26,6 @@ thirds : (c : tie.After-in-lanes2) → let d = c .before .before .before .before
 unfolding at
 thirds c su w = let d = c .before .before .before .before .before in c .in-lanes2 .ensures (of-third su (d .args .k)) (λ h m. w .by-third (d .args .k) h m (d .pre .1 .0 .4 .room) (d .pre .1 .0 .2))
 
-mul-t15 : tie.Need-mul-t15
-mul-t15 c = omega (arith, inside c)
-
-element-copy-out-t18 : tie.Need-element-copy-out-t18
-element-copy-out-t18 c = inside c .0
-
-mul-t15-2 : tie.Need-mul-t15-2
-mul-t15-2 c = omega (arith, inside (c .before))
-
-element-copy-out-t18-2 : tie.Need-element-copy-out-t18-2
-element-copy-out-t18-2 c = inside (c .before) .1
-
-mul-t15-3 : tie.Need-mul-t15-3
-mul-t15-3 c = omega (arith, inside (c .before .before))
-
-element-copy-out-t18-3 : tie.Need-element-copy-out-t18-3
-element-copy-out-t18-3 c = inside (c .before .before) .2
-
 in-lanes-requires : tie.Need-in-lanes-requires
 unfolding at
 in-lanes-requires c κs = let d = c .before .before .before in let h = d .pre .1 .1 .1 in (omega (arith, d .pre .1 .0 .4 .room), ((h .1, h .0, h .2), spread d))
@@ -81,9 +63,7 @@ returns-2 c =
     (c .before .before .before .before .before .before .union-of .ensures) (c .before .before .before .before .before .union-of2 .ensures))
 
 pub across-spec : {M : Type 1} → statement M
-across-spec =
-    tie.close
-    (tie.spec
-    mul-t15 element-copy-out-t18 mul-t15-2 element-copy-out-t18-2 mul-t15-3 element-copy-out-t18-3 (λ c. search needs) (λ c. search needs) in-lanes-requires
-    (λ c. search needs) (λ c. search needs) (λ c. search needs) in-lanes-requires-2 (λ c κs. search needs) (λ c κs. search needs) fills-requires returns
-    (λ c κs. search needs) leave-requires returns-2)
+across-spec = tie.close (tie.spec
+    (λ c. omega (arith, inside c)) (λ c. inside c .0) (λ c. omega (arith, inside (c .before))) (λ c. inside (c .before) .1) (λ c. omega (arith, inside (c .before .before)))
+    (λ c. inside (c .before .before) .2) (λ c. search needs) (λ c. search needs) in-lanes-requires (λ c. search needs) (λ c. search needs) (λ c. search needs) in-lanes-requires-2
+    (λ c κs. search needs) (λ c κs. search needs) fills-requires returns (λ c κs. search needs) leave-requires returns-2)

@@ -3,8 +3,8 @@ use Rattle.model.specs.Kit.{refl, sym, _∙_, List, ℕ, _+_, _*_, _<_, arith, 
 use Rattle.model.specs.Lists.{at}
 use Rattle.arrays.specs.{inner.Places.UNIONS, inner.Tables.Words}
 use Rattle.prune_constraints.specs.inner.Lanes.{Halves}
-use Rattle.prune_constraints.proofs.{Scopes.of-three, Unions.of-second, Unions.of-third, Unions.lane-supported2, along.Statement.statement}
 use Rattle.prune_constraints.proofs.OneWord.{one-below, along-dead, along-same, along-cut}
+use Rattle.prune_constraints.proofs.{Scopes.of-three, Unions.of-second, Unions.of-third, Unions.lane-supported2, along.Statement.statement}
 use Rattle.prune_constraints.proofs.along.Tie as tie
 
 inside : (c : tie.Start) → (c .args .x < 16) × (c .args .y < 16) × (c .args .z < 16)
@@ -16,24 +16,6 @@ seconds d su w h m = w .by-second (d .args .k) h m (d .pre .1 .0 .4 .room) (d .p
 
 thirds : (d : tie.Start) (su : List ℕ) → Words (d .args .numbers .now) su → Halves (d .args .numbers .now) (UNIONS + 64 * d .args .k + 32) (of-third su (d .args .k))
 thirds d su w h m = w .by-third (d .args .k) h m (d .pre .1 .0 .4 .room) (d .pre .1 .0 .2)
-
-mul-t13 : tie.Need-mul-t13
-mul-t13 c = omega (arith, inside c)
-
-element-copy-out-t16 : tie.Need-element-copy-out-t16
-element-copy-out-t16 c = inside c .0
-
-mul-t13-2 : tie.Need-mul-t13-2
-mul-t13-2 c = omega (arith, inside (c .before))
-
-element-copy-out-t16-2 : tie.Need-element-copy-out-t16-2
-element-copy-out-t16-2 c = inside (c .before) .1
-
-mul-t13-3 : tie.Need-mul-t13-3
-mul-t13-3 c = omega (arith, inside (c .before .before))
-
-element-copy-out-t16-3 : tie.Need-element-copy-out-t16-3
-element-copy-out-t16-3 c = inside (c .before .before) .2
 
 in-lane-requires : tie.Need-in-lane-requires
 unfolding at
@@ -65,24 +47,6 @@ returns-2 c =
     (eqb-false _ _ (sym (j .before .before .is-empty .ensures) ∙ j .before .if1 .left)) (search needs) (search needs)
     (c .before .before .before .if2 .taken) (c .if3 .taken)
 
-mul-sets : tie.Need-mul-sets
-mul-sets c = omega (arith, inside (c .before .before .before .before .before .before .before .before .before .before .before))
-
-element-write-sets : tie.Need-element-write-sets
-element-write-sets c = inside (c .before .before .before .before .before .before .before .before .before .before .before) .1
-
-mul-sets-2 : tie.Need-mul-sets-2
-mul-sets-2 c = omega (arith, inside (c .before .before .before .before .before .before .before .before .before .before .before))
-
-element-write-sets-2 : tie.Need-element-write-sets-2
-element-write-sets-2 c = inside (c .before .before .before .before .before .before .before .before .before .before .before) .2
-
-moved-requires : tie.Need-moved-requires
-moved-requires c κs = inside (c .before .before .before .before .before .before .before .before .before .before .before) .1
-
-moved-requires-2 : tie.Need-moved-requires-2
-moved-requires-2 c κs = inside (c .before .before .before .before .before .before .before .before .before .before .before .before) .2
-
 returns-3 : tie.Need-returns-3
 unfolding at
 returns-3 c =
@@ -95,9 +59,12 @@ returns-3 c =
     (c .before .moved .ensures) (c .moved2 .ensures)
 
 pub along-spec : {M : Type 1} → statement M
-along-spec =
-    tie.close
-    (tie.spec
-    mul-t13 element-copy-out-t16 mul-t13-2 element-copy-out-t16-2 mul-t13-3 element-copy-out-t16-3 (λ c κs. search needs) (λ c. search needs) (λ c. search needs)
-    (λ c. search needs) in-lane-requires (λ c κs. search needs) returns (λ c. search needs) (λ c. search needs) (λ c. search needs) in-lane-requires-2 returns-2 mul-sets
-    element-write-sets mul-sets-2 element-write-sets-2 moved-requires moved-requires-2 returns-3)
+along-spec = tie.close (tie.spec
+    (λ c. omega (arith, inside c)) (λ c. inside c .0) (λ c. omega (arith, inside (c .before))) (λ c. inside (c .before) .1) (λ c. omega (arith, inside (c .before .before)))
+    (λ c. inside (c .before .before) .2) (λ c κs. search needs) (λ c. search needs) (λ c. search needs) (λ c. search needs) in-lane-requires (λ c κs. search needs) returns (λ c. search needs)
+    (λ c. search needs) (λ c. search needs) in-lane-requires-2 returns-2 (λ c. omega (arith, inside (c .before .before .before .before .before .before .before .before .before .before .before)))
+    (λ c. inside (c .before .before .before .before .before .before .before .before .before .before .before) .1)
+    (λ c. omega (arith, inside (c .before .before .before .before .before .before .before .before .before .before .before)))
+    (λ c. inside (c .before .before .before .before .before .before .before .before .before .before .before) .2)
+    (λ c κs. inside (c .before .before .before .before .before .before .before .before .before .before .before) .1)
+    (λ c κs. inside (c .before .before .before .before .before .before .before .before .before .before .before .before) .2) returns-3)

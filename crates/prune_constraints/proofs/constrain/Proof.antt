@@ -15,7 +15,4 @@ returns-2 : tie.Need-returns-2
 returns-2 c = search needs
 
 pub constrain-spec : {M : Type 1} → statement M
-constrain-spec =
-    tie.close
-    (tie.spec
-    (λ c. search needs) constrain8-requires returns (λ c κs. search needs) returns-2)
+constrain-spec = tie.close (tie.spec (λ c. search needs) constrain8-requires returns (λ c κs. search needs) returns-2)

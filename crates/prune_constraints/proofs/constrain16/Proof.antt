@@ -1,7 +1,7 @@
 -- The loop: only the constraints left of this round, and those of the next, may take something. Assumes nothing.
 use Rattle.model.specs.Kit.{⊎-elim, inr, _<_, arith, needs, trailingZeros}
-use Rattle.prune_constraints.proofs.ConstrainLoop.{Chosen, all-due, chosen-some, SoFar, measure, constrained-begin, constrained-end, k-lt, k-few, k-full, constrained-dead}
-use Rattle.prune_constraints.proofs.ConstrainLoop.{constrained-more, more-less, constrained-same, same-less}
+use Rattle.prune_constraints.proofs.ConstrainLoop.{Chosen, all-due, chosen-some, SoFar, measure, constrained-begin, constrained-end, k-lt, k-few, k-full, constrained-dead, constrained-more}
+use Rattle.prune_constraints.proofs.ConstrainLoop.{more-less, constrained-same, same-less}
 use Rattle.prune_constraints.proofs.constrain16.Statement.{statement}
 use Rattle.prune_constraints.proofs.constrain16.Tie as tie
 
@@ -24,21 +24,9 @@ loop-holds c = λ p w. constrained-begin p _ _ _ _ (search needs) w
 returns : tie.Need-returns Inv-loop μ-loop
 returns c = λ p w. constrained-end p _ _ _ _ _ _ _ (c .before .if1 .taken) (c .if2 .taken) (c .before .before .loop .inv p w)
 
-cast-revise16 : tie.Need-cast-revise16 Inv-loop μ-loop
-cast-revise16 c = omega (arith, few (c .before))
-
-revise16-requires : tie.Need-revise16-requires Inv-loop μ-loop
-revise16-requires c κs = let w = c .before .before .before .pre .1 in let i = c .before .before .loop .inv _ w in let o = choice (c .before) in (i .sixteen, (_, i .held, k-lt i o, k-full i o))
-
 returns-2 : tie.Need-returns-2 Inv-loop μ-loop
 returns-2 c = let o = choice (c .before .before .before) in λ p w. let i = c .before .before .before .before .loop .inv p w in constrained-dead i o
     (c .before .revise16 .ensures p (i .held) (k-lt i o)) (c .if3 .taken)
-
-sub-left : tie.Need-sub-left Inv-loop μ-loop
-sub-left c = let n = chosen-some (choice (c .before .before .before .before)) in omega arith
-
-waiting-requires : tie.Need-waiting-requires Inv-loop μ-loop
-waiting-requires c κs = omega (arith, few (c .before .before .before .before .before))
 
 loop-less : tie.Need-loop-less Inv-loop μ-loop
 loop-less c = let o = choice (c .before .before .before .before .before .before .before) in let i = c .before .before .before .before .before .before .before .before .loop .inv _
@@ -59,7 +47,8 @@ loop-again-2 c = let o = choice (c .before .before .before .before .before) in �
     (c .before .before .before .revise16 .ensures p (i .held) (k-lt i o)) (c .before .before .if3 .left) (c .if4 .left)
 
 pub constrain16-spec : {M : Type 1} → statement M
-constrain16-spec =
-    tie.close
-    (tie.spec
-    Inv-loop μ-loop loop-holds returns cast-revise16 revise16-requires returns-2 sub-left waiting-requires loop-less loop-again loop-less-2 loop-again-2)
+constrain16-spec = tie.close (tie.spec
+    Inv-loop μ-loop loop-holds returns (λ c. omega (arith, few (c .before)))
+    (λ c κs. let w = c .before .before .before .pre .1 in let i = c .before .before .loop .inv _ w in let o = choice (c .before) in (i .sixteen, (_, i .held, k-lt i o, k-full i o))) returns-2
+    (λ c. let n = chosen-some (choice (c .before .before .before .before)) in omega arith) (λ c κs. omega (arith, few (c .before .before .before .before .before))) loop-less loop-again loop-less-2
+    loop-again-2)

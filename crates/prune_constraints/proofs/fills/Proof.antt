@@ -9,7 +9,4 @@ unfolding at
 returns c = let d = c .before .before .before in λ q. lanes-of _ (search needs) (λ j w. d .pre .1 _ j w (search needs)) (c .before .before .heads .ensures) (eqb-true _ _ q)
 
 pub fills-spec : {M : Type 1} → statement M
-fills-spec =
-    tie.close
-    (tie.spec
-    (λ c κs. search needs) (λ c. search needs) (λ c. search needs) (λ c. search needs) (λ c. search needs) returns)
+fills-spec = tie.close (tie.spec (λ c κs. search needs) (λ c. search needs) (λ c. search needs) (λ c. search needs) (λ c. search needs) returns)

@@ -20,21 +20,6 @@ low c = lowest-left _ _ _ (c .before .before .before .loop .inv .rest) (some (c 
 loop-holds : tie.Need-loop-holds Inv-loop μ-loop
 loop-holds c = sifting-begin _ _ (search needs)
 
-cast-one-if : tie.Need-cast-one-if Inv-loop μ-loop
-cast-one-if c = omega (arith, low c)
-
-mul-one-if : tie.Need-mul-one-if Inv-loop μ-loop
-mul-one-if c = omega (arith, low c)
-
-element-copy-out-one-if : tie.Need-element-copy-out-one-if Inv-loop μ-loop
-element-copy-out-one-if c = omega (arith, low c)
-
-one-if-requires : tie.Need-one-if-requires Inv-loop μ-loop
-one-if-requires c κs = low (c .before)
-
-loop-less : tie.Need-loop-less Inv-loop μ-loop
-loop-less c = others-less _ _ (search needs) (some (c .before .before .before .before .before)) (c .without-lowest .ensures)
-
 loop-again : tie.Need-loop-again Inv-loop μ-loop
 unfolding at
 loop-again c =
@@ -45,8 +30,6 @@ returns : tie.Need-returns Inv-loop μ-loop
 returns c = sifting-end _ _ _ (eqb-true _ 0 (sym (c .before .is-empty .ensures) ∙ not-false _ (c .if1 .left))) (c .before .before .loop .inv)
 
 pub full-sets-spec : {M : Type 1} → statement M
-full-sets-spec =
-    tie.close
-    (tie.spec
-    Inv-loop μ-loop loop-holds (λ c κs. search needs) (λ c κs. search needs) cast-one-if mul-one-if element-copy-out-one-if one-if-requires (λ c κs. search needs)
-    (λ c κs. search needs) loop-less loop-again returns)
+full-sets-spec = tie.close (tie.spec
+    Inv-loop μ-loop loop-holds (λ c κs. search needs) (λ c κs. search needs) (λ c. omega (arith, low c)) (λ c. omega (arith, low c)) (λ c. omega (arith, low c)) (λ c κs. low (c .before))
+    (λ c κs. search needs) (λ c κs. search needs) (λ c. others-less _ _ (search needs) (some (c .before .before .before .before .before)) (c .without-lowest .ensures)) loop-again returns)

@@ -10,7 +10,4 @@ returns c = let t = c .before .before .before in let d = t .before in let h = d 
     (t .together .ensures lane f)
 
 pub in-lanes-spec : {M : Type 1} → statement M
-in-lanes-spec =
-    tie.close
-    (tie.spec
-    (λ c κs. search needs) (λ c. search needs) (λ c. search needs) (λ c. search needs) (λ c. search needs) (λ c. search needs) (λ c. search needs) returns)
+in-lanes-spec = tie.close (tie.spec (λ c κs. search needs) (λ c. search needs) (λ c. search needs) (λ c. search needs) (λ c. search needs) (λ c. search needs) (λ c. search needs) returns)

@@ -34,8 +34,6 @@ returns c =
     λ p g l. look-made g l (s .before .before .before .pre .0) (s .before .scope-at .ensures) (s .scope-at2 .ensures) (c .revise-one .ensures)
 
 pub look-up-spec : {M : Type 1} → statement M
-look-up-spec =
-    tie.close
-    (tie.spec
-    (λ c. search needs) (λ c. search needs) (λ c. search needs) (λ c κs. search needs) (λ c κs. search needs) (λ c. search needs) (λ c. search needs)
-    (λ c. search needs) mul-revise-one-2 add-revise-one add-revise-one-2 revise-one-requires returns)
+look-up-spec = tie.close (tie.spec
+    (λ c. search needs) (λ c. search needs) (λ c. search needs) (λ c κs. search needs) (λ c κs. search needs) (λ c. search needs) (λ c. search needs) (λ c. search needs) mul-revise-one-2
+    add-revise-one add-revise-one-2 revise-one-requires returns)

@@ -22,9 +22,6 @@ so-far c = let q = c .before .before .pre in c .before .loop .inv (q .0) (q .1) 
 loop-holds : tie.Need-loop-holds Inv-loop μ-loop
 loop-holds c = λ p todo w. looked-begin w (search needs)
 
-cast-look-up : tie.Need-cast-look-up Inv-loop μ-loop
-cast-look-up c = omega (arith, look-few (c .before .before .before .pre .2) (so-far (c .before)) (c .before .loop-test .taken))
-
 look-up-requires : tie.Need-look-up-requires Inv-loop μ-loop
 look-up-requires c κs =
     let t = so-far (c .before) in
@@ -36,12 +33,6 @@ returns c = λ p todo w.
     let n = c .before .before .before .loop-test .taken in
     looked-dead w t n (c .before .look-up .ensures p (t .so-far .held) (look-next w t n)) (c .if1 .taken)
 
-sub-left : tie.Need-sub-left Inv-loop μ-loop
-sub-left c = search needs
-
-loop-less : tie.Need-loop-less Inv-loop μ-loop
-loop-less c = rest-less _ (c .before .before .before .loop-test .taken)
-
 loop-again : tie.Need-loop-again Inv-loop μ-loop
 loop-again c = λ p todo w.
     let t = c .before .before .before .before .loop .inv p todo w in
@@ -52,7 +43,6 @@ returns-2 : tie.Need-returns-2 Inv-loop μ-loop
 returns-2 c = λ p todo w. looked-end w (c .before .loop .inv p todo w) (c .loop-test .left)
 
 pub look-ups-spec : {M : Type 1} → statement M
-look-ups-spec =
-    tie.close
-    (tie.spec
-    Inv-loop μ-loop loop-holds cast-look-up look-up-requires returns sub-left loop-less loop-again returns-2)
+look-ups-spec = tie.close (tie.spec
+    Inv-loop μ-loop loop-holds (λ c. omega (arith, look-few (c .before .before .before .pre .2) (so-far (c .before)) (c .before .loop-test .taken))) look-up-requires returns (λ c. search needs)
+    (λ c. rest-less _ (c .before .before .before .loop-test .taken)) loop-again returns-2)

@@ -21,7 +21,5 @@ returns : tie.Need-returns Inv-loop μ-loop
 returns c = masks-end (search needs) (search needs) (filled-end _ _ _ _ 16 _ (search needs) (search needs) (c .before .loop .inv .1))
 
 pub masks-spec : {M : Type 1} → statement M
-masks-spec =
-    tie.close
-    (tie.spec
+masks-spec = tie.close (tie.spec
     Inv-loop μ-loop loop-holds (λ c. search needs) (λ c κs. search needs) (λ c. search needs) (λ c. search needs) (λ c. search needs) (λ c. search needs) loop-again returns)

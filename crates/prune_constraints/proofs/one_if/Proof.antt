@@ -13,7 +13,4 @@ returns-2 : tie.Need-returns-2
 returns-2 c = search needs
 
 pub one-if-spec : {M : Type 1} → statement M
-one-if-spec =
-    tie.close
-    (tie.spec
-    (λ c κs. search needs) (λ c. search needs) (λ c κs. search needs) returns returns-2)
+one-if-spec = tie.close (tie.spec (λ c κs. search needs) (λ c. search needs) (λ c κs. search needs) returns returns-2)

@@ -22,32 +22,8 @@ low c = lowest-left _ _ _ (c .before .before .before .loop .inv .rest) (some (c 
 loop-holds : tie.Need-loop-holds Inv-loop μ-loop
 loop-holds c = passing-begin _ _ _ _ (search needs)
 
-is-empty-requires : tie.Need-is-empty-requires Inv-loop μ-loop
-is-empty-requires c κs = search needs
-
-lowest-requires : tie.Need-lowest-requires Inv-loop μ-loop
-lowest-requires c κs = search needs
-
-cast-t : tie.Need-cast-t Inv-loop μ-loop
-cast-t c = omega (arith, low c)
-
-add-t : tie.Need-add-t Inv-loop μ-loop
-add-t c = omega (arith, low c)
-
-mul-t : tie.Need-mul-t Inv-loop μ-loop
-mul-t c = omega (arith, low c)
-
-element-copy-out-t : tie.Need-element-copy-out-t Inv-loop μ-loop
-element-copy-out-t c = omega (arith, low c)
-
 returns : tie.Need-returns Inv-loop μ-loop
 returns c = λ q. absurd (subst T (sym q) tt)
-
-without-lowest-requires : tie.Need-without-lowest-requires Inv-loop μ-loop
-without-lowest-requires c κs = search needs
-
-loop-less : tie.Need-loop-less Inv-loop μ-loop
-loop-less c = others-less _ _ (search needs) (some (c .before .before .before .before .before)) (c .without-lowest .ensures)
 
 loop-again : tie.Need-loop-again Inv-loop μ-loop
 unfolding at
@@ -60,8 +36,6 @@ returns-2 c = λ q. subst (Supported2 _ _ _ _ _) (eqb-true _ _ q) (passing-end _
     (c .before .before .before .loop .inv))
 
 pub quiet16-spec : {M : Type 1} → statement M
-quiet16-spec =
-    tie.close
-    (tie.spec
-    Inv-loop μ-loop loop-holds is-empty-requires lowest-requires cast-t add-t mul-t element-copy-out-t returns without-lowest-requires loop-less loop-again
-    returns-2)
+quiet16-spec = tie.close (tie.spec
+    Inv-loop μ-loop loop-holds (λ c κs. search needs) (λ c κs. search needs) (λ c. omega (arith, low c)) (λ c. omega (arith, low c)) (λ c. omega (arith, low c)) (λ c. omega (arith, low c)) returns
+    (λ c κs. search needs) (λ c. others-less _ _ (search needs) (some (c .before .before .before .before .before)) (c .without-lowest .ensures)) loop-again returns-2)

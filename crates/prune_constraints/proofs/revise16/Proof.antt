@@ -84,9 +84,7 @@ returns-4 : tie.Need-returns-4
 returns-4 c = search needs
 
 pub revise16-spec : {M : Type 1} → statement M
-revise16-spec =
-    tie.close
-    (tie.spec
-    (λ c. search needs) (λ c. search needs) (λ c. search needs) (λ c κs. search needs) revise-few-requires returns (λ c κs. search needs) (λ c κs. search needs)
-    (λ c κs. search needs) (λ c. search needs) element-copy-out-t20 (λ c. search needs) element-copy-out-t20-2 (λ c κs. search needs) (λ c κs. search needs)
-    (λ c κs. search needs) (λ c κs. search needs) revise-last-requires returns-2 revise-rest-requires returns-3 revise-any-requires returns-4)
+revise16-spec = tie.close (tie.spec
+    (λ c. search needs) (λ c. search needs) (λ c. search needs) (λ c κs. search needs) revise-few-requires returns (λ c κs. search needs) (λ c κs. search needs) (λ c κs. search needs)
+    (λ c. search needs) element-copy-out-t20 (λ c. search needs) element-copy-out-t20-2 (λ c κs. search needs) (λ c κs. search needs) (λ c κs. search needs) (λ c κs. search needs)
+    revise-last-requires returns-2 revise-rest-requires returns-3 revise-any-requires returns-4)

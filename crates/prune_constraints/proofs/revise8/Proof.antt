@@ -107,10 +107,7 @@ returns-5 c =
     λ p g h. c .across .ensures _ _ (g .worded (i .before .before .before .before .before .before .pre .1 .5)) (three-of i p g h)
 
 pub revise8-spec : {M : Type 1} → statement M
-revise8-spec =
-    tie.close
-    (tie.spec
-    (λ c. search needs) (λ c. search needs) (λ c. search needs) (λ c κs. search needs) (λ c κs. search needs) (λ c κs. search needs) (λ c κs. search needs)
-    revise-two-requires returns revise-any-requires returns-2 (λ c κs. search needs) (λ c κs. search needs)
-    (λ c κs. search needs) (λ c. search needs) element-copy-out-t25 (λ c. search needs) element-copy-out-t25-2 (λ c κs. search needs) (λ c κs. search needs)
-    (λ c κs. search needs) (λ c κs. search needs) revise-last-requires returns-3 along-requires returns-4 across-requires returns-5)
+revise8-spec = tie.close (tie.spec
+    (λ c. search needs) (λ c. search needs) (λ c. search needs) (λ c κs. search needs) (λ c κs. search needs) (λ c κs. search needs) (λ c κs. search needs) revise-two-requires returns
+    revise-any-requires returns-2 (λ c κs. search needs) (λ c κs. search needs) (λ c κs. search needs) (λ c. search needs) element-copy-out-t25 (λ c. search needs) element-copy-out-t25-2
+    (λ c κs. search needs) (λ c κs. search needs) (λ c κs. search needs) (λ c κs. search needs) revise-last-requires returns-3 along-requires returns-4 across-requires returns-5)

@@ -50,9 +50,6 @@ unfolding at
 returns-2 c = λ p g h. c .leave .ensures _ _ _ (three-of (c .before .before .before .before .before .before) p g h) (c .before .before .supported3 .ensures)
 
 pub revise-any-spec : {M : Type 1} → statement M
-revise-any-spec =
-    tie.close
-    (tie.spec
-    (λ c. search needs) (λ c. search needs) (λ c. search needs) (λ c κs. search needs) revise-few-requires returns (λ c κs. search needs) (λ c κs. search needs)
-    (λ c κs. search needs) (λ c. search needs) element-copy-out-t22 (λ c. search needs) element-copy-out-t22-2 (λ c. search needs) element-copy-out-t22-3
-    (λ c. search needs) (λ c κs. search needs) leave-requires returns-2)
+revise-any-spec = tie.close (tie.spec
+    (λ c. search needs) (λ c. search needs) (λ c. search needs) (λ c κs. search needs) revise-few-requires returns (λ c κs. search needs) (λ c κs. search needs) (λ c κs. search needs)
+    (λ c. search needs) element-copy-out-t22 (λ c. search needs) element-copy-out-t22-2 (λ c. search needs) element-copy-out-t22-3 (λ c. search needs) (λ c κs. search needs) leave-requires returns-2)

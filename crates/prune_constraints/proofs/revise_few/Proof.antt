@@ -32,8 +32,6 @@ returns-2 c =
     λ p g h. one (read-1 g _ h _ (c4 .scope-at .ensures) (q .1 .0) (λ e. c .before .before .if1 .left (c .before .before .before .arity .ensures ∙ e))) _ (q .0) _ _ (c .revise-one .ensures)
 
 pub revise-few-spec : {M : Type 1} → statement M
-revise-few-spec =
-    tie.close
-    (tie.spec
-    (λ c. search needs) (λ c. search needs) (λ c. search needs) (λ c κs. search needs) (λ c κs. search needs) (λ c κs. search needs) revise-two-requires returns
-    (λ c. search needs) revise-one-requires returns-2)
+revise-few-spec = tie.close (tie.spec
+    (λ c. search needs) (λ c. search needs) (λ c. search needs) (λ c κs. search needs) (λ c κs. search needs) (λ c κs. search needs) revise-two-requires returns (λ c. search needs)
+    revise-one-requires returns-2)

@@ -22,18 +22,6 @@ v-lt : (c : tie.After-lowest2) → c .lowest2 .result < 16
 unfolding at
 v-lt c = let d = c .before .before .before .before in omega (arith, c .lowest2 .ensures, v-has (d .pre .1 .1 .1) (d .args .sets .now) (d .pre .0) (d .pre .1 .0 .0) (d .pre .1 .0 .1) .1)
 
-mul-t10 : tie.Need-mul-t10
-mul-t10 c = omega (arith, x-lt c)
-
-element-copy-out-t13 : tie.Need-element-copy-out-t13
-element-copy-out-t13 c = x-lt c
-
-mul-t10-2 : tie.Need-mul-t10-2
-mul-t10-2 c = omega (arith, y-lt (c .before .before))
-
-element-copy-out-t13-2 : tie.Need-element-copy-out-t13-2
-element-copy-out-t13-2 c = y-lt (c .before .before)
-
 revise-one-requires : tie.Need-revise-one-requires
 unfolding at
 revise-one-requires c κs = let d = c .before .before .before .before .before in (d .pre .0, (z-lt d, omega (arith, u-lt (c .before .before .before), v-lt (c .before), d .pre .1 .1 .1 .room)))
@@ -47,8 +35,6 @@ returns c =
     (c .revise-one .ensures)
 
 pub revise-last-spec : {M : Type 1} → statement M
-revise-last-spec =
-    tie.close
-    (tie.spec
-    mul-t10 element-copy-out-t13 (λ c κs. search needs) (λ c. search needs) mul-t10-2 element-copy-out-t13-2 (λ c κs. search needs) (λ c. search needs)
-    (λ c. search needs) (λ c. search needs) (λ c. search needs) (λ c. search needs) revise-one-requires returns)
+revise-last-spec = tie.close (tie.spec
+    (λ c. omega (arith, x-lt c)) (λ c. x-lt c) (λ c κs. search needs) (λ c. search needs) (λ c. omega (arith, y-lt (c .before .before))) (λ c. y-lt (c .before .before)) (λ c κs. search needs)
+    (λ c. search needs) (λ c. search needs) (λ c. search needs) (λ c. search needs) (λ c. search needs) revise-one-requires returns)

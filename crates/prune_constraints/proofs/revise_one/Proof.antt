@@ -19,8 +19,6 @@ unfolding at
 returns-2 c = cut-live _ _ _ _ _ (cut-is (c .before .before .before)) (search needs) (eqb-false _ 0 (sym (c .before .before .is-empty .ensures) ∙ c .before .if1 .left)) (c .moved .ensures)
 
 pub revise-one-spec : {M : Type 1} → statement M
-revise-one-spec =
-    tie.close
-    (tie.spec
-    (λ c. search needs) (λ c. search needs) (λ c. search needs) (λ c. search needs) (λ c κs. search needs) (λ c κs. search needs) returns (λ c. search needs)
-    (λ c. search needs) (λ c κs. search needs) returns-2)
+revise-one-spec = tie.close (tie.spec
+    (λ c. search needs) (λ c. search needs) (λ c. search needs) (λ c. search needs) (λ c κs. search needs) (λ c κs. search needs) returns (λ c. search needs) (λ c. search needs)
+    (λ c κs. search needs) returns-2)

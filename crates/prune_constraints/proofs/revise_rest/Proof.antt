@@ -16,24 +16,6 @@ low c = let d = c .before .before .before .before in lowest-left _ _ _ (rest-beg
 narrow : (c : tie.After-supported2) → (c .supported2 .result .first .bits < 2 ^ 16) × (c .supported2 .result .last .bits < 2 ^ 16)
 narrow c = (search needs, search needs)
 
-mul-t14 : tie.Need-mul-t14
-mul-t14 c = omega (arith, inside c)
-
-element-copy-out-t17 : tie.Need-element-copy-out-t17
-element-copy-out-t17 c = inside c .0
-
-mul-t14-2 : tie.Need-mul-t14-2
-mul-t14-2 c = omega (arith, inside (c .before))
-
-element-copy-out-t17-2 : tie.Need-element-copy-out-t17-2
-element-copy-out-t17-2 c = inside (c .before) .1
-
-mul-t14-3 : tie.Need-mul-t14-3
-mul-t14-3 c = omega (arith, inside (c .before .before))
-
-element-copy-out-t17-3 : tie.Need-element-copy-out-t17-3
-element-copy-out-t17-3 c = inside (c .before .before) .2
-
 quiet16-requires : tie.Need-quiet16-requires
 unfolding at
 quiet16-requires c κs = omega (arith, low c, c .before .before .before .before .pre .1 .1 .1 .room)
@@ -58,24 +40,6 @@ returns-2 c =
     let d = l .before .before .before .before in λ e q.
     along-dead q (d .args .sets .now) (d .pre .0) (d .pre .1 .0 .0) (l .lowest .ensures) (j .supported2 .ensures .last-i) (eqb-true _ 0 (sym (c .before .is-empty .ensures) ∙ c .if2 .taken))
 
-mul-sets : tie.Need-mul-sets
-mul-sets c = omega (arith, inside (c .before .before .before .before .before .before .before .before .before .before .before))
-
-element-write-sets : tie.Need-element-write-sets
-element-write-sets c = inside (c .before .before .before .before .before .before .before .before .before .before .before) .1
-
-mul-sets-2 : tie.Need-mul-sets-2
-mul-sets-2 c = omega (arith, inside (c .before .before .before .before .before .before .before .before .before .before .before))
-
-element-write-sets-2 : tie.Need-element-write-sets-2
-element-write-sets-2 c = inside (c .before .before .before .before .before .before .before .before .before .before .before) .2
-
-moved-requires : tie.Need-moved-requires
-moved-requires c κs = inside (c .before .before .before .before .before .before .before .before .before .before .before) .1
-
-moved-requires-2 : tie.Need-moved-requires-2
-moved-requires-2 c κs = inside (c .before .before .before .before .before .before .before .before .before .before .before .before) .2
-
 returns-3 : tie.Need-returns-3
 unfolding at
 returns-3 c =
@@ -87,9 +51,12 @@ returns-3 c =
     (narrow j .1) (narrow j .0) _ _ (c .before .moved .ensures) (c .moved2 .ensures)
 
 pub revise-rest-spec : {M : Type 1} → statement M
-revise-rest-spec =
-    tie.close
-    (tie.spec
-    mul-t14 element-copy-out-t17 mul-t14-2 element-copy-out-t17-2 mul-t14-3 element-copy-out-t17-3 (λ c. search needs) (λ c κs. search needs) (λ c. search needs)
-    (λ c. search needs) (λ c. search needs) quiet16-requires returns supported2-requires (λ c κs. search needs) returns-2 mul-sets element-write-sets mul-sets-2
-    element-write-sets-2 moved-requires moved-requires-2 returns-3)
+revise-rest-spec = tie.close (tie.spec
+    (λ c. omega (arith, inside c)) (λ c. inside c .0) (λ c. omega (arith, inside (c .before))) (λ c. inside (c .before) .1) (λ c. omega (arith, inside (c .before .before)))
+    (λ c. inside (c .before .before) .2) (λ c. search needs) (λ c κs. search needs) (λ c. search needs) (λ c. search needs) (λ c. search needs) quiet16-requires returns supported2-requires
+    (λ c κs. search needs) returns-2 (λ c. omega (arith, inside (c .before .before .before .before .before .before .before .before .before .before .before)))
+    (λ c. inside (c .before .before .before .before .before .before .before .before .before .before .before) .1)
+    (λ c. omega (arith, inside (c .before .before .before .before .before .before .before .before .before .before .before)))
+    (λ c. inside (c .before .before .before .before .before .before .before .before .before .before .before) .2)
+    (λ c κs. inside (c .before .before .before .before .before .before .before .before .before .before .before) .1)
+    (λ c κs. inside (c .before .before .before .before .before .before .before .before .before .before .before .before) .2) returns-3)

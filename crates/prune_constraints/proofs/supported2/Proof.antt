@@ -26,45 +26,6 @@ support-is c = c .common .ensures ∙ sym (common-op-r _ _ (search needs))
 loop-holds : tie.Need-loop-holds Inv-loop μ-loop
 loop-holds c = (omega arith, supporting2-begin _ _ _ _ (search needs))
 
-is-empty-requires : tie.Need-is-empty-requires Inv-loop μ-loop
-is-empty-requires c κs = search needs
-
-lowest-requires : tie.Need-lowest-requires Inv-loop μ-loop
-lowest-requires c κs = search needs
-
-cast-t13 : tie.Need-cast-t13 Inv-loop μ-loop
-cast-t13 c = omega (arith, low c)
-
-add-t14 : tie.Need-add-t14 Inv-loop μ-loop
-add-t14 c = omega (arith, low c)
-
-mul-t15 : tie.Need-mul-t15 Inv-loop μ-loop
-mul-t15 c = omega (arith, low c)
-
-element-copy-out-t18 : tie.Need-element-copy-out-t18 Inv-loop μ-loop
-element-copy-out-t18 c = omega (arith, low c)
-
-common-requires : tie.Need-common-requires Inv-loop μ-loop
-common-requires c κs = search needs
-
-is-empty-requires-2 : tie.Need-is-empty-requires-2 Inv-loop μ-loop
-is-empty-requires-2 c κs = search needs
-
-one-if-requires : tie.Need-one-if-requires Inv-loop μ-loop
-one-if-requires c κs = low (c .before .before .before)
-
-union-requires : tie.Need-union-requires Inv-loop μ-loop
-union-requires c κs = search needs
-
-union-requires-2 : tie.Need-union-requires-2 Inv-loop μ-loop
-union-requires-2 c κs = search needs
-
-without-lowest-requires : tie.Need-without-lowest-requires Inv-loop μ-loop
-without-lowest-requires c κs = search needs
-
-loop-less : tie.Need-loop-less Inv-loop μ-loop
-loop-less c = others-less _ _ (search needs) (some (c .before .before .before .before .before .before .before .before)) (c .without-lowest .ensures)
-
 loop-again : tie.Need-loop-again Inv-loop μ-loop
 unfolding at
 loop-again c =
@@ -81,8 +42,7 @@ returns : tie.Need-returns Inv-loop μ-loop
 returns c = supporting2-end _ _ _ _ _ _ _ (eqb-true _ 0 (sym (c .before .is-empty .ensures) ∙ not-false _ (c .if1 .left))) (c .before .before .loop .inv .1)
 
 pub supported2-spec : {M : Type 1} → statement M
-supported2-spec =
-    tie.close
-    (tie.spec
-    Inv-loop μ-loop loop-holds is-empty-requires lowest-requires cast-t13 add-t14 mul-t15 element-copy-out-t18 common-requires is-empty-requires-2
-    one-if-requires union-requires union-requires-2 without-lowest-requires loop-less loop-again returns)
+supported2-spec = tie.close (tie.spec
+    Inv-loop μ-loop loop-holds (λ c κs. search needs) (λ c κs. search needs) (λ c. omega (arith, low c)) (λ c. omega (arith, low c)) (λ c. omega (arith, low c)) (λ c. omega (arith, low c))
+    (λ c κs. search needs) (λ c κs. search needs) (λ c κs. low (c .before .before .before)) (λ c κs. search needs) (λ c κs. search needs) (λ c κs. search needs)
+    (λ c. others-less _ _ (search needs) (some (c .before .before .before .before .before .before .before .before)) (c .without-lowest .ensures)) loop-again returns)

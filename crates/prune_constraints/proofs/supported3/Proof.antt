@@ -27,21 +27,6 @@ low c = lowest-left _ _ _ (left-rest (c .before .before .before)) (some (c .befo
 loop-holds : tie.Need-loop-holds Inv-loop μ-loop
 loop-holds c = λ e k. supporting3-begin _ _ _ _ e (search needs)
 
-cast-meet : tie.Need-cast-meet Inv-loop μ-loop
-cast-meet c = omega (arith, low c)
-
-mul-meet : tie.Need-mul-meet Inv-loop μ-loop
-mul-meet c = omega (arith, low c)
-
-add-meet : tie.Need-add-meet Inv-loop μ-loop
-add-meet c = omega (arith, low c)
-
-meet-requires : tie.Need-meet-requires Inv-loop μ-loop
-meet-requires c κs = let l = c .before .before .before .before .before in (omega (arith, low (c .before .before)), l .loop .inv _ (l .before .masks .ensures) .size)
-
-one-if-requires : tie.Need-one-if-requires Inv-loop μ-loop
-one-if-requires c κs = low (c .before .before .before)
-
 loop-less : tie.Need-loop-less Inv-loop μ-loop
 loop-less c =
     let l = c .before .before .before .before .before .before .before in
@@ -60,8 +45,7 @@ returns c =
     (l .before .before .loop .inv _ (l .before .before .before .masks .ensures)) (c .full-sets .ensures)
 
 pub supported3-spec : {M : Type 1} → statement M
-supported3-spec =
-    tie.close
-    (tie.spec
-    Inv-loop μ-loop (λ c κs. search needs) loop-holds (λ c κs. search needs) (λ c κs. search needs) cast-meet mul-meet add-meet meet-requires one-if-requires (λ c κs. search needs)
-    (λ c κs. search needs) loop-less loop-again (λ c κs. search needs) returns)
+supported3-spec = tie.close (tie.spec
+    Inv-loop μ-loop (λ c κs. search needs) loop-holds (λ c κs. search needs) (λ c κs. search needs) (λ c. omega (arith, low c)) (λ c. omega (arith, low c)) (λ c. omega (arith, low c))
+    (λ c κs. let l = c .before .before .before .before .before in (omega (arith, low (c .before .before)), l .loop .inv _ (l .before .masks .ensures) .size))
+    (λ c κs. low (c .before .before .before)) (λ c κs. search needs) (λ c κs. search needs) loop-less loop-again (λ c κs. search needs) returns)

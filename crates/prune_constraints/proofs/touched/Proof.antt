@@ -17,24 +17,6 @@ low c = rest-low 64 _ _ (c .before .loop .inv .0) (c .loop-test .taken) .1
 loop-holds : tie.Need-loop-holds Inv-loop μ-loop
 loop-holds c = (rest-begin 64 _ (search needs), union-begin _ _)
 
-cast-all : tie.Need-cast-all Inv-loop μ-loop
-cast-all c = omega (arith, low c)
-
-add-all : tie.Need-add-all Inv-loop μ-loop
-add-all c = omega (arith, low c)
-
-mul-all : tie.Need-mul-all Inv-loop μ-loop
-mul-all c = omega (arith, low c)
-
-element-copy-out-all : tie.Need-element-copy-out-all Inv-loop μ-loop
-element-copy-out-all c = omega (arith, low c)
-
-sub-m : tie.Need-sub-m Inv-loop μ-loop
-sub-m c = search needs
-
-loop-less : tie.Need-loop-less Inv-loop μ-loop
-loop-less c = rest-less _ (c .before .loop-test .taken)
-
 loop-again : tie.Need-loop-again Inv-loop μ-loop
 unfolding at
 loop-again c = (
@@ -47,7 +29,6 @@ returns : tie.Need-returns Inv-loop μ-loop
 returns c = touched-all _ _ _ _ (c .loop-test .left) (c .before .loop .inv .1)
 
 pub touched-spec : {M : Type 1} → statement M
-touched-spec =
-    tie.close
-    (tie.spec
-    Inv-loop μ-loop loop-holds cast-all add-all mul-all element-copy-out-all sub-m loop-less loop-again returns)
+touched-spec = tie.close (tie.spec
+    Inv-loop μ-loop loop-holds (λ c. omega (arith, low c)) (λ c. omega (arith, low c)) (λ c. omega (arith, low c)) (λ c. omega (arith, low c)) (λ c. search needs)
+    (λ c. rest-less _ (c .before .loop-test .taken)) loop-again returns)

@@ -1,6 +1,5 @@
 -- Those touched, without number k and those left. Assumes nothing.
-use Rattle.model.specs.Kit.{_≡_, refl, sym, ap, subst, Bool, true, false, not, _⊎_, inl, inr, ⊎-elim, List, ℕ, _-_, _*_, _%_, _^_, _<_, T, eqb→eq, bitAnd, bitOr, or-lt, pow-lt}
-use Rattle.model.specs.Kit.{needs}
+use Rattle.model.specs.Kit.{_≡_, refl, sym, ap, subst, Bool, true, false, not, _⊎_, inl, inr, ⊎-elim, List, ℕ, _-_, _*_, _%_, _^_, _<_, T, eqb→eq, bitAnd, bitOr, or-lt, pow-lt, needs}
 use Rattle.model.specs.ValueSets.{has}
 use Rattle.model.proofs.{Lists.T-of, Lists.both-i, Sets.has-lt, Members.one-bit, Members.one-has, Members.or-e, Members.and-e}
 use Rattle.prune_constraints.specs.inner.Steps.{Touched, Waiting}

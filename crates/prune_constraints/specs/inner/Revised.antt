@@ -1,7 +1,7 @@
 -- Pruning by the constraints alone: what one constraint leaves of the sets, and what the functions of this crate say of a problem.
 use Rattle.model.specs.Kit.{_≡_, false, not, List, List·Memᴰ, ℕ, _<_, T, eqb, length}
-use Rattle.model.specs.{Lists.both, Lists.at, Lists.tabulate, ValueSets.has, ValueSets.maskOf, ValueSets.Inside, Problem.Problem, Problem.Constraint, Problem.constraintAt}
-use Rattle.model.specs.{Search.supported, inner.Pruning.Sets, inner.WellFormed.WellFormed}
+use Rattle.model.specs.{Lists.both, Lists.at, Lists.tabulate, ValueSets.has, ValueSets.maskOf, ValueSets.Inside, Problem.Problem, Problem.Constraint, Problem.constraintAt, Search.supported}
+use Rattle.model.specs.{inner.Pruning.Sets, inner.WellFormed.WellFormed}
 use Rattle.model.proofs.Sets.{size}
 use Rattle.arrays.specs.{inner.Places.VALUES, inner.Places.DEAD, inner.Layout.Numbers, inner.Layout.Supports, inner.Tables.Linked, inner.Tables.Words, inner.Tables.byRows, inner.Pruning.Given}
 use Rattle.arrays.specs.inner.Pruning.{Lessened, Ended, Fixed, setsOf}

@@ -21,12 +21,6 @@ so-far c = let q = c .before .before .pre .1 in c .before .loop .inv (q .0) (q .
 loop-holds : tie.Need-loop-holds Inv-loop μ-loop
 loop-holds c = λ p w. arcs-begin w (search needs) (c .pre .0)
 
-cast-x : tie.Need-cast-x Inv-loop μ-loop
-cast-x c = omega (arith, arcs-lt (c .before .before .pre .1 .1) (so-far c) (c .loop-test .taken))
-
-element-copy-out-cut-by : tie.Need-element-copy-out-cut-by Inv-loop μ-loop
-element-copy-out-cut-by c = search needs
-
 cut-by-requires : tie.Need-cut-by-requires Inv-loop μ-loop
 unfolding at
 cut-by-requires c κs = let i = c .before .before in (_, arcs-ready (i .before .before .pre .1 .1) (so-far i) (i .loop-test .taken))
@@ -37,9 +31,6 @@ returns c =
     let i = c .before .before .before .before in λ p w.
     let t = i .before .loop .inv p w in
     arcs-dead w t (i .loop-test .taken) (c .before .cut-by .ensures p (arcs-ready w t (i .loop-test .taken))) (c .if1 .taken)
-
-sub-left : tie.Need-sub-left Inv-loop μ-loop
-sub-left c = search needs
 
 loop-less : tie.Need-loop-less Inv-loop μ-loop
 unfolding at
@@ -60,7 +51,6 @@ returns-2 : tie.Need-returns-2 Inv-loop μ-loop
 returns-2 c = λ p w. arcs-end w (c .before .loop .inv p w) (c .loop-test .left)
 
 pub arcs-spec : {M : Type 1} → statement M
-arcs-spec =
-    tie.close
-    (tie.spec
-    Inv-loop μ-loop loop-holds cast-x element-copy-out-cut-by cut-by-requires returns sub-left loop-less loop-again returns-2)
+arcs-spec = tie.close (tie.spec
+    Inv-loop μ-loop loop-holds (λ c. omega (arith, arcs-lt (c .before .before .pre .1 .1) (so-far c) (c .loop-test .taken))) (λ c. search needs) cut-by-requires returns (λ c. search needs) loop-less
+    loop-again returns-2)

@@ -2,8 +2,7 @@
 use Rattle.model.specs.Kit.{_≡_, refl, sym, _∙_, _<_, replicate, arith, needs, eqb-true, eqb-false, not-true, not-false}
 use Rattle.model.specs.Lists.{at}
 use Rattle.model.proofs.{Members.lowest-left, Members.others-less, Lists.at-replicate}
-use Rattle.prune_pairs.proofs.Covers.{Covering, covering-begin, covering-turn, covering-end, zeros, narrow-at}
-use Rattle.prune_pairs.proofs.cover_of.Statement.{statement}
+use Rattle.prune_pairs.proofs.{Covers.Covering, Covers.covering-begin, Covers.covering-turn, Covers.covering-end, Covers.zeros, Covers.narrow-at, cover_of.Statement.statement}
 use Rattle.prune_pairs.proofs.cover_of.Tie as tie
 
 abbrev Inv-loop : tie.InvT-loop
@@ -22,32 +21,8 @@ loop-holds : tie.Need-loop-holds Inv-loop μ-loop
 unfolding at
 loop-holds c = covering-begin _ _ _ (replicate 16 0) (refl, zeros) (search needs) (λ y h. at-replicate 16 y)
 
-is-empty-requires : tie.Need-is-empty-requires Inv-loop μ-loop
-is-empty-requires c κs = search needs
-
-lowest-requires : tie.Need-lowest-requires Inv-loop μ-loop
-lowest-requires c κs = search needs
-
-cast-v : tie.Need-cast-v Inv-loop μ-loop
-cast-v c = omega (arith, low c)
-
-mul-add : tie.Need-mul-add Inv-loop μ-loop
-mul-add c = search needs
-
-mul-add-2 : tie.Need-mul-add-2 Inv-loop μ-loop
-mul-add-2 c = omega (arith, low (c .before))
-
-add-add : tie.Need-add-add Inv-loop μ-loop
-add-add c = omega (arith, low (c .before))
-
 add-requires : tie.Need-add-requires Inv-loop μ-loop
 add-requires c κs = (omega (arith, low (c .before)), narrow-at _ _ _ (low (c .before)) (c .before .before .before .before .before .pre .1), c .before .before .before .before .loop .inv .sets)
-
-without-lowest-requires : tie.Need-without-lowest-requires Inv-loop μ-loop
-without-lowest-requires c κs = search needs
-
-loop-less : tie.Need-loop-less Inv-loop μ-loop
-loop-less c = others-less _ _ (search needs) (some (c .before .before .before .before)) (c .without-lowest .ensures)
 
 loop-again : tie.Need-loop-again Inv-loop μ-loop
 loop-again c = covering-turn (c .before .before .before .before .before .before .loop .inv) (some (c .before .before .before .before)) (c .before .before .before .lowest .ensures) _
@@ -57,8 +32,7 @@ returns : tie.Need-returns Inv-loop μ-loop
 returns c = covering-end (c .before .before .loop .inv) (eqb-true _ 0 (sym (c .before .is-empty .ensures) ∙ not-false _ (c .if1 .left)))
 
 pub cover-of-spec : {M : Type 1} → statement M
-cover-of-spec =
-    tie.close
-    (tie.spec
-    Inv-loop μ-loop loop-holds is-empty-requires lowest-requires cast-v mul-add mul-add-2 add-add add-requires without-lowest-requires loop-less loop-again
+cover-of-spec = tie.close (tie.spec
+    Inv-loop μ-loop loop-holds (λ c κs. search needs) (λ c κs. search needs) (λ c. omega (arith, low c)) (λ c. search needs) (λ c. omega (arith, low (c .before)))
+    (λ c. omega (arith, low (c .before))) add-requires (λ c κs. search needs) (λ c. others-less _ _ (search needs) (some (c .before .before .before .before)) (c .without-lowest .ensures)) loop-again
     returns)

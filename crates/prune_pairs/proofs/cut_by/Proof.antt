@@ -36,9 +36,6 @@ returns-2 c =
     let n = eqb-false _ 0 (sym (c .before .before .is-empty .ensures) ∙ c .before .if1 .left) in
     λ p w. by-loose w (bit-in _ _ (c .if2 .taken)) (λ e. n (c .before .before .before .without-lowest .ensures ∙ e))
 
-cover-of-requires : tie.Need-cover-of-requires
-cover-of-requires c κs = let w = c .before .before .before .before .before .pre .1 in (x-lt w, ready-narrow w)
-
 returns-3 : tie.Need-returns-3
 unfolding at
 returns-3 c = λ p w. by-cut w (c .before .before .before .before .before .before .before .cover-of .ensures) (c .cut .ensures)
@@ -48,9 +45,7 @@ unfolding at
 returns-4 c = λ p w. by-covered w (c .before .before .before .before .cover-of .ensures) (c .before .exceeds .ensures (c .if3 .left))
 
 pub cut-by-spec : {M : Type 1} → statement M
-cut-by-spec =
-    tie.close
-    (tie.spec
-    (λ c. search needs) (λ c. search needs) (λ c κs. search needs) (λ c κs. search needs) (λ c. search needs) (λ c κs. search needs) (λ c. search needs)
-    (λ c. search needs) (λ c. search needs) (λ c. search needs) (λ c. search needs) (λ c. search needs) (λ c. search needs) part-cut-row-end cut-row-requires
-    returns (λ c. search needs) returns-2 cover-of-requires (λ c κs. search needs) (λ c κs. search needs) returns-3 returns-4)
+cut-by-spec = tie.close (tie.spec
+    (λ c. search needs) (λ c. search needs) (λ c κs. search needs) (λ c κs. search needs) (λ c. search needs) (λ c κs. search needs) (λ c. search needs) (λ c. search needs) (λ c. search needs)
+    (λ c. search needs) (λ c. search needs) (λ c. search needs) (λ c. search needs) part-cut-row-end cut-row-requires returns (λ c. search needs) returns-2
+    (λ c κs. let w = c .before .before .before .before .before .pre .1 in (x-lt w, ready-narrow w)) (λ c κs. search needs) (λ c κs. search needs) returns-3 returns-4)

@@ -13,24 +13,6 @@ abbrev μ-loop : tie.MeasureT-loop
 loop-holds : tie.Need-loop-holds Inv-loop μ-loop
 loop-holds c = compared-begin _ _
 
-mul-over : tie.Need-mul-over Inv-loop μ-loop
-mul-over c = omega arith
-
-element-copy-out-over : tie.Need-element-copy-out-over Inv-loop μ-loop
-element-copy-out-over c = omega arith
-
-mul-over-2 : tie.Need-mul-over-2 Inv-loop μ-loop
-mul-over-2 c = omega arith
-
-element-copy-out-over-2 : tie.Need-element-copy-out-over-2 Inv-loop μ-loop
-element-copy-out-over-2 c = omega arith
-
-add-y : tie.Need-add-y Inv-loop μ-loop
-add-y c = omega arith
-
-loop-less : tie.Need-loop-less Inv-loop μ-loop
-loop-less c = omega arith
-
 loop-again : tie.Need-loop-again Inv-loop μ-loop
 unfolding at
 loop-again c = compared-turn (c .before .before .before .loop .inv) (omega arith) (c .before .before .before .before .pre .0 .1 _) (c .before .before .before .before .pre .1 .1 _)
@@ -39,7 +21,4 @@ returns : tie.Need-returns Inv-loop μ-loop
 returns c = λ e. compared-end (c .before .loop .inv) (omega arith) (c .before .before .pre .0 .0) (ne-false _ e)
 
 pub exceeds-spec : {M : Type 1} → statement M
-exceeds-spec =
-    tie.close
-    (tie.spec
-    Inv-loop μ-loop loop-holds mul-over element-copy-out-over mul-over-2 element-copy-out-over-2 add-y loop-less loop-again returns)
+exceeds-spec = tie.close (tie.spec Inv-loop μ-loop loop-holds (λ c. omega arith) (λ c. omega arith) (λ c. omega arith) (λ c. omega arith) (λ c. omega arith) (λ c. omega arith) loop-again returns)

@@ -1,12 +1,12 @@
 -- `prune_symmetries::resolve` meets its contract: by recursion, where what is left of the levels falls. Assumes nothing.
 use Rattle.model.specs.Kit.{⊎-elim, ℕ, _+_, _*_, _-_, _<_, arith, needs}
+use Rattle.model.specs.{Lists.at, Problem.Problem}
 use borrow.Fn.Kinds.{In}
 use borrow.Fn.PlainCycle.{Measures, is, falls, and}
-use Rattle.model.specs.{Lists.at, Problem.Problem}
 use Rattle.arrays.specs.inner.Places.{ENTAILED}
 use Rattle.prune_symmetries.specs.inner.Levels.{AtSplit, PassResult, SplitResult}
-use Rattle.prune_symmetries.proofs.Splits.{split-image, split-asks, forced-ready, resolve-gone, resolve-changed, resolve-end, next-split, next-later, resolve-consistent}
-use Rattle.prune_symmetries.proofs.{Splits.resolve-taken, Splits.resolve-again, +resolve.statement, +resolve.Tie.close}
+use Rattle.prune_symmetries.proofs.{Splits.split-image, Splits.split-asks, Splits.forced-ready, Splits.resolve-gone, Splits.resolve-changed, Splits.resolve-end, Splits.next-split}
+use Rattle.prune_symmetries.proofs.{Splits.next-later, Splits.resolve-consistent, Splits.resolve-taken, Splits.resolve-again, +resolve.statement, +resolve.Tie.close}
 use Rattle.prune_symmetries.proofs.resolve.Reads as resolve
 use Rattle.prune_symmetries.proofs.resolve.Kinds as resolve-kinds
 use Rattle.prune_symmetries.proofs.+resolve.Lts-resolve as lts

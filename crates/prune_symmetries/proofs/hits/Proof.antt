@@ -13,27 +13,6 @@ abbrev μ-loop : tie.MeasureT-loop
 loop-holds : tie.Need-loop-holds Inv-loop μ-loop
 loop-holds c = missing-none (c .args .sets .now) (c .args .tables .now) (c .args .first)
 
-mul-hit : tie.Need-mul-hit Inv-loop μ-loop
-mul-hit c = search needs
-
-element-copy-out-hit : tie.Need-element-copy-out-hit Inv-loop μ-loop
-element-copy-out-hit c = search needs
-
-add-hit : tie.Need-add-hit Inv-loop μ-loop
-add-hit c = search needs
-
-mul-hit-2 : tie.Need-mul-hit-2 Inv-loop μ-loop
-mul-hit-2 c = search needs
-
-element-copy-out-hit-2 : tie.Need-element-copy-out-hit-2 Inv-loop μ-loop
-element-copy-out-hit-2 c = search needs
-
-add-y : tie.Need-add-y Inv-loop μ-loop
-add-y c = search needs
-
-loop-less : tie.Need-loop-less Inv-loop μ-loop
-loop-less c = search needs
-
 loop-again : tie.Need-loop-again Inv-loop μ-loop
 unfolding at
 loop-again c = missing-next (c .before .before .before .before .args .sets .now) (c .before .before .before .before .args .tables .now) (c .before .before .before .before .args .first)
@@ -44,7 +23,5 @@ returns c = missed (c .before .before .args .sets .now) (c .before .before .args
     (c .before .loop .inv)
 
 pub hits-spec : {M : Type 1} → statement M
-hits-spec =
-    tie.close
-    (tie.spec
-    Inv-loop μ-loop loop-holds mul-hit element-copy-out-hit add-hit mul-hit-2 element-copy-out-hit-2 add-y loop-less loop-again returns)
+hits-spec = tie.close (tie.spec
+    Inv-loop μ-loop loop-holds (λ c. search needs) (λ c. search needs) (λ c. search needs) (λ c. search needs) (λ c. search needs) (λ c. search needs) (λ c. search needs) loop-again returns)

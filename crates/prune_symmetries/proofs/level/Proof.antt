@@ -6,12 +6,6 @@ use Rattle.prune_symmetries.proofs.level.Tie as tie
 returns : tie.Need-returns
 returns c = (c .before .cut .ensures .0, λ p w. level-failed w (c .before .cut .last .0) (c .before .cut .result) (c .if1 .taken) (c .before .cut .ensures .1 p w))
 
-image-requires : tie.Need-image-requires
-image-requires c κs = first-lt (c .before .before .before .pre .1)
-
-equality-requires : tie.Need-equality-requires
-equality-requires c κs = own-asks (c .before .before .before .before .before .pre .1) (c .before .image .result) (c .before .image .ensures)
-
 returns-2 : tie.Need-returns-2
 returns-2 c = (
   c .before .before .before .before .cut .ensures .0,
@@ -21,7 +15,6 @@ returns-2 c = (
 )
 
 pub level-spec : {M : Type 1} → statement M
-level-spec =
-    tie.close
-    (tie.spec
-    (λ c κs. search needs) returns image-requires (λ c. search needs) (λ c. search needs) equality-requires returns-2)
+level-spec = tie.close (tie.spec
+    (λ c κs. search needs) returns (λ c κs. first-lt (c .before .before .before .pre .1)) (λ c. search needs) (λ c. search needs)
+    (λ c κs. own-asks (c .before .before .before .before .before .pre .1) (c .before .image .result) (c .before .image .ensures)) returns-2)

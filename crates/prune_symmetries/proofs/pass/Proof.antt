@@ -15,12 +15,6 @@ abbrev μ-loop : tie.MeasureT-loop
 loop-holds : tie.Need-loop-holds Inv-loop μ-loop
 loop-holds c = (refl, λ p w. passing-none w)
 
-mul-level : tie.Need-mul-level Inv-loop μ-loop
-mul-level c = search needs
-
-element-copy-out-level : tie.Need-element-copy-out-level Inv-loop μ-loop
-element-copy-out-level c = search needs
-
 level-requires : tie.Need-level-requires Inv-loop μ-loop
 unfolding at
 level-requires c κs = let p = c .before .before .before .before .pre .0 in let w = c .before .before .before .before .pre .1 in
@@ -28,9 +22,6 @@ level-requires c κs = let p = c .before .before .before .before .pre .0 in let 
 
 enum-told : tie.Need-enum-told Inv-loop μ-loop
 enum-told c = search needs
-
-enum-told-2 : tie.Need-enum-told-2 Inv-loop μ-loop
-enum-told-2 c = search needs
 
 returns : tie.Need-returns Inv-loop μ-loop
 unfolding at
@@ -42,9 +33,6 @@ returns c = (
       (c .before .before .before .before .before .loop-test .taken))) (c .enum-told2 .given .1),
 )
 
-enum-told-3 : tie.Need-enum-told-3 Inv-loop μ-loop
-enum-told-3 c = search needs
-
 returns-2 : tie.Need-returns-2 Inv-loop μ-loop
 unfolding at
 returns-2 c = (
@@ -54,9 +42,6 @@ returns-2 c = (
       (c .before .before .level .result) (c .before .before .level .ensures .1 p (turn-asks w (c .before .before .before .before .before .before .loop .inv .1 p w)
       (c .before .before .before .before .before .loop-test .taken))) (c .enum-told3 .given .1),
 )
-
-enum-told-4 : tie.Need-enum-told-4 Inv-loop μ-loop
-enum-told-4 c = search needs
 
 returns-3 : tie.Need-returns-3 Inv-loop μ-loop
 unfolding at
@@ -68,12 +53,6 @@ returns-3 c = (
       (c .before .before .before .before .before .loop-test .taken))) (c .enum-told4 .given .1),
 )
 
-add-j : tie.Need-add-j Inv-loop μ-loop
-add-j c = search needs
-
-loop-less : tie.Need-loop-less Inv-loop μ-loop
-loop-less c = search needs
-
 loop-again : tie.Need-loop-again Inv-loop μ-loop
 unfolding at
 loop-again c = (
@@ -84,18 +63,11 @@ loop-again c = (
       (c .before .before .before .before .before .loop-test .taken))) (c .enum-told .given .1),
 )
 
-mul-result : tie.Need-mul-result Inv-loop μ-loop
-mul-result c = let p = c .before .before .pre in omega (arith, short (p .1))
-
-add-result : tie.Need-add-result Inv-loop μ-loop
-add-result c = let p = c .before .before .pre in omega (arith, short (p .1))
-
 returns-4 : tie.Need-returns-4 Inv-loop μ-loop
 returns-4 c = (c .before .loop .inv .0, λ p w. ends w (c .before .loop .inv .1 p w) (c .loop-test .left))
 
 pub pass-spec : {M : Type 1} → statement M
-pass-spec =
-    tie.close
-    (tie.spec
-    Inv-loop μ-loop loop-holds mul-level element-copy-out-level level-requires enum-told enum-told-2 returns enum-told-3 returns-2 enum-told-4 returns-3 add-j
-    loop-less loop-again mul-result add-result returns-4)
+pass-spec = tie.close (tie.spec
+    Inv-loop μ-loop loop-holds (λ c. search needs) (λ c. search needs) level-requires enum-told (λ c. search needs) returns (λ c. search needs) returns-2 (λ c. search needs) returns-3
+    (λ c. search needs) (λ c. search needs) loop-again (λ c. let p = c .before .before .pre in omega (arith, short (p .1))) (λ c. let p = c .before .before .pre in omega (arith, short (p .1)))
+    returns-4)

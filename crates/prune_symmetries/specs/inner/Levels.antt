@@ -1,13 +1,13 @@
 -- The filter of one symmetry at a prefix: what the crate's function asks and answers, and what its parts say to each other.
 -- A level is what one variable of the prefix adds to the symmetry's list. No list is built: the entries are read from the tables.
 use Rattle.model.specs.Kit.{_≡_, Bool, true, false, List, [], _∷_, _++_, map, _⊎_, ℕ, _+_, _-_, _*_, _/_, _%_, _^_, _≤_, _<_, bitAnd, T, eqb, ltb, leb, length, take}
-use Rattle.model.specs.{Lists.at, Lists.choose, Lists.keep, Lists.flat, Lists.upFrom, ValueSets.has, ValueSets.members, ValueSets.anyEmpty, ValueSets.Inside, Problem.Problem}
-use Rattle.model.specs.{Problem.symmetryAt, Nogood.Entry, Nogood.equality, Nogood.disequality, Nogood.filtered, Nogood.FilterEnding, Nogood.failed, Nogood.entailed}
-use Rattle.model.specs.{Nogood.consistent, Nogood.filterEnding, NogoodClaims.Entails, Search.nogoodsOf, inner.WellFormed.WellFormed}
+use Rattle.model.specs.Nogood.{Entry, equality, disequality, filtered, FilterEnding, failed, entailed, consistent, filterEnding}
+use Rattle.model.specs.{Lists.at, Lists.choose, Lists.keep, Lists.flat, Lists.upFrom, ValueSets.has, ValueSets.members, ValueSets.anyEmpty, ValueSets.Inside, Problem.Problem, Problem.symmetryAt}
+use Rattle.model.specs.{NogoodClaims.Entails, Search.nogoodsOf, inner.WellFormed.WellFormed}
 use Rattle.arrays.specs.{inner.Places.SMALLER, inner.Places.OWN, inner.Places.ENTAILED, inner.Places.OBEYED, inner.Places.FAILED, inner.Places.WORK, inner.Tables.ImageTables}
 use Rattle.arrays.specs.inner.Tables.{imageOf}
-use Rattle.filter.specs.{declared.entry.Step.Step, inner.Scan.stepOf, inner.Scan.None, inner.Scan.Live, inner.Scan.Passed, inner.Scan.Remainder, inner.Lists.forced, Marks.Vacuous}
-use Rattle.filter.specs.Marks.{NamesGone, Skippable}
+use Rattle.filter.specs.inner.Scan.{stepOf, None, Live, Passed, Remainder}
+use Rattle.filter.specs.{declared.entry.Step.Step, inner.Lists.forced, Marks.Vacuous, Marks.NamesGone, Marks.Skippable}
 use Rattle.filter.specs.declared.entry.Step.the-variants as step
 
 -- ---- the contract of the filter

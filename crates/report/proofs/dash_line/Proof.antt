@@ -52,7 +52,4 @@ returns c =
     (v .put2 .ensures))
 
 pub dash-line-spec : {M : Type 1} → statement M
-dash-line-spec =
-    tie.close
-    (tie.spec
-    (λ c κs. search needs) put-number-requires put-number-requires-2 (λ c. search needs) put-requires-2 (λ c. search needs) returns)
+dash-line-spec = tie.close (tie.spec (λ c κs. search needs) put-number-requires put-number-requires-2 (λ c. search needs) put-requires-2 (λ c. search needs) returns)

@@ -88,7 +88,4 @@ returns c =
     (v .put-byte .ensures))
 
 pub ending-line-spec : {M : Type 1} → statement M
-ending-line-spec =
-    tie.close
-    (tie.spec
-    (λ c κs. search needs) put-number-requires put-number-requires-2 put-number-requires-3 put-byte-requires (λ c. search needs) returns)
+ending-line-spec = tie.close (tie.spec (λ c κs. search needs) put-number-requires put-number-requires-2 put-number-requires-3 put-byte-requires (λ c. search needs) returns)

@@ -6,12 +6,6 @@ use Rattle.report.specs.Report.{endingLine}
 use Rattle.report.proofs.{Lines.front-taken, Lines.front-inside, Lines.ended-fits, finished.Statement.statement}
 use Rattle.report.proofs.finished.Tie as tie
 
-array-share-prefix-last : tie.Need-array-share-prefix-last
-array-share-prefix-last c = front-inside (c .before .ending-line .ensures)
-
-slice-aggregate-put-report : tie.Need-slice-aggregate-put-report
-slice-aggregate-put-report c = sym (length-take-le _ _ (front-inside (c .before .before .ending-line .ensures)))
-
 put-report-requires : tie.Need-put-report-requires
 put-report-requires c κs =
     let l = c .before .before .before .ending-line in
@@ -25,8 +19,6 @@ returns c =
     ended-fits (finished _ _) (number _) _ _ _ (front-taken (l .ensures)) (r .put-report .ensures)
 
 pub finished-spec : {M : Type 1} → statement M
-finished-spec =
-    tie.close
-    (tie.spec
-    (λ c. search needs) (λ c. search needs) (λ c κs. search needs) array-share-prefix-last slice-aggregate-put-report put-report-requires (λ c. search needs)
-    returns)
+finished-spec = tie.close (tie.spec
+    (λ c. search needs) (λ c. search needs) (λ c κs. search needs) (λ c. front-inside (c .before .ending-line .ensures))
+    (λ c. sym (length-take-le _ _ (front-inside (c .before .before .ending-line .ensures)))) put-report-requires (λ c. search needs) returns)

@@ -1,7 +1,7 @@
 -- `lines_length`: after i turns five bytes a plan and the fields of the first i values are counted. Assumes nothing.
 use Rattle.model.specs.Kit.{_≡_, ap, List, ℕ, _+_, _*_, _-_, _≤_, _<_, arith, length, take, needs}
-use native.Mathlib.Nat.{mul-le-mul-left}
 use Rattle.model.specs.Lists.{flat}
+use native.Mathlib.Nat.{mul-le-mul-left}
 use Rattle.report.specs.inner.Text.{fields}
 use Rattle.report.proofs.{Lines.fields-step, Lines.lines-length, lines_length.Statement.statement}
 use Rattle.report.proofs.lines_length.Tie as tie
@@ -20,35 +20,14 @@ start : (plans : ℕ) (list : List ℕ) → 5 * plans ≡ 5 * plans + length (fi
 unfolding fields flat
 start plans list = omega arith
 
-mul-values : tie.Need-mul-values Inv-loop μ-loop
-mul-values c = let s = c .before in omega (arith, few (s .args .plans) (s .args .n) (s .pre .0), s .pre)
-
-mul-length : tie.Need-mul-length Inv-loop μ-loop
-mul-length c = omega (arith, c .before .pre .1)
-
 loop-holds : tie.Need-loop-holds Inv-loop μ-loop
 loop-holds c = let a = c .before .args in (omega arith, start (a .plans) (a .list .now), omega arith)
-
-shared-slice-read-digit-count : tie.Need-shared-slice-read-digit-count Inv-loop μ-loop
-shared-slice-read-digit-count c = omega (arith, c .before .loop-test .taken, c .before .before .before .before .pre .2)
-
-digit-count-requires : tie.Need-digit-count-requires Inv-loop μ-loop
-digit-count-requires c κs = search needs
-
-add-length : tie.Need-add-length Inv-loop μ-loop
-add-length c = omega (arith, c .digit-count .ensures .1)
 
 add-length-2 : tie.Need-add-length-2 Inv-loop μ-loop
 add-length-2 c =
     let l = c .before .before .before in
     let s = l .before .before in
     omega (arith, few (s .args .plans) (s .args .n) (s .pre .0), s .pre .1, c .digit-count .ensures .1, l .loop .inv .2, c .before .before .loop-test .taken)
-
-add-i : tie.Need-add-i Inv-loop μ-loop
-add-i c = search needs
-
-loop-less : tie.Need-loop-less Inv-loop μ-loop
-loop-less c = search needs
 
 loop-again : tie.Need-loop-again Inv-loop μ-loop
 loop-again c =
@@ -75,8 +54,7 @@ returns c =
     )
 
 pub lines-length-spec : {M : Type 1} → statement M
-lines-length-spec =
-    tie.close
-    (tie.spec
-    Inv-loop μ-loop mul-values mul-length loop-holds shared-slice-read-digit-count digit-count-requires add-length add-length-2 add-i loop-less loop-again
-    returns)
+lines-length-spec = tie.close (tie.spec
+    Inv-loop μ-loop (λ c. let s = c .before in omega (arith, few (s .args .plans) (s .args .n) (s .pre .0), s .pre)) (λ c. omega (arith, c .before .pre .1)) loop-holds
+    (λ c. omega (arith, c .before .loop-test .taken, c .before .before .before .before .pre .2)) (λ c κs. search needs) (λ c. omega (arith, c .digit-count .ensures .1)) add-length-2
+    (λ c. search needs) (λ c. search needs) loop-again returns)

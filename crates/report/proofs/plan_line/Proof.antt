@@ -3,9 +3,6 @@ use Rattle.model.specs.Kit.{arith, needs}
 use Rattle.report.proofs.{Lines.line-length, Lines.put-line, plan_line.Statement.statement}
 use Rattle.report.proofs.plan_line.Tie as tie
 
-put-requires : tie.Need-put-requires
-put-requires c κs = let s = c .before .before .before .before in omega (arith, line-length (s .args .row .now), s .pre)
-
 put-row-requires : tie.Need-put-row-requires
 put-row-requires c κs =
     let p = c .before .before .before in
@@ -29,7 +26,5 @@ returns c =
     (v .put-byte .ensures)
 
 pub plan-line-spec : {M : Type 1} → statement M
-plan-line-spec =
-    tie.close
-    (tie.spec
-    (λ c. search needs) put-requires put-row-requires put-byte-requires (λ c. search needs) returns)
+plan-line-spec = tie.close (tie.spec
+    (λ c. search needs) (λ c κs. let s = c .before .before .before .before in omega (arith, line-length (s .args .row .now), s .pre)) put-row-requires put-byte-requires (λ c. search needs) returns)

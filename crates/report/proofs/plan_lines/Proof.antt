@@ -1,7 +1,7 @@
 -- `plan_lines`: after i turns the lines of the first i rows stand at the front. Assumes nothing.
 use Rattle.model.specs.Kit.{_≡_, refl, sym, ap, _∙_, subst, List, ℕ, _+_, _*_, _-_, _≤_, suc-mul, add-one, arith, needs, length}
-use native.Mathlib.Nat.{zero-mul}
 use Rattle.model.specs.{Lists.flat, Run.listedPlans, Written.Written}
+use native.Mathlib.Nat.{zero-mul}
 use Rattle.report.specs.inner.Text.{planLines}
 use Rattle.model.proofs.Written.{written-none}
 use Rattle.report.proofs.{Lines.row-inside, Lines.plans-turn, Lines.lines-step, Lines.lines-fit, plan_lines.Statement.statement}
@@ -29,18 +29,6 @@ loop-holds c =
     let a = c .before .before .args in
     (search needs, refl, sym (zero-mul (a .n)), start (a .out .now) (a .n) (a .list .now))
 
-add-plan-line : tie.Need-add-plan-line Inv-loop μ-loop
-add-plan-line c = omega (arith, inside (c .before))
-
-sub-plan-line : tie.Need-sub-plan-line Inv-loop μ-loop
-sub-plan-line c = omega arith
-
-part-plan-line-start : tie.Need-part-plan-line-start Inv-loop μ-loop
-part-plan-line-start c = omega arith
-
-part-plan-line-end : tie.Need-part-plan-line-end Inv-loop μ-loop
-part-plan-line-end c = omega (arith, inside (c .before))
-
 plan-line-requires : tie.Need-plan-line-requires Inv-loop μ-loop
 plan-line-requires c κs =
     let l = c .before .before .before in
@@ -54,15 +42,6 @@ plan-line-requires c κs =
       l .loop .inv .3 .ends,
       s .pre .1,
     )
-
-add-at : tie.Need-add-at Inv-loop μ-loop
-add-at c = omega (arith, inside (c .before .before .before .before .before))
-
-add-i : tie.Need-add-i Inv-loop μ-loop
-add-i c = omega arith
-
-loop-less : tie.Need-loop-less Inv-loop μ-loop
-loop-less c = omega arith
 
 loop-again : tie.Need-loop-again Inv-loop μ-loop
 loop-again c =
@@ -86,9 +65,6 @@ loop-again c =
           (l .loop .inv .3) (p .plan-line .ensures),
     )
 
-same-length : tie.Need-same-length Inv-loop μ-loop
-same-length c = c .before .loop .inv .1
-
 returns : tie.Need-returns Inv-loop μ-loop
 returns c =
     let l = c .before in
@@ -97,8 +73,6 @@ returns c =
     subst (λ (k : ℕ). Written (s .args .out .now) 0 (planLines (s .args .n) k (s .args .list .now)) (l .loop .out) (l .loop .next)) last (l .loop .inv .3)
 
 pub plan-lines-spec : {M : Type 1} → statement M
-plan-lines-spec =
-    tie.close
-    (tie.spec
-    Inv-loop μ-loop loop-holds add-plan-line sub-plan-line part-plan-line-start part-plan-line-end plan-line-requires add-at add-i loop-less loop-again
-    same-length returns)
+plan-lines-spec = tie.close (tie.spec
+    Inv-loop μ-loop loop-holds (λ c. omega (arith, inside (c .before))) (λ c. omega arith) (λ c. omega arith) (λ c. omega (arith, inside (c .before))) plan-line-requires
+    (λ c. omega (arith, inside (c .before .before .before .before .before))) (λ c. omega arith) (λ c. omega arith) loop-again (λ c. c .before .loop .inv .1) returns)

@@ -24,8 +24,5 @@ returns-3 : tie.Need-returns-3
 returns-3 c = search needs
 
 pub put-report-spec : {M : Type 1} → statement M
-put-report-spec =
-    tie.close
-    (tie.spec
-    (λ c. search needs) (λ c. search needs) put-lines-requires (λ c. search needs) returns (λ c κs. search needs) (λ c. search needs) returns-2
-    (λ c κs. search needs) (λ c. search needs) returns-3)
+put-report-spec = tie.close (tie.spec
+    (λ c. search needs) (λ c. search needs) put-lines-requires (λ c. search needs) returns (λ c κs. search needs) (λ c. search needs) returns-2 (λ c κs. search needs) (λ c. search needs) returns-3)

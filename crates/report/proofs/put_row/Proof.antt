@@ -21,12 +21,6 @@ loop-holds c =
     let a = c .before .before .args in
     (search needs, refl, start (a .out .now) (a .at))
 
-shared-slice-read-put-number : tie.Need-shared-slice-read-put-number Inv-loop μ-loop
-shared-slice-read-put-number c = search needs
-
-cast-put-number : tie.Need-cast-put-number Inv-loop μ-loop
-cast-put-number c = omega (arith, c .shared-slice-known2 .given (c .before .before .before .loop .i))
-
 put-number-requires : tie.Need-put-number-requires Inv-loop μ-loop
 put-number-requires c κs =
     let l = c .before .before .before in
@@ -34,12 +28,6 @@ put-number-requires c κs =
     let row = s .args .row .now in
     let i = l .loop .i in
     omega (arith, fields-step row i (c .before .before .loop-test .taken), fields-part row (i + 1), l .loop .inv .1, l .loop .inv .2 .ends, s .pre)
-
-add-i : tie.Need-add-i Inv-loop μ-loop
-add-i c = search needs
-
-loop-less : tie.Need-loop-less Inv-loop μ-loop
-loop-less c = search needs
 
 loop-again : tie.Need-loop-again Inv-loop μ-loop
 loop-again c =
@@ -53,14 +41,10 @@ loop-again c =
           (p .put-number .ensures),
     )
 
-same-length : tie.Need-same-length Inv-loop μ-loop
-same-length c = c .before .loop .inv .1
-
 returns : tie.Need-returns Inv-loop μ-loop
 returns c = let l = c .before in row-whole (l .before .before .before .args .row .now) (c .loop-test .left) (l .loop .inv .2)
 
 pub put-row-spec : {M : Type 1} → statement M
-put-row-spec =
-    tie.close
-    (tie.spec
-    Inv-loop μ-loop loop-holds shared-slice-read-put-number cast-put-number put-number-requires add-i loop-less loop-again same-length returns)
+put-row-spec = tie.close (tie.spec
+    Inv-loop μ-loop loop-holds (λ c. search needs) (λ c. omega (arith, c .shared-slice-known2 .given (c .before .before .before .loop .i))) put-number-requires (λ c. search needs)
+    (λ c. search needs) loop-again (λ c. c .before .loop .inv .1) returns)

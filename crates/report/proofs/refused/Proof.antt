@@ -3,12 +3,6 @@ use Rattle.model.specs.Kit.{sym, arith, length-take-le, needs}
 use Rattle.report.proofs.{Lines.front-taken, Lines.front-inside, Lines.alone-fits, refused.Statement.statement}
 use Rattle.report.proofs.refused.Tie as tie
 
-array-share-prefix-last : tie.Need-array-share-prefix-last
-array-share-prefix-last c = front-inside (c .before .before .refused-line .ensures)
-
-slice-aggregate-put-report-2 : tie.Need-slice-aggregate-put-report-2
-slice-aggregate-put-report-2 c = sym (length-take-le _ _ (front-inside (c .before .before .before .refused-line .ensures)))
-
 put-report-requires : tie.Need-put-report-requires
 put-report-requires c κs =
     let l = c .before .before .before .before .refused-line in
@@ -21,8 +15,6 @@ returns c =
     alone-fits _ _ (front-taken (l .ensures)) (r .put-report .ensures)
 
 pub refused-spec : {M : Type 1} → statement M
-refused-spec =
-    tie.close
-    (tie.spec
-    (λ c. search needs) (λ c κs. search needs) (λ c. search needs) array-share-prefix-last slice-aggregate-put-report-2 put-report-requires (λ c. search needs)
-    returns)
+refused-spec = tie.close (tie.spec
+    (λ c. search needs) (λ c κs. search needs) (λ c. search needs) (λ c. front-inside (c .before .before .refused-line .ensures))
+    (λ c. sym (length-take-le _ _ (front-inside (c .before .before .before .refused-line .ensures)))) put-report-requires (λ c. search needs) returns)

@@ -52,7 +52,4 @@ returns c =
     (v .put-byte .ensures))
 
 pub refused-line-spec : {M : Type 1} → statement M
-refused-line-spec =
-    tie.close
-    (tie.spec
-    (λ c. search needs) (λ c κs. search needs) put-number-requires put-number-requires-2 put-byte-requires (λ c. search needs) returns)
+refused-line-spec = tie.close (tie.spec (λ c. search needs) (λ c κs. search needs) put-number-requires put-number-requires-2 put-byte-requires (λ c. search needs) returns)

@@ -43,7 +43,4 @@ returns-4 c =
     }
 
 pub answered-spec : {M : Type 1} → statement M
-answered-spec =
-    tie.close
-    (tie.spec
-    (λ c. search needs) cast-t10 (λ c. search needs) returns (λ c. search needs) returns-2 returns-3 returns-4)
+answered-spec = tie.close (tie.spec (λ c. search needs) cast-t10 (λ c. search needs) returns (λ c. search needs) returns-2 returns-3 returns-4)

@@ -13,7 +13,4 @@ returns-2 : tie.Need-returns-2
 returns-2 c = c .judged .ensures ∙ said-enough _ _ _ _ _ _ (c .before .before .if1 .left) (c .before .run-wanted .ensures)
 
 pub at-least-spec : {M : Type 1} → statement M
-at-least-spec =
-    tie.close
-    (tie.spec
-    (λ c κs. search needs) returns (λ c κs. search needs) (λ c κs. search needs) returns-2)
+at-least-spec = tie.close (tie.spec (λ c κs. search needs) returns (λ c κs. search needs) (λ c κs. search needs) returns-2)

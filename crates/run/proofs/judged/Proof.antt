@@ -24,7 +24,4 @@ returns-4 c =
     ap (λ (e : Ending). enoughFor (means (Ended e)) m) (sym (c .before .ending3 .given .1)) ∙ ap (λ (x : Answer). enoughFor (means x) m) (sym (c .before .before .before .before .answer2 .given .1))
 
 pub judged-spec : {M : Type 1} → statement M
-judged-spec =
-    tie.close
-    (tie.spec
-    (λ c. search needs) (λ c. search needs) (λ c. search needs) (λ c. search needs) (λ c. search needs) returns returns-2 returns-3 returns-4)
+judged-spec = tie.close (tie.spec (λ c. search needs) (λ c. search needs) (λ c. search needs) (λ c. search needs) (λ c. search needs) returns returns-2 returns-3 returns-4)

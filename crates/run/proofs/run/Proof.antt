@@ -12,7 +12,4 @@ returns c =
     record { answers = e .0 ∙ h .answer (a .limit) (now (a .list)); leaves = e .1 ∙ h .list (a .limit) (now (a .list)) }
 
 pub run-spec : {M : Type 1} → statement M
-run-spec =
-    tie.close
-    (tie.spec
-    (λ c. search needs) (λ c. search needs) (λ c κs. search needs) (λ c. search needs) returns)
+run-spec = tie.close (tie.spec (λ c. search needs) (λ c. search needs) (λ c κs. search needs) (λ c. search needs) returns)

@@ -5,12 +5,6 @@ use Rattle.run_search.proofs.Explored.{explored-tree}
 use Rattle.run.proofs.{Whole.stopped, Whole.ran-so, Whole.wanted-blank, Whole.wanted-so, run_wanted.Statement.statement}
 use Rattle.run.proofs.run_wanted.Tie as tie
 
-prepare-requires : tie.Need-prepare-requires
-prepare-requires c κs = wanted-blank _ (c .before .before .before .before .before .before .before .before .pre)
-
-walk-tree-requires : tie.Need-walk-tree-requires
-walk-tree-requires c κs = λ e. (_, c .before .before .before .before .before .before .prepare .ensures .live e _ refl)
-
 answered-requires : tie.Need-answered-requires
 answered-requires c κs =
     let w = c .before .before .before in
@@ -25,7 +19,6 @@ returns c =
     wanted-so _ (p .before .before .before .before .before .before .before .before .before .pre) _ _ _ _ _ _ _ _ _ (ran-so _ _ _ _ _ _ _ _ _ _ _ e _ refl _ (c .answered .ensures))
 
 pub run-wanted-spec : {M : Type 1} → statement M
-run-wanted-spec =
-    tie.close
-    (tie.spec
-    (λ c. search needs) prepare-requires (λ c. search needs) walk-tree-requires answered-requires returns)
+run-wanted-spec = tie.close (tie.spec
+    (λ c. search needs) (λ c κs. wanted-blank _ (c .before .before .before .before .before .before .before .before .pre)) (λ c. search needs)
+    (λ c κs. λ e. (_, c .before .before .before .before .before .before .prepare .ensures .live e _ refl)) answered-requires returns)

@@ -1,8 +1,8 @@
 -- Two prefixes of one length that leave the same to do: the same sets behind them, the same settled values in each constraint that has two
 -- variables left, and the same of each symmetry's nogoods.
 use Rattle.model.specs.Kit.{_≡_, Bool, true, false, List, [], _∷_, _++_, List·Memᴰ, ℕ, _+_, _^_, _≤_, _<_, length, drop, T, eqb, leb}
-use Rattle.model.specs.{Lists.at, Lists.keep, ValueSets.has, Problem.Problem, Problem.Constraint, Problem.assignments, Nogood.Entry, Nogood.equality, Nogood.disequality}
-use Rattle.model.specs.{Nogood.obeys, Search.nogoodsOf, Search.setsAt, Search.isLive, Claims.Drawn}
+use Rattle.model.specs.Nogood.{Entry, equality, disequality, obeys}
+use Rattle.model.specs.{Lists.at, Lists.keep, ValueSets.has, Problem.Problem, Problem.Constraint, Problem.assignments, Search.nogoodsOf, Search.setsAt, Search.isLive, Claims.Drawn}
 
 -- ---- what is left of a list of nogoods
 -- the entries that the sets do not decide, and whether an equality among the entries names a value that is gone

@@ -1,14 +1,14 @@
 -- `run_part`'s `below`, `into`, `onto` and `up_to`, which call each other, meet their contracts: proofs/Walks. Assumes nothing.
 use Rattle.model.specs.Kit.{_≡_, refl, sym, ap, subst, _∙_, [], ℕ, _+_, _-_, _*_, _≤_, _<_, arith, needs, not-true, not-false}
+use Rattle.model.specs.Lists.{at}
 use native.Mathlib.Nat.{pos-of-ne-zero}
 use borrow.Rule.Slice.PartAt.{part-to-end}
 use borrow.Fn.Kinds.{In}
 use borrow.Fn.PlainCycle.{Measures, is, falls, and}
-use Rattle.model.specs.Lists.{at}
 use Rattle.run_state.specs.{inner.Walk.withNode, inner.Pair.Countable, Meaning.tallyIn}
-use Rattle.run_between.proofs.Walks.{along, into-few, into-last, into-asks, into-ends, into-next, into-then, onto-few, onto-out, onto-absent, onto-there, onto-spent}
-use Rattle.run_between.proofs.Walks.{onto-counts, onto-asks, onto-dead, onto-next, onto-then, up-values, up-last, up-stops, up-asks, up-then, below-none, below-open}
-use Rattle.run_between.proofs.Walks.{below-open-asks, below-back, below-into, below-equal, below-stops, below-up-asks, below-then, falls-next, falls-in, falls-up, falls-on}
+use Rattle.run_between.proofs.Walks.{along, into-few, into-last, into-asks, into-ends, into-next, into-then, onto-few, onto-out, onto-absent, onto-there, onto-spent, onto-counts, onto-asks}
+use Rattle.run_between.proofs.Walks.{onto-dead, onto-next, onto-then, up-values, up-last, up-stops, up-asks, up-then, below-none, below-open, below-open-asks, below-back, below-into}
+use Rattle.run_between.proofs.Walks.{below-equal, below-stops, below-up-asks, below-then, falls-next, falls-in, falls-up, falls-on}
 use Rattle.run_between.proofs.{+below+into+onto+up_to.statement, +below+into+onto+up_to.Tie.close}
 use Rattle.run_between.proofs.below.Reads as below
 use Rattle.run_between.proofs.below.Kinds as below-kinds
@@ -80,8 +80,7 @@ below-returns : (t : ℕ) → below-lts.Need-returns (
   into.Post,
 ) (below-at t) below.Post
 unfolding at
-below-returns t c =
-    λ p h. below-none p _ _ _ _ _ _ _ _ _ _ h (c .if1 .taken)
+below-returns t c = λ p h. below-none p _ _ _ _ _ _ _ _ _ _ h (c .if1 .taken)
 
 below-up-to-requires : (t : ℕ) → below-lts.Need-up-to-requires (
   up-to-below t,
@@ -474,8 +473,7 @@ into-returns : (t : ℕ) → into-lts.Need-returns (
   below.Post,
 ) (into-at t) into.Post
 unfolding at
-into-returns t c =
-    λ p h. into-last p _ _ _ _ _ _ _ _ _ h _ (c .if1 .taken ∙ h .prefix .ready .indexed .numbered .variables)
+into-returns t c = λ p h. into-last p _ _ _ _ _ _ _ _ _ h _ (c .if1 .taken ∙ h .prefix .ready .indexed .numbered .variables)
 
 into-step-requires : (t : ℕ) → into-lts.Need-step-requires (
   step-reads.Asked,

@@ -10,9 +10,6 @@ Inv-loop work last₀ length i₀ last i = (i ≤ length) × Valuing work i last
 abbrev μ-loop : tie.MeasureT-loop
 μ-loop work last₀ length i₀ last i = length - i
 
-element-copy-out-length : tie.Need-element-copy-out-length Inv-loop μ-loop
-element-copy-out-length c = search needs
-
 loop-holds : tie.Need-loop-holds Inv-loop μ-loop
 loop-holds c = search needs
 
@@ -36,9 +33,6 @@ add-i : tie.Need-add-i Inv-loop μ-loop
 unfolding at
 add-i c = record { fits = omega (arith, c .before .loop-test .taken, c .before .before .before .before .pre .0) }
 
-loop-less : tie.Need-loop-less Inv-loop μ-loop
-loop-less c = search needs
-
 loop-again : tie.Need-loop-again Inv-loop μ-loop
 unfolding at
 loop-again c =
@@ -51,7 +45,4 @@ unfolding at
 returns c = let v = c .before .loop .inv .1 in record { twelve = v .twelve; values = λ i l. v .values i (omega (arith, c .loop-test .left, l)) }
 
 pub last-values-spec : {M : Type 1} → statement M
-last-values-spec =
-    tie.close
-    (tie.spec
-    Inv-loop μ-loop element-copy-out-length loop-holds mul-last element-copy-out-last cast-last array-write-last add-i loop-less loop-again returns)
+last-values-spec = tie.close (tie.spec Inv-loop μ-loop (λ c. search needs) loop-holds mul-last element-copy-out-last cast-last array-write-last add-i (λ c. search needs) loop-again returns)

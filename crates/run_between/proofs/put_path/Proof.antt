@@ -10,29 +10,8 @@ Inv-loop work₀ path end i₀ work i = Putting path work₀ work i × (i ≤ en
 abbrev μ-loop : tie.MeasureT-loop
 μ-loop work₀ path end i₀ work i = end - i
 
-lesser-requires : tie.Need-lesser-requires Inv-loop μ-loop
-lesser-requires c κs = search needs
-
 loop-holds : tie.Need-loop-holds Inv-loop μ-loop
 loop-holds c = (putting-start _ _, omega arith)
-
-shared-slice-read-long : tie.Need-shared-slice-read-long Inv-loop μ-loop
-shared-slice-read-long c = search needs
-
-long-requires : tie.Need-long-requires Inv-loop μ-loop
-long-requires c κs = search needs
-
-mul-work : tie.Need-mul-work Inv-loop μ-loop
-mul-work c = search needs
-
-element-write-work : tie.Need-element-write-work Inv-loop μ-loop
-element-write-work c = search needs
-
-add-i : tie.Need-add-i Inv-loop μ-loop
-add-i c = search needs
-
-loop-less : tie.Need-loop-less Inv-loop μ-loop
-loop-less c = search needs
 
 loop-again : tie.Need-loop-again Inv-loop μ-loop
 unfolding at
@@ -42,16 +21,11 @@ loop-again c =
     let t = c .before .before .loop-test .taken in
     (putting-next _ _ _ _ _ (i .loop .inv .0) (i .before .before .before .pre) (omega (arith, l, t)) (c .long .ensures .0) (c .long .ensures .1), omega (arith, t))
 
-element-write-work-2 : tie.Need-element-write-work-2 Inv-loop μ-loop
-element-write-work-2 c = search needs
-
 returns : tie.Need-returns Inv-loop μ-loop
 unfolding at
 returns c = putting-done _ _ _ _ _ (c .before .loop .inv .0) (c .before .before .before .before .pre) (c .before .before .lesser .ensures) (c .loop-test .left) (c .before .loop .inv .1)
 
 pub put-path-spec : {M : Type 1} → statement M
-put-path-spec =
-    tie.close
-    (tie.spec
-    Inv-loop μ-loop lesser-requires loop-holds shared-slice-read-long long-requires mul-work element-write-work add-i loop-less loop-again element-write-work-2
-    returns)
+put-path-spec = tie.close (tie.spec
+    Inv-loop μ-loop (λ c κs. search needs) loop-holds (λ c. search needs) (λ c κs. search needs) (λ c. search needs) (λ c. search needs) (λ c. search needs) (λ c. search needs) loop-again
+    (λ c. search needs) returns)

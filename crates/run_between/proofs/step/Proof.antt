@@ -28,8 +28,5 @@ unfolding at
 returns-2 c = λ p list tally h. stepped-out p _ _ _ _ _ list tally _ h (sym (c .before .contains .ensures) ∙ c .if1 .left)
 
 pub step-spec : {M : Type 1} → statement M
-step-spec =
-    tie.close
-    (tie.spec
-    (λ c. search needs) (λ c. search needs) (λ c. search needs) (λ c. search needs) (λ c. search needs) cast-contains (λ c κs. search needs) descend-requires
-    returns returns-2)
+step-spec = tie.close (tie.spec
+    (λ c. search needs) (λ c. search needs) (λ c. search needs) (λ c. search needs) (λ c. search needs) cast-contains (λ c κs. search needs) descend-requires returns returns-2)

@@ -9,7 +9,4 @@ unfolding at
 returns c = c .middle .ensures
 
 pub values-within-spec : {M : Type 1} → statement M
-values-within-spec =
-    tie.close
-    (tie.spec
-    (λ c. search needs) (λ c. search needs) (λ c. search needs) (λ c κs. search needs) returns)
+values-within-spec = tie.close (tie.spec (λ c. search needs) (λ c. search needs) (λ c. search needs) (λ c κs. search needs) returns)

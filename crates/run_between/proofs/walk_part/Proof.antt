@@ -16,7 +16,4 @@ returns-2 c = parted-some _ _ _ _ _ _ _ _ _ (c .before .before .before .before .
     (c .before .before .before .before .before .before .before .no-nodes .ensures) _ _ _ _ _ (c .before .before .below .ensures)
 
 pub walk-part-spec : {M : Type 1} → statement M
-walk-part-spec =
-    tie.close
-    (tie.spec
-    (λ c κs. search needs) returns below-requires (λ c. search needs) returns-2)
+walk-part-spec = tie.close (tie.spec (λ c κs. search needs) returns below-requires (λ c. search needs) returns-2)

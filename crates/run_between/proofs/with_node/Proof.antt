@@ -18,7 +18,4 @@ unfolding at
 returns c = let h = c .before .pre in record { is = refl; summed = summed-more (c .before .args .x) (tallyIn (c .before .args .tally)) (h .few) (h .summed) }
 
 pub with-node-spec : {M : Type 1} → statement M
-with-node-spec =
-    tie.close
-    (tie.spec
-    (λ c. search needs) (λ c. search needs) add-t (λ c. search needs) (λ c. search needs) (λ c. search needs) returns)
+with-node-spec = tie.close (tie.spec (λ c. search needs) (λ c. search needs) add-t (λ c. search needs) (λ c. search needs) (λ c. search needs) returns)

@@ -16,8 +16,4 @@ returns-2 : tie.Need-returns-2
 returns-2 c = record { others = λ i n. refl; long = refl }
 
 pub charge-spec : {M : Type 1} → statement M
-charge-spec =
-    tie.close
-    (tie.spec
-    (λ c. search needs) (λ c. search needs) (λ c. search needs) (λ c. search needs) (λ c. search needs) (λ c. search needs) (λ c. search needs) returns
-    returns-2)
+charge-spec = tie.close (tie.spec (λ c. search needs) (λ c. search needs) (λ c. search needs) (λ c. search needs) (λ c. search needs) (λ c. search needs) (λ c. search needs) returns returns-2)

@@ -1,7 +1,7 @@
 -- Plans are listed once more. Assumes nothing.
 use Rattle.model.specs.Kit.{_≡_, refl, ap, _∙_, List, ℕ, _+_, _-_, _≤_, arith, length, RefT, needs}
-use denote.Ref.{at-last}
 use Rattle.model.specs.Lists.{at}
+use denote.Ref.{at-last}
 use Rattle.arrays.specs.inner.Places.{VARIABLES, ROWS, FIRST}
 use Rattle.loans.specs.inner.Slices.{SameSlice}
 use Rattle.run_entry.specs.inner.Entry.{CopiedTo}
@@ -16,49 +16,19 @@ Inv-loop work₀ numbers list₀ k s rows n first r₀ work list r =
 abbrev μ-loop : tie.MeasureT-loop
 μ-loop work₀ numbers list₀ k s rows n first r₀ work list r = rows - r
 
-add-rows : tie.Need-add-rows Inv-loop μ-loop
-add-rows c = search needs
-
-mul-rows : tie.Need-mul-rows Inv-loop μ-loop
-mul-rows c = search needs
-
-element-copy-out-rows : tie.Need-element-copy-out-rows Inv-loop μ-loop
-element-copy-out-rows c = search needs
-
-element-copy-out-work : tie.Need-element-copy-out-work Inv-loop μ-loop
-element-copy-out-work c = search needs
-
 add-work : tie.Need-add-work Inv-loop μ-loop
 unfolding at
 add-work c = let h = c .before .before .before .pre in omega (arith, h .fits, h .room .small)
 
-element-write-work : tie.Need-element-write-work Inv-loop μ-loop
-element-write-work c = search needs
-
 returns : tie.Need-returns Inv-loop μ-loop
 unfolding at
 returns c = let a = c .before .before .before in (copy-counted _ _ _ _ _ (a .pre) (c .before .if1 .taken), (refl, refl))
-
-element-copy-out-n : tie.Need-element-copy-out-n Inv-loop μ-loop
-element-copy-out-n c = search needs
-
-add-first : tie.Need-add-first Inv-loop μ-loop
-add-first c = search needs
-
-mul-first : tie.Need-mul-first Inv-loop μ-loop
-mul-first c = search needs
-
-element-copy-out-first : tie.Need-element-copy-out-first Inv-loop μ-loop
-element-copy-out-first c = search needs
 
 loop-holds : tie.Need-loop-holds Inv-loop μ-loop
 unfolding at
 loop-holds c =
     let a = c .before .before .before .before in
     (omega arith, refl, refl, refl, c .before .before .if1 .left, (refl, refl), copy-none _ _ _ _ _ (a .pre) (c .before .before .if1 .left))
-
-slice-aggregate-load : tie.Need-slice-aggregate-load Inv-loop μ-loop
-slice-aggregate-load c = refl
 
 add-load : tie.Need-add-load Inv-loop μ-loop
 unfolding at
@@ -85,12 +55,6 @@ list-plan-requires c κs =
       (h .few, bytes-loaded _ _ _ _ _ h (l .inv .4) (l .r) _ _ (l .inv .6) m _ (e .0), e .0 .long ∙ l .inv .6 .long ∙ h .long, h .order),
     )
 
-add-r : tie.Need-add-r Inv-loop μ-loop
-add-r c = search needs
-
-loop-less : tie.Need-loop-less Inv-loop μ-loop
-loop-less c = search needs
-
 loop-again : tie.Need-loop-again Inv-loop μ-loop
 unfolding at
 loop-again c =
@@ -116,8 +80,6 @@ returns-2 c =
     (copy-all _ _ _ _ _ (a .pre) (l .inv .4) (l .r) _ _ (l .inv .6) (omega (arith, l .inv .0, c .loop-test .left)), l .inv .5)
 
 pub copy-spec : {M : Type 1} → statement M
-copy-spec =
-    tie.close
-    (tie.spec
-    Inv-loop μ-loop add-rows mul-rows element-copy-out-rows element-copy-out-work add-work element-write-work returns element-copy-out-n add-first mul-first element-copy-out-first
-    loop-holds slice-aggregate-load add-load load-requires list-plan-requires add-r loop-less loop-again returns-2)
+copy-spec = tie.close (tie.spec
+    Inv-loop μ-loop (λ c. search needs) (λ c. search needs) (λ c. search needs) (λ c. search needs) add-work (λ c. search needs) returns (λ c. search needs) (λ c. search needs) (λ c. search needs)
+    (λ c. search needs) loop-holds (λ c. refl) add-load load-requires list-plan-requires (λ c. search needs) (λ c. search needs) loop-again returns-2)

@@ -32,9 +32,7 @@ unfolding at
 returns-6 c = λ e. record { depth = omega arith; low-is = omega arith; good-is = omega arith; fits = omega arith; room = omega arith; sets = c .same-sets .ensures e }
 
 pub is-same-spec : {M : Type 1} → statement M
-is-same-spec =
-    tie.close
-    (tie.spec
-    (λ c. search needs) (λ c. search needs) (λ c. search needs) returns (λ c. search needs) (λ c. search needs) (λ c. search needs) returns-2
-    (λ c. search needs) (λ c. search needs) (λ c. search needs) returns-3 (λ c. search needs) sub-if4 (λ c. search needs) (λ c. search needs)
-    (λ c. search needs) returns-4 (λ c. search needs) (λ c. search needs) sub-if5 (λ c. search needs) (λ c. search needs) (λ c. search needs) returns-5 (λ c κs. search needs) returns-6)
+is-same-spec = tie.close (tie.spec
+    (λ c. search needs) (λ c. search needs) (λ c. search needs) returns (λ c. search needs) (λ c. search needs) (λ c. search needs) returns-2 (λ c. search needs) (λ c. search needs)
+    (λ c. search needs) returns-3 (λ c. search needs) sub-if4 (λ c. search needs) (λ c. search needs) (λ c. search needs) returns-4 (λ c. search needs) (λ c. search needs) sub-if5
+    (λ c. search needs) (λ c. search needs) (λ c. search needs) returns-5 (λ c κs. search needs) returns-6)

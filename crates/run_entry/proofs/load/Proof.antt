@@ -16,18 +16,6 @@ abbrev μ-loop : tie.MeasureT-loop
 loop-holds : tie.Need-loop-holds Inv-loop μ-loop
 loop-holds c = (omega arith, c .pre .0, refl, loaded-none _ _ _ _ _)
 
-mul-from : tie.Need-mul-from Inv-loop μ-loop
-mul-from c = omega (arith, c .good .1 .1 .0 .0, c .pre .3)
-
-add-x : tie.Need-add-x Inv-loop μ-loop
-add-x c = search needs
-
-mul-x : tie.Need-mul-x Inv-loop μ-loop
-mul-x c = search needs
-
-element-copy-out-x : tie.Need-element-copy-out-x Inv-loop μ-loop
-element-copy-out-x c = search needs
-
 add-work : tie.Need-add-work Inv-loop μ-loop
 unfolding at
 add-work c =
@@ -45,18 +33,6 @@ unfolding at
 cast-work c =
     let a = c .before .before .before .before .args in
     record { fits = omega (arith, c .slice-known .given (a .row * a .n + settling (a .numbers .now) (c .before .before .before .loop .i)) .fits) }
-
-mul-work : tie.Need-mul-work Inv-loop μ-loop
-mul-work c = search needs
-
-element-write-work : tie.Need-element-write-work Inv-loop μ-loop
-element-write-work c = search needs
-
-add-i : tie.Need-add-i Inv-loop μ-loop
-add-i c = search needs
-
-loop-less : tie.Need-loop-less Inv-loop μ-loop
-loop-less c = search needs
 
 loop-again : tie.Need-loop-again Inv-loop μ-loop
 unfolding at
@@ -78,8 +54,6 @@ returns c =
     (subst (λ (n : ℕ). Loaded (a .numbers .now) (a .list .now) (a .k) n (a .row * a .n) (a .work .now) (l .work)) e (l .inv .3), refl)
 
 pub load-spec : {M : Type 1} → statement M
-load-spec =
-    tie.close
-    (tie.spec
-    Inv-loop μ-loop mul-from loop-holds add-x mul-x element-copy-out-x add-work slice-read-work cast-work mul-work element-write-work add-i loop-less loop-again
-    returns)
+load-spec = tie.close (tie.spec
+    Inv-loop μ-loop (λ c. omega (arith, c .good .1 .1 .0 .0, c .pre .3)) loop-holds (λ c. search needs) (λ c. search needs) (λ c. search needs) add-work slice-read-work cast-work (λ c. search needs)
+    (λ c. search needs) (λ c. search needs) (λ c. search needs) loop-again returns)

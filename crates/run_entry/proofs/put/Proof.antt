@@ -1,8 +1,8 @@
 -- An entry is put. Assumes nothing.
 use Rattle.model.specs.Kit.{arith, needs}
+use Rattle.model.specs.Lists.{at}
 use Rattle.run_state.specs.Meaning.{tallyIn}
 use Rattle.run_entry.proofs.{Loops.put-whole, put.Statement.statement}
-use Rattle.model.specs.Lists.{at}
 use Rattle.run_entry.proofs.put.Tie as tie
 
 returns : tie.Need-returns
@@ -14,9 +14,7 @@ returns c =
     (c .before .before .before .put-figures .last .1 .0) (c .before .before .before .put-figures .ensures)
 
 pub put-spec : {M : Type 1} → statement M
-put-spec =
-    tie.close
-    (tie.spec
-    (λ c κs. search needs) (λ c. search needs) (λ c. search needs) (λ c. search needs) (λ c. search needs) (λ c. search needs) (λ c. search needs)
-    (λ c. search needs) (λ c. search needs) (λ c. search needs) (λ c. search needs) (λ c. search needs) (λ c. search needs) (λ c. search needs)
-    (λ c. search needs) (λ c. search needs) (λ c. search needs) (λ c. search needs) (λ c. search needs) returns)
+put-spec = tie.close (tie.spec
+    (λ c κs. search needs) (λ c. search needs) (λ c. search needs) (λ c. search needs) (λ c. search needs) (λ c. search needs) (λ c. search needs) (λ c. search needs) (λ c. search needs)
+    (λ c. search needs) (λ c. search needs) (λ c. search needs) (λ c. search needs) (λ c. search needs) (λ c. search needs) (λ c. search needs) (λ c. search needs) (λ c. search needs)
+    (λ c. search needs) returns)

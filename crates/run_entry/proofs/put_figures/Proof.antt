@@ -1,7 +1,7 @@
 -- The figures of an entry. Assumes nothing.
 use Rattle.model.specs.Kit.{_≡_, sym, subst, set, ℕ, _+_, _-_, _*_, _≤_, _<_, arith, needs}
-use Rattle.arrays.specs.inner.Places.{SETS, ENDS, COUNTS}
 use Rattle.model.specs.Lists.{at}
+use Rattle.arrays.specs.inner.Places.{SETS, ENDS, COUNTS}
 use Rattle.run_entry.specs.inner.Entry.{FigureIn}
 use Rattle.run_entry.proofs.{Loops.figures-none, Loops.figures-turn, put_figures.Statement.statement}
 use Rattle.run_entry.proofs.put_figures.Tie as tie
@@ -15,75 +15,9 @@ abbrev μ-loop : tie.MeasureT-loop
 loop-holds : tie.Need-loop-holds Inv-loop μ-loop
 loop-holds c = let b = c .before .before in (omega arith, b .pre .4, figures-none _ _ _ _ _ (b .pre .3) _ (omega (arith, b .pre .3 .is)))
 
-set-at-requires : tie.Need-set-at-requires Inv-loop μ-loop
-set-at-requires c κs = search needs
-
-cast-work : tie.Need-cast-work Inv-loop μ-loop
-cast-work c = search needs
-
-add-work : tie.Need-add-work Inv-loop μ-loop
-add-work c = search needs
-
-add-work-2 : tie.Need-add-work-2 Inv-loop μ-loop
-add-work-2 c = search needs
-
-mul-work : tie.Need-mul-work Inv-loop μ-loop
-mul-work c = search needs
-
-element-write-work : tie.Need-element-write-work Inv-loop μ-loop
-element-write-work c = search needs
-
-mul-work-2 : tie.Need-mul-work-2 Inv-loop μ-loop
-mul-work-2 c = search needs
-
-element-copy-out-work : tie.Need-element-copy-out-work Inv-loop μ-loop
-element-copy-out-work c = search needs
-
-add-work-3 : tie.Need-add-work-3 Inv-loop μ-loop
-add-work-3 c = search needs
-
-add-work-4 : tie.Need-add-work-4 Inv-loop μ-loop
-add-work-4 c = search needs
-
-mul-work-3 : tie.Need-mul-work-3 Inv-loop μ-loop
-mul-work-3 c = search needs
-
-element-write-work-2 : tie.Need-element-write-work-2 Inv-loop μ-loop
-element-write-work-2 c = search needs
-
-array-read-between : tie.Need-array-read-between Inv-loop μ-loop
-array-read-between c = search needs
-
-mul-between-2 : tie.Need-mul-between-2 Inv-loop μ-loop
-mul-between-2 c = search needs
-
-array-read-between-2 : tie.Need-array-read-between-2 Inv-loop μ-loop
-array-read-between-2 c = search needs
-
 between-requires : tie.Need-between-requires Inv-loop μ-loop
 unfolding at
 between-requires c κs = let l = c .before .before .before .loop in l .inv .1 (l .x) (omega arith)
-
-mul-work-4 : tie.Need-mul-work-4 Inv-loop μ-loop
-mul-work-4 c = search needs
-
-add-work-5 : tie.Need-add-work-5 Inv-loop μ-loop
-add-work-5 c = search needs
-
-add-work-6 : tie.Need-add-work-6 Inv-loop μ-loop
-add-work-6 c = search needs
-
-mul-between : tie.Need-mul-between Inv-loop μ-loop
-mul-between c = search needs
-
-element-write-work-3 : tie.Need-element-write-work-3 Inv-loop μ-loop
-element-write-work-3 c = search needs
-
-add-x : tie.Need-add-x Inv-loop μ-loop
-add-x c = search needs
-
-loop-less : tie.Need-loop-less Inv-loop μ-loop
-loop-less c = search needs
 
 loop-again : tie.Need-loop-again Inv-loop μ-loop
 unfolding at
@@ -109,9 +43,7 @@ returns c =
     subst (λ (n : ℕ). FigureIn (a .stack .now) (a .before .counts) (a .after .counts) (a .k) (a .s) n (a .work .now) (l .work)) e (l .inv .2)
 
 pub put-figures-spec : {M : Type 1} → statement M
-put-figures-spec =
-    tie.close
-    (tie.spec
-    Inv-loop μ-loop loop-holds set-at-requires cast-work add-work add-work-2 mul-work element-write-work mul-work-2 element-copy-out-work add-work-3 add-work-4
-    mul-work-3 element-write-work-2 mul-between array-read-between mul-between-2 array-read-between-2 between-requires add-work-5 add-work-6 mul-work-4
-    element-write-work-3 add-x loop-less loop-again returns)
+put-figures-spec = tie.close (tie.spec
+    Inv-loop μ-loop loop-holds (λ c κs. search needs) (λ c. search needs) (λ c. search needs) (λ c. search needs) (λ c. search needs) (λ c. search needs) (λ c. search needs) (λ c. search needs)
+    (λ c. search needs) (λ c. search needs) (λ c. search needs) (λ c. search needs) (λ c. search needs) (λ c. search needs) (λ c. search needs) (λ c. search needs) between-requires
+    (λ c. search needs) (λ c. search needs) (λ c. search needs) (λ c. search needs) (λ c. search needs) (λ c. search needs) loop-again returns)

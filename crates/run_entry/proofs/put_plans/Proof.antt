@@ -13,8 +13,4 @@ unfolding at
 returns c = let b = c .before in plans-put (b .args .work .now) (b .args .plans) (b .args .s) (omega (arith, b .pre .0, b .pre .1 .is))
 
 pub put-plans-spec : {M : Type 1} → statement M
-put-plans-spec =
-    tie.close
-    (tie.spec
-    (λ c. search needs) (λ c. search needs) (λ c. search needs) (λ c. search needs) sub-work (λ c. search needs) (λ c. search needs) (λ c. search needs)
-    returns)
+put-plans-spec = tie.close (tie.spec (λ c. search needs) (λ c. search needs) (λ c. search needs) (λ c. search needs) sub-work (λ c. search needs) (λ c. search needs) (λ c. search needs) returns)

@@ -16,7 +16,4 @@ unfolding at
 returns-2 c = λ p h. block-answers _ _ _ _ _ (c .before .before .settling-order .ensures) (search needs) _ p (variables-are p _ _ h) (c .before .if1 .left) _ (c .question .ensures p h)
 
 pub lendings-spec : {M : Type 1} → statement M
-lendings-spec =
-    tie.close
-    (tie.spec
-    (λ c. search needs) settling-order-requires returns (λ c κs. search needs) returns-2)
+lendings-spec = tie.close (tie.spec (λ c. search needs) settling-order-requires returns (λ c κs. search needs) returns-2)

@@ -5,11 +5,8 @@ use Rattle.run_input.proofs.question.Statement.{statement}
 use Rattle.arrays.specs.inner.Places.{NUMBERS, SUPPORTS}
 use Rattle.run_input.proofs.question.Tie as tie
 
-ask-requires : tie.Need-ask-requires
-ask-requires c κs = (zeros NUMBERS, zeros SUPPORTS, refl, refl)
-
 returns : tie.Need-returns
 returns c = search needs
 
 pub question-spec : {M : Type 1} → statement M
-question-spec = tie.close (tie.spec ask-requires returns)
+question-spec = tie.close (tie.spec (λ c κs. (zeros NUMBERS, zeros SUPPORTS, refl, refl)) returns)

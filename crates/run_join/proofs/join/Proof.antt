@@ -34,7 +34,4 @@ returns-2 c =
     (w .walk .ensures) (g .answered .ensures)
 
 pub join-spec : {M : Type 1} → statement M
-join-spec =
-    tie.close
-    (tie.spec
-    (λ c κs. search needs) returns find-ways-requires walk-requires answered-requires returns-2)
+join-spec = tie.close (tie.spec (λ c κs. search needs) returns find-ways-requires walk-requires answered-requires returns-2)

@@ -2,8 +2,8 @@
 use Rattle.model.specs.Kit.{_≡_, Bool, true, false, List, ℕ, _+_, _-_, _*_, _/_, _%_, _^_, _≤_, _<_, T, eqb, length}
 use Rattle.model.specs.{Lists.at, Lists.both, Lists.either, Lists.choose, Lists.same, ValueSets.has, Verdict.Verdict, Verdict.accepted, Verdict.refused}
 use Rattle.run_cut.specs.Parts.{after}
-use Rattle.run_join.specs.{declared.Answer.Answer, declared.Answer.the-variants.Joined, declared.Answer.the-variants.Missing, Join.fourAt, Join.pathShaped, Join.reachAt}
-use Rattle.run_join.specs.Join.{headShaped, headsIn, goesOn, joined, leads, mayTake, standPath, nearestOf, stands, plansOf, nodesOf, countOf}
+use Rattle.run_join.specs.Join.{fourAt, pathShaped, reachAt, headShaped, headsIn, goesOn, joined, leads, mayTake, standPath, nearestOf, stands, plansOf, nodesOf, countOf}
+use Rattle.run_join.specs.{declared.Answer.Answer, declared.Answer.the-variants.Joined, declared.Answer.the-variants.Missing}
 
 -- a path stands at an offset
 pub record Path (l : List ℕ) (o : ℕ) : Type 0 where

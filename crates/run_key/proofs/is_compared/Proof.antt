@@ -1,7 +1,7 @@
 -- Whether a set is compared. Assumes nothing.
 use Rattle.model.specs.Kit.{arith, needs}
-use Rattle.run_key.proofs.{Loops.either-yes, Loops.either-no, is_compared.Statement.statement}
 use Rattle.model.specs.Lists.{at}
+use Rattle.run_key.proofs.{Loops.either-yes, Loops.either-no, is_compared.Statement.statement}
 use Rattle.run_key.proofs.is_compared.Tie as tie
 
 returns : tie.Need-returns

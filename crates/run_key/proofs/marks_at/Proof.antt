@@ -15,33 +15,6 @@ abbrev μ-loop : tie.MeasureT-loop
 loop-holds : tie.Need-loop-holds Inv-loop μ-loop
 loop-holds c = (omega arith, omega arith, (λ f l n. absurd (omega arith)), gathered-begin _)
 
-mul-mark : tie.Need-mul-mark Inv-loop μ-loop
-mul-mark c = search needs
-
-add-mark : tie.Need-add-mark Inv-loop μ-loop
-add-mark c = search needs
-
-add-mark-2 : tie.Need-add-mark-2 Inv-loop μ-loop
-add-mark-2 c = search needs
-
-mul-mark-2 : tie.Need-mul-mark-2 Inv-loop μ-loop
-mul-mark-2 c = search needs
-
-element-copy-out-mark : tie.Need-element-copy-out-mark Inv-loop μ-loop
-element-copy-out-mark c = search needs
-
-one-if-requires : tie.Need-one-if-requires Inv-loop μ-loop
-one-if-requires c κs = search needs
-
-lower-requires : tie.Need-lower-requires Inv-loop μ-loop
-lower-requires c κs = search needs
-
-add-e : tie.Need-add-e Inv-loop μ-loop
-add-e c = search needs
-
-loop-less : tie.Need-loop-less Inv-loop μ-loop
-loop-less c = search needs
-
 loop-again : tie.Need-loop-again Inv-loop μ-loop
 unfolding at
 loop-again c =
@@ -60,7 +33,6 @@ returns c =
     record { within = l .inv .1; passed = λ f m n. l .inv .2 f (omega arith) n; obeyed = gathered-end _ _ _ _ (omega arith) (omega arith) (l .inv .3) }
 
 pub marks-at-spec : {M : Type 1} → statement M
-marks-at-spec =
-    tie.close
-    (tie.spec
-    Inv-loop μ-loop loop-holds mul-mark add-mark add-mark-2 mul-mark-2 element-copy-out-mark one-if-requires lower-requires add-e loop-less loop-again returns)
+marks-at-spec = tie.close (tie.spec
+    Inv-loop μ-loop loop-holds (λ c. search needs) (λ c. search needs) (λ c. search needs) (λ c. search needs) (λ c. search needs) (λ c κs. search needs) (λ c κs. search needs) (λ c. search needs)
+    (λ c. search needs) loop-again returns)

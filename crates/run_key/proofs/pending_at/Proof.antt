@@ -12,24 +12,9 @@ Inv-loop numbers k n once₀ twice₀ x₀ once twice x = (n ≡ at numbers VARI
 abbrev μ-loop : tie.MeasureT-loop
 μ-loop numbers k n once₀ twice₀ x₀ once twice x = n - x
 
-element-copy-out-n : tie.Need-element-copy-out-n Inv-loop μ-loop
-element-copy-out-n c = search needs
-
 loop-holds : tie.Need-loop-holds Inv-loop μ-loop
 unfolding at
 loop-holds c = (refl, (λ d i l u t. absurd (omega arith)), (λ d i j l m u t t′. absurd (omega arith)))
-
-mul-touching : tie.Need-mul-touching Inv-loop μ-loop
-mul-touching c = search needs
-
-element-copy-out-touching : tie.Need-element-copy-out-touching Inv-loop μ-loop
-element-copy-out-touching c = search needs
-
-add-x : tie.Need-add-x Inv-loop μ-loop
-add-x c = search needs
-
-loop-less : tie.Need-loop-less Inv-loop μ-loop
-loop-less c = search needs
 
 loop-again : tie.Need-loop-again Inv-loop μ-loop
 unfolding at
@@ -45,7 +30,4 @@ unfolding at
 returns c = λ d i j a b u t t′. c .before .loop .inv .2 d i j a b (omega (arith, c .before .loop .inv .0)) t t′
 
 pub pending-at-spec : {M : Type 1} → statement M
-pending-at-spec =
-    tie.close
-    (tie.spec
-    Inv-loop μ-loop element-copy-out-n loop-holds mul-touching element-copy-out-touching add-x loop-less loop-again returns)
+pending-at-spec = tie.close (tie.spec Inv-loop μ-loop (λ c. search needs) loop-holds (λ c. search needs) (λ c. search needs) (λ c. search needs) (λ c. search needs) loop-again returns)

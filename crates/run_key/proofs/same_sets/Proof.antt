@@ -12,24 +12,12 @@ Inv-loop stack work numbers k pending low s n x₀ x = (n ≡ at numbers VARIABL
 abbrev μ-loop : tie.MeasureT-loop
 μ-loop stack work numbers k pending low s n x₀ x = n - x
 
-element-copy-out-n : tie.Need-element-copy-out-n Inv-loop μ-loop
-element-copy-out-n c = search needs
-
 loop-holds : tie.Need-loop-holds Inv-loop μ-loop
 unfolding at
 loop-holds c = (refl, omega arith, (λ y l t. absurd (omega arith)))
 
-agrees-requires : tie.Need-agrees-requires Inv-loop μ-loop
-agrees-requires c κs = search needs
-
 returns : tie.Need-returns Inv-loop μ-loop
 returns c = λ e. absurd (subst T (sym e) tt)
-
-add-x : tie.Need-add-x Inv-loop μ-loop
-add-x c = search needs
-
-loop-less : tie.Need-loop-less Inv-loop μ-loop
-loop-less c = search needs
 
 loop-again : tie.Need-loop-again Inv-loop μ-loop
 unfolding at
@@ -43,7 +31,4 @@ unfolding at
 returns-2 c = λ e y l t. c .before .loop .inv .2 y (omega (arith, c .before .loop .inv .0)) t
 
 pub same-sets-spec : {M : Type 1} → statement M
-same-sets-spec =
-    tie.close
-    (tie.spec
-    Inv-loop μ-loop element-copy-out-n loop-holds agrees-requires returns add-x loop-less loop-again returns-2)
+same-sets-spec = tie.close (tie.spec Inv-loop μ-loop (λ c. search needs) loop-holds (λ c κs. search needs) returns (λ c. search needs) (λ c. search needs) loop-again returns-2)

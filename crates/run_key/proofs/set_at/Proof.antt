@@ -9,7 +9,4 @@ unfolding at
 returns c = search needs
 
 pub set-at-spec : {M : Type 1} → statement M
-set-at-spec =
-    tie.close
-    (tie.spec
-    (λ c. search needs) (λ c. search needs) (λ c. search needs) (λ c. search needs) returns)
+set-at-spec = tie.close (tie.spec (λ c. search needs) (λ c. search needs) (λ c. search needs) (λ c. search needs) returns)

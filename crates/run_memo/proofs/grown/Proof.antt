@@ -13,39 +13,9 @@ abbrev μ-loop : tie.MeasureT-loop
 loop-holds : tie.Need-loop-holds Inv-loop μ-loop
 loop-holds c = (omega arith, c .before .pre .2 .twelve, ((λ y l. absurd (omega arith)), (λ y l. refl), refl))
 
-mul-sum : tie.Need-mul-sum Inv-loop μ-loop
-mul-sum c = search needs
-
-array-read-sum : tie.Need-array-read-sum Inv-loop μ-loop
-array-read-sum c = search needs
-
-add-sum : tie.Need-add-sum Inv-loop μ-loop
-add-sum c = search needs
-
-add-sum-2 : tie.Need-add-sum-2 Inv-loop μ-loop
-add-sum-2 c = search needs
-
-mul-sum-2 : tie.Need-mul-sum-2 Inv-loop μ-loop
-mul-sum-2 c = search needs
-
-element-copy-out-sum : tie.Need-element-copy-out-sum Inv-loop μ-loop
-element-copy-out-sum c = search needs
-
 sum-requires : tie.Need-sum-requires Inv-loop μ-loop
 unfolding at
 sum-requires c κs = let l = c .before .before .loop in omega (arith, l .inv .2 .1 (l .x) (omega arith), c .before .before .before .before .pre .2 .counts (l .x) (omega arith))
-
-mul-counts : tie.Need-mul-counts Inv-loop μ-loop
-mul-counts c = search needs
-
-array-write-counts : tie.Need-array-write-counts Inv-loop μ-loop
-array-write-counts c = search needs
-
-add-x : tie.Need-add-x Inv-loop μ-loop
-add-x c = search needs
-
-loop-less : tie.Need-loop-less Inv-loop μ-loop
-loop-less c = search needs
 
 loop-again : tie.Need-loop-again Inv-loop μ-loop
 unfolding at
@@ -57,15 +27,6 @@ loop-again c =
       subst (λ (v : ℕ). GrownTo (a .t .counts) (a .work .now) (a .s) (l .x + 1) (set (l .counts) (l .x) v)) (sym (c .sum .ensures))
           (grown-turn (a .t .counts) (a .work .now) (a .s) (l .x) (l .counts) (omega (arith, l .inv .1)) (l .inv .2)),
     )
-
-add-sum-3 : tie.Need-add-sum-3 Inv-loop μ-loop
-add-sum-3 c = search needs
-
-mul-sum-3 : tie.Need-mul-sum-3 Inv-loop μ-loop
-mul-sum-3 c = search needs
-
-element-copy-out-sum-2 : tie.Need-element-copy-out-sum-2 Inv-loop μ-loop
-element-copy-out-sum-2 c = search needs
 
 sum-requires-2 : tie.Need-sum-requires-2 Inv-loop μ-loop
 unfolding at
@@ -81,8 +42,6 @@ returns c =
     (grown-all (a .t .counts) (a .work .now) (a .s) (l .counts) (l .inv .1) (subst (λ (n : ℕ). GrownTo (a .t .counts) (a .work .now) (a .s) n (l .counts)) e (l .inv .2)))
 
 pub grown-spec : {M : Type 1} → statement M
-grown-spec =
-    tie.close
-    (tie.spec
-    Inv-loop μ-loop loop-holds mul-sum array-read-sum add-sum add-sum-2 mul-sum-2 element-copy-out-sum sum-requires mul-counts array-write-counts add-x
-    loop-less loop-again add-sum-3 mul-sum-3 element-copy-out-sum-2 sum-requires-2 returns)
+grown-spec = tie.close (tie.spec
+    Inv-loop μ-loop loop-holds (λ c. search needs) (λ c. search needs) (λ c. search needs) (λ c. search needs) (λ c. search needs) (λ c. search needs) sum-requires (λ c. search needs)
+    (λ c. search needs) (λ c. search needs) (λ c. search needs) loop-again (λ c. search needs) (λ c. search needs) (λ c. search needs) sum-requires-2 returns)

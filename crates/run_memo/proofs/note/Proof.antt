@@ -32,9 +32,6 @@ marks-at-requires c κs = let g = c .before .before .before .before .before .bef
   c .before .before .before .before .before .charge .ensures .long ∙ g .walked .work-length ∙ h .ready .work-length,
 )
 
-sub-put : tie.Need-sub-put
-sub-put c = c .before .before .before .before .before .before .before .before .before .before .before .before .before .pre .7 .vain
-
 put-requires : tie.Need-put-requires
 unfolding at
 put-requires c κs =
@@ -54,12 +51,6 @@ put-requires c κs =
       nodes-grow-at (q .0) (q .1) (q .2) (q .3) (q .4) (a .numbers .now) (q .5) (tallyIn (a .before)) (a .k) (a .stack .now) (a .work .now) (q .6) (tallyIn (a .after)) (a .turn) (a .place)
           (a .stop) e g (omega (arith, l)),
     )
-
-sub-put-plans : tie.Need-sub-put-plans
-sub-put-plans c = omega (arith, c .before .before .before .before .before .before .before .before .before .before .before .before .before .before .before .pre .7 .turn-is)
-
-sub-put-plans-2 : tie.Need-sub-put-plans-2
-sub-put-plans-2 c = c .before .before .before .before .before .before .before .before .before .before .before .before .before .before .before .pre .7 .vain
 
 put-plans-requires : tie.Need-put-plans-requires
 unfolding at
@@ -98,8 +89,8 @@ returns-5 c = λ p s w u t l m g.
     .put-plans .ensures)
 
 pub note-spec : {M : Type 1} → statement M
-note-spec =
-    tie.close
-    (tie.spec
-    returns (λ c. search needs) returns-2 returns-3 (λ c κs. search needs) returns-4 (λ c. search needs) marks-at-requires sub-put put-requires sub-put-plans
-    sub-put-plans-2 put-plans-requires returns-5)
+note-spec = tie.close (tie.spec
+    returns (λ c. search needs) returns-2 returns-3 (λ c κs. search needs) returns-4 (λ c. search needs) marks-at-requires
+    (λ c. c .before .before .before .before .before .before .before .before .before .before .before .before .before .pre .7 .vain) put-requires
+    (λ c. omega (arith, c .before .before .before .before .before .before .before .before .before .before .before .before .before .before .before .pre .7 .turn-is))
+    (λ c. c .before .before .before .before .before .before .before .before .before .before .before .before .before .before .before .pre .7 .vain) put-plans-requires returns-5)

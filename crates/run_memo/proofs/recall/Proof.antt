@@ -53,8 +53,5 @@ returns-2 c =
     )
 
 pub recall-spec : {M : Type 1} → statement M
-recall-spec =
-    tie.close
-    (tie.spec
-    (λ c κs. search needs) (λ c. search needs) marks-at-requires (λ c κs. search needs) (λ c κs. search needs) (λ c. search needs) returns copy-requires
-    take-requires returns-2)
+recall-spec = tie.close (tie.spec
+    (λ c κs. search needs) (λ c. search needs) marks-at-requires (λ c κs. search needs) (λ c κs. search needs) (λ c. search needs) returns copy-requires take-requires returns-2)

@@ -3,9 +3,6 @@ use Rattle.model.specs.Kit.{refl}
 use Rattle.run_memo.proofs.visit.Statement.{statement}
 use Rattle.run_memo.proofs.visit.Tie as tie
 
-recall-requires : tie.Need-recall-requires
-recall-requires c κs = c .before .before .before .pre .0 (c .before .before .if1 .taken)
-
 returns : tie.Need-returns
 returns c = let e = c .before .before .before .if1 .taken in (record { looked = λ d. c .recall .ensures .0; noted = λ n. absurd (n e); kept = λ n. absurd (n e) }, c .recall .ensures .1)
 
@@ -21,4 +18,4 @@ returns-2 c =
     (record { looked = λ e. absurd (n e); noted = λ d p s w u t l g. c .note .ensures p s w u t l _ g; kept = λ d. refl }, (refl, refl))
 
 pub visit-spec : {M : Type 1} → statement M
-visit-spec = tie.close (tie.spec recall-requires returns note-requires returns-2)
+visit-spec = tie.close (tie.spec (λ c κs. c .before .before .before .pre .0 (c .before .before .if1 .taken)) returns note-requires returns-2)

@@ -16,24 +16,6 @@ abbrev μ-loop : tie.MeasureT-loop
 loop-holds : tie.Need-loop-holds Inv-loop μ-loop
 loop-holds c = (zeros WORK .sized, λ j l. absurd (omega arith))
 
-mul-copy : tie.Need-mul-copy Inv-loop μ-loop
-mul-copy c = search needs
-
-element-copy-out-copy : tie.Need-element-copy-out-copy Inv-loop μ-loop
-element-copy-out-copy c = search needs
-
-mul-copy-2 : tie.Need-mul-copy-2 Inv-loop μ-loop
-mul-copy-2 c = search needs
-
-array-write-copy : tie.Need-array-write-copy Inv-loop μ-loop
-array-write-copy c = search needs
-
-add-i : tie.Need-add-i Inv-loop μ-loop
-add-i c = search needs
-
-loop-less : tie.Need-loop-less Inv-loop μ-loop
-loop-less c = search needs
-
 loop-again : tie.Need-loop-again Inv-loop μ-loop
 unfolding at
 loop-again c =
@@ -47,7 +29,4 @@ returns : tie.Need-returns Inv-loop μ-loop
 returns c = let i = c .before .loop .inv in (i .0, λ j l. i .1 j (omega (arith, c .loop-test .left)))
 
 pub copied-spec : {M : Type 1} → statement M
-copied-spec =
-    tie.close
-    (tie.spec
-    Inv-loop μ-loop loop-holds mul-copy element-copy-out-copy mul-copy-2 array-write-copy add-i loop-less loop-again returns)
+copied-spec = tie.close (tie.spec Inv-loop μ-loop loop-holds (λ c. search needs) (λ c. search needs) (λ c. search needs) (λ c. search needs) (λ c. search needs) (λ c. search needs) loop-again returns)

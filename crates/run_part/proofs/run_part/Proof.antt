@@ -79,8 +79,5 @@ returns c =
     (c .before .before .answered .ensures) _ (c .last-values .ensures)
 
 pub run-part-spec : {M : Type 1} → statement M
-run-part-spec =
-    tie.close
-    (tie.spec
-    prepare-requires (λ c κs. search needs) (λ c κs. search needs) walk-part-requires answered-requires (λ c. search needs) last-values-requires
-    (λ c. search needs) returns)
+run-part-spec = tie.close (tie.spec
+    prepare-requires (λ c κs. search needs) (λ c κs. search needs) walk-part-requires answered-requires (λ c. search needs) last-values-requires (λ c. search needs) returns)

@@ -33,8 +33,4 @@ returns c = λ p s limit room h. gone-so p s limit room _ _ _ _ _ _ _ h _ (c .be
     (c .before .before .walk-part .ensures)
 
 pub go-on-spec : {M : Type 1} → statement M
-go-on-spec =
-    tie.close
-    (tie.spec
-    last-values-requires (λ c. search needs) array-share-prefix-last slice-aggregate-walk-part (λ c. search needs) walk-part-requires (λ c. search needs)
-    returns)
+go-on-spec = tie.close (tie.spec last-values-requires (λ c. search needs) array-share-prefix-last slice-aggregate-walk-part (λ c. search needs) walk-part-requires (λ c. search needs) returns)

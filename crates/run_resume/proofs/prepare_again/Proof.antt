@@ -36,7 +36,4 @@ returns-2 : tie.Need-returns-2
 returns-2 c = let r = c .before in again-refused _ _ _ _ _ _ _ _ _ _ (r .recompile .ensures) (c .if1 .left)
 
 pub prepare-again-spec : {M : Type 1} → statement M
-prepare-again-spec =
-    tie.close
-    (tie.spec
-    (λ c κs. search needs) (λ c. search needs) div-put-bounds (λ c κs. search needs) (λ c κs. search needs) begin-requires returns returns-2)
+prepare-again-spec = tie.close (tie.spec (λ c κs. search needs) (λ c. search needs) div-put-bounds (λ c κs. search needs) (λ c κs. search needs) begin-requires returns returns-2)

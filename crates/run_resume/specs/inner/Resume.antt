@@ -1,8 +1,7 @@
 -- A run that goes on from its last node (paper 02, #113), on arrays that are lent: `put_progress`, `prepare_again` and `go_on`, one after the other.
 -- What is carried from one part to the next stands in `work` and in the list.
 use Rattle.model.specs.Kit.{_≡_, List, [], List·Memᴰ, ℕ, _+_, _*_, _/_, _≤_, _<_, T, length}
-use Rattle.model.specs.{Lists.at, Lists.choose, Lists.below, Problem.Problem, Search.nodes, Sheet.problemOf, Run.plansIn, Run.nodesIn, Run.written, Run.Tally, Run.settledBy}
-use Rattle.model.specs.Run.{countsBy}
+use Rattle.model.specs.{Lists.at, Lists.choose, Lists.below, Problem.Problem, Search.nodes, Sheet.problemOf, Run.plansIn, Run.nodesIn, Run.written, Run.Tally, Run.settledBy, Run.countsBy}
 use Rattle.run_cut.specs.Parts.{Progress, goOn, madeIn, lastAfter}
 use Rattle.arrays.specs.inner.Places.{LIMIT, ROOM, PLANS, LAST, ALL, DEEPER, NUMBERS, STACK, SUPPORTS, TABLES, WORK}
 use Rattle.sheet.specs.{inner.Form.Zeros, Meaning.compilable}

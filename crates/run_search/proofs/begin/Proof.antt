@@ -59,7 +59,4 @@ returns-2 c = λ p own by l.
     (ready _ _ _ _ _ _ _ _ _ l _ n _ _ _ m _ _ (w .stack-length) (e .clear .ensures .long ∙ w .work-length))) (c .if1 .left)
 
 pub begin-spec : {M : Type 1} → statement M
-begin-spec =
-    tie.close
-    (tie.spec
-    (λ c κs. search needs) (λ c κs. search needs) (λ c κs. search needs) (λ c. search needs) index-requires root-requires returns returns-2)
+begin-spec = tie.close (tie.spec (λ c κs. search needs) (λ c κs. search needs) (λ c κs. search needs) (λ c. search needs) index-requires root-requires returns returns-2)

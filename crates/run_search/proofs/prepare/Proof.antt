@@ -48,8 +48,6 @@ returns-2 c =
     (now (a .args .work)) _ _ _ v (omega arith) (a .pre .work-length)
 
 pub prepare-spec : {M : Type 1} → statement M
-prepare-spec =
-    tie.close
-    (tie.spec
-    (λ c κs. search needs) (λ c. search needs) (λ c. search needs) room-for-requires (λ c κs. search needs) positions-requires begin-requires
-    (λ c. search needs) (λ c. search needs) (λ c. search needs) (λ c. search needs) returns returns-2)
+prepare-spec = tie.close (tie.spec
+    (λ c κs. search needs) (λ c. search needs) (λ c. search needs) room-for-requires (λ c κs. search needs) positions-requires begin-requires (λ c. search needs) (λ c. search needs)
+    (λ c. search needs) (λ c. search needs) returns returns-2)

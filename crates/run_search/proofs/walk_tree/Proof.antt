@@ -26,7 +26,4 @@ returns-2 c =
     ended-some _ _ _ _ _ _ _ (i .if1 .left) _ (s .no-nodes .ensures) _ (m .candidates .ensures) _ _ _ _ _ (w .walk-counted .ensures)
 
 pub walk-tree-spec : {M : Type 1} → statement M
-walk-tree-spec =
-    tie.close
-    (tie.spec
-    (λ c κs. search needs) returns (λ c κs. search needs) walk-counted-requires (λ c. search needs) returns-2)
+walk-tree-spec = tie.close (tie.spec (λ c κs. search needs) returns (λ c κs. search needs) walk-counted-requires (λ c. search needs) returns-2)

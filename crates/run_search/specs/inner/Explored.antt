@@ -1,7 +1,6 @@
 -- What a run on lent arrays leaves.
 use Rattle.model.specs.Kit.{_≡_, List, map, ℕ, _<_, length}
-use Rattle.model.specs.{Lists.at, Problem.Problem, Search.nodes, Verdict.accepted, Verdict.refused, Run.ended, Run.plansIn, Run.nodesIn, Run.Result, Run.resultOf, Run.Tally}
-use Rattle.model.specs.Sheet.{problemOf}
+use Rattle.model.specs.{Lists.at, Problem.Problem, Search.nodes, Verdict.accepted, Verdict.refused, Run.ended, Run.plansIn, Run.nodesIn, Run.Result, Run.resultOf, Run.Tally, Sheet.problemOf}
 use Rattle.order.specs.Reordered.{write}
 use Rattle.run_input.specs.Lent.{verdictLent, orderLent, problemLent}
 use Rattle.arrays.specs.inner.Places.{PLANS, DEEPER, REFUSED, WANTED}

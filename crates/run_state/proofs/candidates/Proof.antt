@@ -9,7 +9,4 @@ unfolding at
 returns c = search needs
 
 pub candidates-spec : {M : Type 1} → statement M
-candidates-spec =
-    tie.close
-    (tie.spec
-    (λ c. search needs) (λ c. search needs) (λ c. search needs) returns)
+candidates-spec = tie.close (tie.spec (λ c. search needs) (λ c. search needs) (λ c. search needs) returns)

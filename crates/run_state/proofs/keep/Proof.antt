@@ -2,8 +2,7 @@
 use Rattle.model.specs.Kit.{_≡_, subst, ℕ, _+_, _-_, _≤_, _<_, arith, set}
 use Rattle.model.specs.Lists.{at}
 use Rattle.run_state.specs.inner.Pair.{orderIn}
-use Rattle.run_state.proofs.{Prefix.small, Written.order-at, Written.settling-inside, Written.Put, Written.put-none, Written.put-turn, Written.put-all}
-use Rattle.run_state.proofs.keep.Statement.{statement}
+use Rattle.run_state.proofs.{Prefix.small, Written.order-at, Written.settling-inside, Written.Put, Written.put-none, Written.put-turn, Written.put-all, keep.Statement.statement}
 use Rattle.run_state.proofs.keep.Tie as tie
 
 abbrev Inv-loop : tie.InvT-loop
@@ -14,21 +13,6 @@ abbrev μ-loop : tie.MeasureT-loop
 
 loop-holds : tie.Need-loop-holds Inv-loop μ-loop
 loop-holds c = (omega arith, put-none _ _ _ _)
-
-add-x : tie.Need-add-x Inv-loop μ-loop
-add-x c = omega arith
-
-mul-x : tie.Need-mul-x Inv-loop μ-loop
-mul-x c = omega arith
-
-element-copy-out-x : tie.Need-element-copy-out-x Inv-loop μ-loop
-element-copy-out-x c = omega arith
-
-mul-list : tie.Need-mul-list Inv-loop μ-loop
-mul-list c = omega arith
-
-shared-slice-read-list : tie.Need-shared-slice-read-list Inv-loop μ-loop
-shared-slice-read-list c = omega arith
 
 cast-list : tie.Need-cast-list Inv-loop μ-loop
 cast-list c =
@@ -49,12 +33,6 @@ slice-write-list c =
     let l = c .before .before .before .loop in
     omega (arith, l .inv .1 .sized, settling-inside (a .args .numbers .now) (a .args .n) (l .i) (a .pre .1 .1) (omega arith))
 
-add-i : tie.Need-add-i Inv-loop μ-loop
-add-i c = omega arith
-
-loop-less : tie.Need-loop-less Inv-loop μ-loop
-loop-less c = omega arith
-
 loop-again : tie.Need-loop-again Inv-loop μ-loop
 unfolding at
 loop-again c =
@@ -69,9 +47,6 @@ loop-again c =
           (l .inv .1) i),
     )
 
-same-length : tie.Need-same-length Inv-loop μ-loop
-same-length c = c .before .loop .inv .1 .sized
-
 returns : tie.Need-returns Inv-loop μ-loop
 returns c =
     let a = c .before .before in
@@ -81,8 +56,6 @@ returns c =
     (subst (λ (k : ℕ). Put (a .args .start) (orderIn (a .args .numbers .now) (a .args .n)) (a .args .work .now) (a .args .list .now) k (l .list)) e (l .inv .1))
 
 pub keep-spec : {M : Type 1} → statement M
-keep-spec =
-    tie.close
-    (tie.spec
-    Inv-loop μ-loop loop-holds add-x mul-x element-copy-out-x mul-list shared-slice-read-list cast-list add-list slice-write-list add-i loop-less loop-again
-    same-length returns)
+keep-spec = tie.close (tie.spec
+    Inv-loop μ-loop loop-holds (λ c. omega arith) (λ c. omega arith) (λ c. omega arith) (λ c. omega arith) (λ c. omega arith) cast-list add-list slice-write-list (λ c. omega arith)
+    (λ c. omega arith) loop-again (λ c. c .before .loop .inv .1 .sized) returns)

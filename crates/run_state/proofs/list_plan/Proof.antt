@@ -27,7 +27,4 @@ returns-2 c =
     (kept-now _ _ _ _ _ (a .pre .0) _ (a .pre .1 .2) (c .before .before .before .before .if1 .left) (c .note .ensures), (refl, c .note .kept .0))
 
 pub list-plan-spec : {M : Type 1} → statement M
-list-plan-spec =
-    tie.close
-    (tie.spec
-    (λ c. search needs) (λ c. search needs) returns (λ c. search needs) note-requires add-work (λ c. search needs) returns-2)
+list-plan-spec = tie.close (tie.spec (λ c. search needs) (λ c. search needs) returns (λ c. search needs) note-requires add-work (λ c. search needs) returns-2)

@@ -24,7 +24,4 @@ unfolding at
 returns-2 c = c .before .before .keep .ensures ∙ sym (noted-over _ _ _ (c .before .before .before .before .before .if1 .left))
 
 pub note-spec : {M : Type 1} → statement M
-note-spec =
-    tie.close
-    (tie.spec
-    returns (λ c. search needs) mul-keep keep-requires (λ c. search needs) returns-2)
+note-spec = tie.close (tie.spec returns (λ c. search needs) mul-keep keep-requires (λ c. search needs) returns-2)

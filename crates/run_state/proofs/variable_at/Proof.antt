@@ -9,7 +9,4 @@ unfolding at
 returns c = search needs
 
 pub variable-at-spec : {M : Type 1} → statement M
-variable-at-spec =
-    tie.close
-    (tie.spec
-    (λ c. search needs) (λ c. search needs) (λ c. search needs) returns)
+variable-at-spec = tie.close (tie.spec (λ c. search needs) (λ c. search needs) (λ c. search needs) returns)

@@ -1,7 +1,6 @@
 -- The memo of a run, in `work` from MEMO on: what is kept of the nodes below a prefix that were all walked along.
 use Rattle.model.specs.Kit.{_≡_, List, [], _∷_, map, ℕ, suc, _+_, _-_, _*_, _%_, _≤_, _<_, T, eqb, length}
-use Rattle.model.specs.{Lists.at, Lists.keep, Lists.tabulate, inner.Filling.Gathered, Problem.Problem, Search.setsAt, Search.isLive, Search.nodesBelow, Search.isPlan}
-use Rattle.model.specs.Run.{settledBy, countsBy}
+use Rattle.model.specs.{Lists.at, Lists.keep, Lists.tabulate, inner.Filling.Gathered, Problem.Problem, Search.setsAt, Search.isLive, Search.nodesBelow, Search.isPlan, Run.settledBy, Run.countsBy}
 use Rattle.order.specs.Reordered.{write}
 use Rattle.arrays.specs.inner.Places.{ENTAILED, OBEYED, PLANS, MEMO, ENTRY, ENTRIES, DEPTH, LOW, GOOD, NODES, LENGTH, ROWS, FIRST, SETS, ENDS, COUNTS}
 use Rattle.prune_symmetries.specs.inner.Levels.{Mark}

@@ -1,8 +1,8 @@
 -- What the functions of the search ask and leave: `settle` walks along the nodes of some values of a variable, and `try_value` along the lowest
 -- value's node and those below it.
 use Rattle.model.specs.Kit.{_≡_, List, [], _∷_, _++_, ℕ, suc, _+_, _-_, _*_, _^_, _≤_, _<_, T, length, take}
-use Rattle.model.specs.{Lists.at, Lists.tabulate, ValueSets.has, ValueSets.lowestOf, Problem.Problem, Problem.withSymmetries, Search.setsAt, Search.isLive, Search.nodesBelow}
-use Rattle.model.specs.{Run.Tally, inner.WellFormed.WellFormed, inner.WellFormed.Respected}
+use Rattle.model.specs.Search.{setsAt, isLive, nodesBelow}
+use Rattle.model.specs.{Lists.at, Lists.tabulate, ValueSets.has, ValueSets.lowestOf, Problem.Problem, Problem.withSymmetries, Run.Tally, inner.WellFormed.WellFormed, inner.WellFormed.Respected}
 use Rattle.order.specs.{Order.Ordering, Reordered.write}
 use Rattle.arrays.specs.inner.Places.{SYMMETRIES, LIMIT, ROOM, ORDER, PLANS, LAST, MARKS, ALL, DEEPER, DIAGONAL, ASKS}
 use Rattle.prune.specs.inner.Node.{Ready, SetsHeld, Marked}

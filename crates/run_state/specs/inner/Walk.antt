@@ -2,8 +2,8 @@
 -- The search goes down the tree and takes one step for each node; proofs/Walk has the laws that join the steps, and proofs/Outcome says that
 -- the walk along all nodes of the tree is the run of model's `search`.
 use Rattle.model.specs.Kit.{_≡_, List, [], _∷_, _++_, map, ℕ, suc, _+_, _*_, length, take, set, replicate, leb, eqb}
-use Rattle.model.specs.{Written.placed, Lists.flat, Lists.choose, Lists.at, Lists.total, ValueSets.members, Problem.Problem, Search.isPlan, Search.nodesBelow, Run.Ending}
-use Rattle.model.specs.Run.{finished, spent, full, written, Tally, settledBy, countsBy}
+use Rattle.model.specs.Run.{Ending, finished, spent, full, written, Tally, settledBy, countsBy}
+use Rattle.model.specs.{Written.placed, Lists.flat, Lists.choose, Lists.at, Lists.total, ValueSets.members, Problem.Problem, Search.isPlan, Search.nodesBelow}
 use Rattle.order.specs.Reordered.{write}
 use Rattle.arrays.specs.inner.Places.{ALL, SPENT, FULL}
 

@@ -13,18 +13,6 @@ abbrev μ-loop : tie.MeasureT-loop
 loop-holds : tie.Need-loop-holds Inv-loop μ-loop
 loop-holds c = (omega arith, c .pre, λ j l. absurd (not-suc-le-zero l))
 
-cast-order : tie.Need-cast-order Inv-loop μ-loop
-cast-order c = omega arith
-
-element-write-order : tie.Need-element-write-order Inv-loop μ-loop
-element-write-order c = omega arith
-
-add-k : tie.Need-add-k Inv-loop μ-loop
-add-k c = omega arith
-
-loop-less : tie.Need-loop-less Inv-loop μ-loop
-loop-less c = omega arith
-
 loop-again : tie.Need-loop-again Inv-loop μ-loop
 loop-again c =
     let l = c .before .loop in
@@ -34,7 +22,4 @@ returns : tie.Need-returns Inv-loop μ-loop
 returns c = let l = c .before .loop in (l .inv .1, λ k m. l .inv .2 k (omega arith))
 
 pub by-position-spec : {M : Type 1} → statement M
-by-position-spec =
-    tie.close
-    (tie.spec
-    Inv-loop μ-loop loop-holds cast-order element-write-order add-k loop-less loop-again returns)
+by-position-spec = tie.close (tie.spec Inv-loop μ-loop loop-holds (λ c. omega arith) (λ c. omega arith) (λ c. omega arith) (λ c. omega arith) loop-again returns)

@@ -16,27 +16,9 @@ loop-holds : tie.Need-loop-holds Inv-loop μ-loop
 unfolding ordered
 loop-holds c = (omega arith, refl)
 
-element-copy-out-long : tie.Need-element-copy-out-long Inv-loop μ-loop
-element-copy-out-long c = omega arith
-
-long-requires : tie.Need-long-requires Inv-loop μ-loop
-long-requires c κs = search needs
-
-add-numbers : tie.Need-add-numbers Inv-loop μ-loop
-add-numbers c = omega arith
-
-mul-numbers : tie.Need-mul-numbers Inv-loop μ-loop
-mul-numbers c = omega arith
-
 slice-write-numbers : tie.Need-slice-write-numbers Inv-loop μ-loop
 slice-write-numbers c = let l = c .before .before .before .loop in let a = c .before .before .before .before .before .args in omega
     (arith, ap length (l .inv .1), length-ordered (now (a .order)) (l .k) (now (a .numbers)))
-
-add-k : tie.Need-add-k Inv-loop μ-loop
-add-k c = omega arith
-
-loop-less : tie.Need-loop-less Inv-loop μ-loop
-loop-less c = omega arith
 
 loop-again : tie.Need-loop-again Inv-loop μ-loop
 unfolding ordered at
@@ -44,9 +26,6 @@ loop-again c =
     let l = c .before .before .before .loop in
     let a = c .before .before .before .before .before .args in
     (omega arith, ap₂ (λ (s : List ℕ) (v : ℕ). set s (ORDER + l .k) v) (l .inv .1) (c .long .ensures .0) ∙ ap (λ (k : ℕ). ordered (now (a .order)) k (now (a .numbers))) (sym (add-one (l .k))))
-
-same-length : tie.Need-same-length Inv-loop μ-loop
-same-length c = let l = c .before .loop in let a = c .before .before .before .args in ap length (l .inv .1) ∙ length-ordered (now (a .order)) (l .k) (now (a .numbers))
 
 returns : tie.Need-returns Inv-loop μ-loop
 returns c =
@@ -56,7 +35,6 @@ returns c =
     l .inv .1 ∙ ap (λ (k : ℕ). ordered (now (a .order)) k (now (a .numbers))) e
 
 pub put-order-spec : {M : Type 1} → statement M
-put-order-spec =
-    tie.close
-    (tie.spec
-    Inv-loop μ-loop loop-holds element-copy-out-long long-requires add-numbers mul-numbers slice-write-numbers add-k loop-less loop-again same-length returns)
+put-order-spec = tie.close (tie.spec
+    Inv-loop μ-loop loop-holds (λ c. omega arith) (λ c κs. search needs) (λ c. omega arith) (λ c. omega arith) slice-write-numbers (λ c. omega arith) (λ c. omega arith) loop-again
+    (λ c. let l = c .before .loop in let a = c .before .before .before .args in ap length (l .inv .1) ∙ length-ordered (now (a .order)) (l .k) (now (a .numbers))) returns)

@@ -13,7 +13,4 @@ unfolding at
 returns-2 c = room-wanted _ _ _ (c .if1 .left)
 
 pub room-for-spec : {M : Type 1} → statement M
-room-for-spec =
-    tie.close
-    (tie.spec
-    (λ c. search needs) (λ c. search needs) returns (λ c. search needs) returns-2)
+room-for-spec = tie.close (tie.spec (λ c. search needs) (λ c. search needs) returns (λ c. search needs) returns-2)

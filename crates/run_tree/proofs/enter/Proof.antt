@@ -67,8 +67,6 @@ returns-3 c =
     )
 
 pub enter-spec : {M : Type 1} → statement M
-enter-spec =
-    tie.close
-    (tie.spec
-    (λ c κs. search needs) (λ c. search needs) (λ c. search needs) (λ c. search needs) (λ c. search needs) (λ c. search needs) child-requires returns
-    (λ c. search needs) (λ c. search needs) list-plan-requires returns-2 returns-3)
+enter-spec = tie.close (tie.spec
+    (λ c κs. search needs) (λ c. search needs) (λ c. search needs) (λ c. search needs) (λ c. search needs) (λ c. search needs) child-requires returns (λ c. search needs) (λ c. search needs)
+    list-plan-requires returns-2 returns-3)

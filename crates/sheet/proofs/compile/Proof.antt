@@ -39,8 +39,4 @@ returns-3 c =
     (tables-asked _ _ _ (r .ask .result) yes asked (r .ask .ensures)) (c .decode-all .ensures)
 
 pub compile-spec : {M : Type 1} → statement M
-compile-spec =
-    tie.close
-    (tie.spec
-    (λ c κs. search needs) (λ c. search needs) (λ c. search needs) ask-requires (λ c. search needs) (λ c. search needs) returns decode-all-requires returns-2
-    returns-3)
+compile-spec = tie.close (tie.spec (λ c κs. search needs) (λ c. search needs) (λ c. search needs) ask-requires (λ c. search needs) (λ c. search needs) returns decode-all-requires returns-2 returns-3)

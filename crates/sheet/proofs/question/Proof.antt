@@ -3,9 +3,6 @@ use Rattle.sheet.proofs.{Whole.zeros, Whole.whole-no, Whole.whole-yes, 
 use Rattle.arrays.specs.inner.Places.{NUMBERS, SUPPORTS}
 use Rattle.sheet.proofs.question.Tie as tie
 
-read-requires : tie.Need-read-requires
-read-requires c κs = (zeros NUMBERS, zeros SUPPORTS)
-
 ask-requires : tie.Need-ask-requires
 ask-requires c κs =
     let f = c .before .before .before in
@@ -21,7 +18,4 @@ returns-2 c =
     whole-yes _ _ _ _ (f .before .before .read .ensures) _ (c .ask .result) (f .form2 .given .1) (c .ask .ensures)
 
 pub question-spec : {M : Type 1} → statement M
-question-spec =
-    tie.close
-    (tie.spec
-    read-requires (λ c. search needs) (λ c. search needs) ask-requires returns returns-2)
+question-spec = tie.close (tie.spec (λ c κs. (zeros NUMBERS, zeros SUPPORTS)) (λ c. search needs) (λ c. search needs) ask-requires returns returns-2)

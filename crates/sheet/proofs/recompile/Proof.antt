@@ -17,7 +17,4 @@ returns-2 c =
     recompile-yes _ _ _ _ _ (f .before .before .read .ensures) _ _ (f .form .given .1) (c .decode-all .ensures)
 
 pub recompile-spec : {M : Type 1} → statement M
-recompile-spec =
-    tie.close
-    (tie.spec
-    (λ c κs. search needs) (λ c. search needs) (λ c. search needs) decode-all-requires returns returns-2)
+recompile-spec = tie.close (tie.spec (λ c κs. search needs) (λ c. search needs) (λ c. search needs) decode-all-requires returns returns-2)

@@ -1,9 +1,7 @@
 -- What questions 1 to 14 leave in the arrays.
 use Rattle.model.specs.Kit.{_≡_, Bool, true, List, ℕ, length, set}
-use Rattle.model.specs.{Lists.at, Verdict.accepted, Sheet.headerOf, Sheet.problemOf, Sheet.formVerdict}
-use Rattle.model.specs.Sheet.{verdictOf}
-use Rattle.arrays.specs.inner.Places.{VARIABLES, VALUES, CONSTRAINTS, SYMMETRIES, IMAGES, NUMBERS, SUPPORTS}
-use Rattle.arrays.specs.inner.Layout.{Numbers, Supports, Compiled}
+use Rattle.model.specs.{Lists.at, Verdict.accepted, Sheet.headerOf, Sheet.problemOf, Sheet.formVerdict, Sheet.verdictOf}
+use Rattle.arrays.specs.inner.{Places.VARIABLES, Places.VALUES, Places.CONSTRAINTS, Places.SYMMETRIES, Places.IMAGES, Places.NUMBERS, Places.SUPPORTS, Layout.Numbers, Layout.Supports, Layout.Compiled}
 use Rattle.reader.specs.{inner.Read.stated, declared.Header.Header}
 use Rattle.sheet.specs.{Meaning.means, Meaning.Answers, Meaning.compilable, declared.Answer.Answer, declared.Answer.the-variants.Accepted, declared.Answer.the-variants.Refused}
 use Rattle.sheet.specs.{declared.form.Form.Form, declared.form.Form.the-variants.Passed, declared.form.Form.the-variants.Refused as NotPassed}

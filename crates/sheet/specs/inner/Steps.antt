@@ -1,8 +1,8 @@
 -- What asking one constraint, and all of them, says.
 use Rattle.model.specs.Kit.{_≡_, List, ℕ, zero, suc, _≤_}
 use Rattle.model.specs.{Verdict.Verdict, Verdict.refused, Sheet.headerOf, Sheet.afterAt, Sheet.constraintVerdict, Sheet.constraintsVerdict}
-use Rattle.sheet.specs.{inner.Fill.numbersWith, inner.Fill.supportsWith, Meaning.Answers, declared.Answer.Answer, declared.Answer.the-variants.Accepted}
-use Rattle.sheet.specs.{declared.constraints.Step.Step, declared.constraints.Step.the-variants.Next, declared.constraints.Step.the-variants.Refused}
+use Rattle.sheet.specs.{inner.Fill.numbersWith, inner.Fill.supportsWith, Meaning.Answers, declared.Answer.Answer, declared.Answer.the-variants.Accepted, declared.constraints.Step.Step}
+use Rattle.sheet.specs.{declared.constraints.Step.the-variants.Next, declared.constraints.Step.the-variants.Refused}
 
 -- ---- one constraint
 -- the answer for constraint k, and what is asked after it

@@ -1,8 +1,8 @@
 -- `copy`: after i turns the first i bytes stand in the room. Assumes nothing.
 use Rattle.model.specs.Kit.{_≡_, refl, sym, ap, ap₂, _∙_, List, ℕ, _+_, _-_, _≤_, _<_, add-one, arith, needs, length, getD, set, length-set}
+use Rattle.model.specs.Written.{Fronted}
 use native.Mathlib.Nat.{le-antisymm, zero-add}
 use lib.Seq.{paste, paste-zero, paste-suc}
-use Rattle.model.specs.Written.{Fronted}
 use Rattle.model.proofs.Written.{written-paste, fronted}
 use Rattle.sheet_small.proofs.copy.Statement.{statement}
 use Rattle.sheet_small.proofs.copy.Tie as tie
@@ -24,26 +24,11 @@ whole d s i o e p = let w = fronted (written-paste d 0 s i e) in record { bytes 
 loop-holds : tie.Need-loop-holds Inv-loop μ-loop
 loop-holds c = (search needs, paste-zero (c .args .room .now) 0 (c .args .sheet .now), refl)
 
-shared-slice-read-room : tie.Need-shared-slice-read-room Inv-loop μ-loop
-shared-slice-read-room c = search needs
-
-slice-write-room : tie.Need-slice-write-room Inv-loop μ-loop
-slice-write-room c = search needs
-
-add-i : tie.Need-add-i Inv-loop μ-loop
-add-i c = search needs
-
-loop-less : tie.Need-loop-less Inv-loop μ-loop
-loop-less c = search needs
-
 loop-again : tie.Need-loop-again Inv-loop μ-loop
 loop-again c =
     let l = c .before .before .loop in
     let a = c .before .before .before .args in
     (search needs, turn (a .room .now) (a .sheet .now) (l .i) (l .room) (omega arith) (omega arith) (l .inv .1), simp length-set (l .inv .2))
-
-same-length : tie.Need-same-length Inv-loop μ-loop
-same-length c = c .before .loop .inv .2
 
 returns : tie.Need-returns Inv-loop μ-loop
 returns c =
@@ -52,7 +37,4 @@ returns c =
     whole (a .room .now) (a .sheet .now) (l .i) (l .room) (le-antisymm (l .inv .0) (c .loop-test .left)) (l .inv .1)
 
 pub copy-spec : {M : Type 1} → statement M
-copy-spec =
-    tie.close
-    (tie.spec
-    Inv-loop μ-loop loop-holds shared-slice-read-room slice-write-room add-i loop-less loop-again same-length returns)
+copy-spec = tie.close (tie.spec Inv-loop μ-loop loop-holds (λ c. search needs) (λ c. search needs) (λ c. search needs) (λ c. search needs) loop-again (λ c. c .before .loop .inv .2) returns)

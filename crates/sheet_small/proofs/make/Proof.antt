@@ -19,7 +19,4 @@ returns c =
     )
 
 pub make-spec : {M : Type 1} → statement M
-make-spec =
-    tie.close
-    (tie.spec
-    (λ c κs. search needs) (λ c κs. search needs) (λ c κs. search needs) table-requires (λ c. search needs) (λ c. search needs) returns)
+make-spec = tie.close (tie.spec (λ c κs. search needs) (λ c κs. search needs) (λ c κs. search needs) table-requires (λ c. search needs) (λ c. search needs) returns)

@@ -34,8 +34,6 @@ returns-3 c = sym (ap isSheet (sym (c .before .before .before .before .before .n
     (sym (c .before .before .question .ensures) ∙ ap means (c .enum-told2 .given .1)))
 
 pub passes-spec : {M : Type 1} → statement M
-passes-spec =
-    tie.close
-    (tie.spec
-    (λ c κs. search needs) moved-requires returns (λ c κs. search needs) (λ c. search needs) slice-aggregate-question (λ c κs. search needs) (λ c. search needs)
-    (λ c. search needs) returns-2 returns-3)
+passes-spec = tie.close (tie.spec
+    (λ c κs. search needs) moved-requires returns (λ c κs. search needs) (λ c. search needs) slice-aggregate-question (λ c κs. search needs) (λ c. search needs) (λ c. search needs) returns-2
+    returns-3)

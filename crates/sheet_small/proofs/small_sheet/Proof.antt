@@ -40,7 +40,4 @@ returns-3 c =
     (subst (λ (b : List ℕ). Fronted (a .room .now) b (w .last .1 .0) (w .result)) (h .1 .is) (w .ensures))
 
 pub small-sheet-spec : {M : Type 1} → statement M
-small-sheet-spec =
-    tie.close
-    (tie.spec
-    (λ c κs. search needs) returns returns-2 array-share-prefix-bytes slice-aggregate-copy copy-requires (λ c. search needs) returns-3)
+small-sheet-spec = tie.close (tie.spec (λ c κs. search needs) returns returns-2 array-share-prefix-bytes slice-aggregate-copy copy-requires (λ c. search needs) returns-3)

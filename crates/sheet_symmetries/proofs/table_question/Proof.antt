@@ -1,13 +1,9 @@
 use Rattle.model.specs.Kit.{_≡_, sym, _∙_, true, false, List, ℕ, now, not-true, not-false, needs}
 use Rattle.model.specs.{Problem.Problem, Sheet.permutesPairs}
 use Rattle.sheet_table.specs.{inner.Table.Asked, inner.Table.tableOf, inner.Forbidden.Decoded, inner.Forbidden.Lent}
-use Rattle.sheet_symmetries.proofs.Answers.{asked-table, asked-coded, asked-lent, answer-15, answer-16, answer-last}
+use Rattle.sheet_symmetries.proofs.{Answers.asked-table, Answers.asked-coded, Answers.asked-lent, Answers.answer-15, Answers.answer-16, Answers.answer-last, table_question.Statement.statement}
 use Rattle.sheet_table.proofs.Targets.{blank-new}
-use Rattle.sheet_symmetries.proofs.table_question.Statement.{statement}
 use Rattle.sheet_symmetries.proofs.table_question.Tie as tie
-
-decode-requires : tie.Need-decode-requires
-decode-requires c κs = let h = c .before .before .before .pre in ((h .0, asked-table (h .0) _ _ _ _ (h .1)), blank-new)
 
 returns : tie.Need-returns
 returns c = λ p a. answer-15 p _ _ _ _ a (sym (c .before .decode .ensures .drawn p (asked-table p _ _ _ _ a) .answers) ∙ not-true _ (c .if1 .taken))
@@ -36,9 +32,6 @@ lent c p a =
     let k = e .before .decode .ensures .drawn p (asked-table p _ _ _ _ a) .back (not-false _ (e .if1 .left)) in
     asked-lent p _ _ _ _ a t _ (decoded e p a) _ (c .targets .ensures p (a .ready .framed) (asked-coded p _ _ _ _ a t _ (decoded e p a)) k)
 
-variables-requires : tie.Need-variables-requires
-variables-requires c κs = let h = c .before .before .before .before .before .before .before .before .before .before .pre in (h .0, lent (c .before .before) (h .0) (h .1))
-
 returns-2 : tie.Need-returns-2
 returns-2 c = λ p a. let d = c .before .before .before .before in let e = d .before .before .before in
     answer-16 p _ _ _ _ a (permuted e p a) _ (decoded e p a) _ (c .before .variables .ensures p (lent d p a)) (not-true _ (c .if2 .taken))
@@ -65,7 +58,7 @@ returns-4 c =
     _ true (not-false _ (v .if2 .left)) (c .before .constraints .ensures p (lent d p a)) (not-false _ (c .if3 .left))
 
 pub table-question-spec : {M : Type 1} → statement M
-table-question-spec =
-    tie.close
-    (tie.spec
-    decode-requires returns (λ c κs. search needs) variables-requires returns-2 constraints-requires returns-3 returns-4)
+table-question-spec = tie.close (tie.spec
+    (λ c κs. let h = c .before .before .before .pre in ((h .0, asked-table (h .0) _ _ _ _ (h .1)), blank-new)) returns (λ c κs. search needs)
+    (λ c κs. let h = c .before .before .before .before .before .before .before .before .before .before .pre in (h .0, lent (c .before .before) (h .0) (h .1))) returns-2 constraints-requires
+    returns-3 returns-4)

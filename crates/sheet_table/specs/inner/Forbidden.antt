@@ -1,7 +1,7 @@
 -- The words in which the functions below question 16 speak.
 use Rattle.model.specs.Kit.{_≡_, Bool, true, false, not, List, [], _∷_, _++_, map, _⊎_, ℕ, _+_, _*_, _^_, _/_, _%_, _≤_, _<_, suc, length, take, drop, T, eqb, ltb}
-use Rattle.model.specs.{Lists.all, Lists.any, Lists.at, Lists.same, Lists.both, Lists.either, Lists.choose, ValueSets.has, ValueSets.members, Problem.Problem, Problem.Constraint}
-use Rattle.model.specs.{Problem.pair, Problem.forbidden, Problem.within, Problem.constraintAt, Sheet.permutesPairs}
+use Rattle.model.specs.{Lists.all, Lists.any, Lists.at, Lists.same, Lists.both, Lists.either, Lists.choose, ValueSets.has, ValueSets.members, Problem.Problem, Problem.Constraint, Problem.pair}
+use Rattle.model.specs.{Problem.forbidden, Problem.within, Problem.constraintAt, Sheet.permutesPairs}
 use Rattle.arrays.specs.inner.Layout.{imageCode}
 use Rattle.sheet_table.specs.inner.Table.{Framed, Ready, TableAt, tableOf}
 

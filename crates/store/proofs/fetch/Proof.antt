@@ -52,8 +52,6 @@ returns-5 c =
     (c .before .before .before .before .before .if4 .left) (c .before .before .copy .ensures)
 
 pub fetch-spec : {M : Type 1} → statement M
-fetch-spec =
-    tie.close
-    (tie.spec
-    returns returns-2 (λ c κs. search needs) returns-3 (λ c κs. search needs) (λ c κs. search needs) returns-4 (λ c. search needs) (λ c. search needs)
-    (λ c. search needs) (λ c. search needs) (λ c. search needs) (λ c κs. search needs) (λ c. search needs) returns-5)
+fetch-spec = tie.close (tie.spec
+    returns returns-2 (λ c κs. search needs) returns-3 (λ c κs. search needs) (λ c κs. search needs) returns-4 (λ c. search needs) (λ c. search needs) (λ c. search needs) (λ c. search needs)
+    (λ c. search needs) (λ c κs. search needs) (λ c. search needs) returns-5)

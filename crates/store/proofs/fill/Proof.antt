@@ -15,7 +15,4 @@ returns c =
     ∙ placed-then (a .store .now) (a .p) (1 ∷ a .key ∷ twoBytes n) (omega (arith, c .before .before .before .before .before .before .before .before .before .before .before .pre .0)) (a .table .now)
 
 pub fill-spec : {M : Type 1} → statement M
-fill-spec =
-    tie.close
-    (tie.spec
-    (λ c. search needs) (λ c. search needs) (λ c. search needs) (λ c κs. search needs) (λ c. search needs) (λ c κs. search needs) (λ c. search needs) returns)
+fill-spec = tie.close (tie.spec (λ c. search needs) (λ c. search needs) (λ c. search needs) (λ c κs. search needs) (λ c. search needs) (λ c κs. search needs) (λ c. search needs) returns)

@@ -15,21 +15,6 @@ loop-holds : tie.Need-loop-holds Inv-loop μ-loop
 unfolding freed
 loop-holds c = (search needs, refl, refl)
 
-slot-at-requires : tie.Need-slot-at-requires Inv-loop μ-loop
-slot-at-requires c κs = search needs
-
-holds-requires : tie.Need-holds-requires Inv-loop μ-loop
-holds-requires c κs = search needs
-
-slice-write-store : tie.Need-slice-write-store Inv-loop μ-loop
-slice-write-store c = search needs
-
-add-i : tie.Need-add-i Inv-loop μ-loop
-add-i c = search needs
-
-loop-less : tie.Need-loop-less Inv-loop μ-loop
-loop-less c = search needs
-
 loop-again : tie.Need-loop-again Inv-loop μ-loop
 loop-again c =
     let a = c .before .before .before .before .before .before .before .args in
@@ -46,14 +31,9 @@ loop-again c =
     (λ w. (search needs, w .1 ∙ freed-left (a .store .now) (a .owner) (a .key) (l .store) (l .i) (p .result) (l .inv .1) (p .ensures) (sym (h .ensures) ∙ w .0 .left), ap length (w .1) ∙ l .inv .2))
     (c .if1 .came)
 
-same-length : tie.Need-same-length Inv-loop μ-loop
-same-length c = c .before .loop .inv .2
-
 returns : tie.Need-returns Inv-loop μ-loop
 returns c = let l = c .before .loop in l .inv .1 ∙ ap (freed _ _ _) (le-antisymm (l .inv .0) (c .loop-test .left))
 
 pub free-all-spec : {M : Type 1} → statement M
-free-all-spec =
-    tie.close
-    (tie.spec
-    Inv-loop μ-loop loop-holds slot-at-requires holds-requires slice-write-store add-i loop-less loop-again same-length returns)
+free-all-spec = tie.close (tie.spec
+    Inv-loop μ-loop loop-holds (λ c κs. search needs) (λ c κs. search needs) (λ c. search needs) (λ c. search needs) (λ c. search needs) loop-again (λ c. c .before .loop .inv .2) returns)

@@ -14,20 +14,11 @@ abbrev μ-loop : tie.MeasureT-loop
 loop-holds : tie.Need-loop-holds Inv-loop μ-loop
 loop-holds c = (search needs, λ j h. absurd (omega arith))
 
-is-free-requires : tie.Need-is-free-requires Inv-loop μ-loop
-is-free-requires c κs = search needs
-
 returns : tie.Need-returns Inv-loop μ-loop
 returns c =
     let a = c .before .before .before .before .before .args in
     let l = c .before .before .before .loop in
     sym (first-is (isFree (a .store .now) (a .owner)) 4 (l .i) (l .inv .0) (l .inv .1) (λ h. sym (c .before .is-free .ensures) ∙ c .if1 .taken))
-
-add-i : tie.Need-add-i Inv-loop μ-loop
-add-i c = search needs
-
-loop-less : tie.Need-loop-less Inv-loop μ-loop
-loop-less c = search needs
 
 loop-again : tie.Need-loop-again Inv-loop μ-loop
 loop-again c = (search needs, below-more _ _ (c .before .before .before .loop .inv .1) (sym (c .before .is-free .ensures) ∙ c .if1 .left))
@@ -39,7 +30,4 @@ returns-2 c =
     sym (first-is (isFree (a .store .now) (a .owner)) 4 (l .i) (l .inv .0) (l .inv .1) (λ h. absurd (omega arith)))
 
 pub free-slot-spec : {M : Type 1} → statement M
-free-slot-spec =
-    tie.close
-    (tie.spec
-    Inv-loop μ-loop loop-holds is-free-requires returns add-i loop-less loop-again returns-2)
+free-slot-spec = tie.close (tie.spec Inv-loop μ-loop loop-holds (λ c κs. search needs) returns (λ c. search needs) (λ c. search needs) loop-again returns-2)

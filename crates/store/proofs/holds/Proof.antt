@@ -13,7 +13,4 @@ unfolding at
 returns-2 c = let a = c .before .before .before .args in sym (holds-held (a .store .now) (a .key) (a .p) (c .before .if1 .left))
 
 pub holds-spec : {M : Type 1} → statement M
-holds-spec =
-    tie.close
-    (tie.spec
-    (λ c. search needs) returns (λ c. search needs) (λ c. search needs) returns-2)
+holds-spec = tie.close (tie.spec (λ c. search needs) returns (λ c. search needs) (λ c. search needs) returns-2)

@@ -22,7 +22,4 @@ returns-2 c =
     ∙ sym (free-held b (a .owner) (a .i) (λ z. c .before .before .if1 .left (ap (at b) (p .ensures) ∙ z)))
 
 pub is-free-spec : {M : Type 1} → statement M
-is-free-spec =
-    tie.close
-    (tie.spec
-    (λ c κs. search needs) (λ c. search needs) returns (λ c. search needs) (λ c. search needs) (λ c κs. search needs) returns-2)
+is-free-spec = tie.close (tie.spec (λ c κs. search needs) (λ c. search needs) returns (λ c. search needs) (λ c. search needs) (λ c κs. search needs) returns-2)

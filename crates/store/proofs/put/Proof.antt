@@ -60,8 +60,5 @@ returns-5 c =
     (c .before .before .fill .ensures ∙ ap (λ (p : ℕ). placed b p (slotBytes (a .key) t)) (c .before .before .before .slot-at .ensures ∙ ap (slotAt (a .owner)) e))
 
 pub put-spec : {M : Type 1} → statement M
-put-spec =
-    tie.close
-    (tie.spec
-    returns returns-2 (λ c κs. search needs) (λ c. search needs) returns-3 (λ c. search needs) returns-4 (λ c κs. search needs) (λ c κs. search needs)
-    (λ c. search needs) returns-5)
+put-spec = tie.close (tie.spec
+    returns returns-2 (λ c κs. search needs) (λ c. search needs) returns-3 (λ c. search needs) returns-4 (λ c κs. search needs) (λ c κs. search needs) (λ c. search needs) returns-5)

@@ -42,7 +42,4 @@ returns-4 c =
     (c .before .before .before .before .before .before .before .if2 .left) (omega (arith, e, c .before .before .before .before .if3 .left))) (c .before .before .free-all .ensures)
 
 pub remove-spec : {M : Type 1} → statement M
-remove-spec =
-    tie.close
-    (tie.spec
-    returns returns-2 (λ c κs. search needs) (λ c. search needs) returns-3 (λ c κs. search needs) (λ c. search needs) returns-4)
+remove-spec = tie.close (tie.spec returns returns-2 (λ c κs. search needs) (λ c. search needs) returns-3 (λ c κs. search needs) (λ c. search needs) returns-4)

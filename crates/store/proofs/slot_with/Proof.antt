@@ -13,24 +13,12 @@ abbrev μ-loop : tie.MeasureT-loop
 loop-holds : tie.Need-loop-holds Inv-loop μ-loop
 loop-holds c = (search needs, λ j h. absurd (omega arith))
 
-slot-at-requires : tie.Need-slot-at-requires Inv-loop μ-loop
-slot-at-requires c κs = search needs
-
-holds-requires : tie.Need-holds-requires Inv-loop μ-loop
-holds-requires c κs = search needs
-
 returns : tie.Need-returns Inv-loop μ-loop
 returns c =
     let a = c .before .before .before .before .before .before .args in
     let l = c .before .before .before .before .loop in
     sym (with-is (a .store .now) (a .owner) (a .key) (l .i) (l .inv .0) (l .inv .1) (λ h. ap (holds (a .store .now) (a .key)) (sym (c .before .before .slot-at .ensures)) ∙ sym
     (c .before .holds .ensures) ∙ c .if1 .taken))
-
-add-i : tie.Need-add-i Inv-loop μ-loop
-add-i c = search needs
-
-loop-less : tie.Need-loop-less Inv-loop μ-loop
-loop-less c = search needs
 
 loop-again : tie.Need-loop-again Inv-loop μ-loop
 loop-again c =
@@ -45,7 +33,4 @@ returns-2 c =
     sym (with-is (a .store .now) (a .owner) (a .key) (l .i) (l .inv .0) (l .inv .1) (λ h. absurd (omega arith)))
 
 pub slot-with-spec : {M : Type 1} → statement M
-slot-with-spec =
-    tie.close
-    (tie.spec
-    Inv-loop μ-loop loop-holds slot-at-requires holds-requires returns add-i loop-less loop-again returns-2)
+slot-with-spec = tie.close (tie.spec Inv-loop μ-loop loop-holds (λ c κs. search needs) (λ c κs. search needs) returns (λ c. search needs) (λ c. search needs) loop-again returns-2)

@@ -1,10 +1,11 @@
 -- What else holds of the store: paper 02, #110, in words about the definitions. Calls of any owners (the paper's courses) are made one after another on one
 -- store. What callers may rely on is in specs/Calls.
 use Rattle.model.specs.Kit.{List, [], _∷_, ℕ, eqb, _≡_, _⊎_, Bool, true, false, not, _++_, map, _+_, _*_, _≤_, _<_, length, drop, T, leb}
-use Rattle.model.specs.{Lists.choose, Lists.both, Lists.below, Verdict.Verdict, Verdict.accepted, Verdict.refused, Verdict.ask, Verdict.isAccepted, Sheet.words}
-use Rattle.store.specs.Store.{Store, StoreCall, callVerdict, storeAfter, StoreReply, replyOf, ownerOf, call, none, table, isTable, emptyStore, keysOf, Action, put, fetch, remove}
-use Rattle.model.specs.Sheet.{headerOf, problemOf, symmetriesVerdict, verdictOf}
-use Rattle.store.specs.{Store.callsOf, Store.replyTo, Store.size, inner.Layout.storeOf, inner.Layout.replyOn, inner.Layout.bytesAfter, Calls.StoreBytes, Calls.ByteCalls}
+use Rattle.model.specs.{Lists.choose, Lists.both, Lists.below, Verdict.Verdict, Verdict.accepted, Verdict.refused, Verdict.ask, Verdict.isAccepted, Sheet.words, Sheet.headerOf, Sheet.problemOf}
+use Rattle.model.specs.{Sheet.symmetriesVerdict, Sheet.verdictOf}
+use Rattle.store.specs.Store.{Store, StoreCall, callVerdict, storeAfter, StoreReply, replyOf, ownerOf, call, none, table, isTable, emptyStore, keysOf, Action, put, fetch, remove, callsOf}
+use Rattle.store.specs.Store.{replyTo, size}
+use Rattle.store.specs.{inner.Layout.storeOf, inner.Layout.replyOn, inner.Layout.bytesAfter, Calls.StoreBytes, Calls.ByteCalls}
 
 -- ---- calls one after another
 unfoldable pub storeEnd : Store → List StoreCall → Store

@@ -1,8 +1,7 @@
 -- The store's bytes: sixteen slots of 2,052 bytes, four an owner. A slot has a flag (0 is free), the key, the table's length in two bytes, low
 -- byte first, and 2,048 bytes for the table. Any bytes of the store's size are a store; zeros are the empty one.
 use Rattle.model.specs.Kit.{Bool, not, List, _∷_, _++_, ℕ, zero, suc, _+_, _*_, min, length, take, drop, set, ltb, eqb}
-use Rattle.model.specs.{ValueSets.least, Lists.both, Lists.either, Lists.choose, Lists.at, Verdict.Verdict, Verdict.ask, Verdict.isAccepted, Sheet.«word», Bytes.twoBytes}
-use Rattle.model.specs.Written.{placed}
+use Rattle.model.specs.{ValueSets.least, Lists.both, Lists.either, Lists.choose, Lists.at, Verdict.Verdict, Verdict.ask, Verdict.isAccepted, Sheet.«word», Bytes.twoBytes, Written.placed}
 use Rattle.store.specs.Store.{none, table, Store, put, fetch, remove, StoreCall, call, callVerdict, StoreReply, replyOf, size}
 
 -- ---- what the bytes mean
@@ -23,8 +22,7 @@ unfoldable pub slotWith : List ℕ → ℕ → ℕ → ℕ
 slotWith b owner key = least 4 (λ i. holds b key (slotAt owner i))
 
 unfoldable pub storeOf : List ℕ → Store
-storeOf b owner key =
-    choose (both (ltb owner 4) (ltb (slotWith b owner key) 4)) (table (tableAt b (slotAt owner (slotWith b owner key)))) none
+storeOf b owner key = choose (both (ltb owner 4) (ltb (slotWith b owner key) 4)) (table (tableAt b (slotAt owner (slotWith b owner key)))) none
 
 -- ---- the bytes that an accepted call leaves
 -- a slot is free where it holds nothing, or the key of an earlier slot

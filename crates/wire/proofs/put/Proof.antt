@@ -1,8 +1,8 @@
 -- `put`: after i turns the buffer has the first i bytes at the place. Assumes nothing.
 use Rattle.model.specs.Kit.{_≡_, refl, sym, ap, _∙_, List, ℕ, _+_, _-_, _≤_, _<_, add-one, arith, needs, length, getD, set, length-set}
+use Rattle.model.specs.Written.{Written}
 use native.Mathlib.Nat.{le-antisymm}
 use lib.Seq.{paste, paste-zero, paste-suc}
-use Rattle.model.specs.Written.{Written}
 use Rattle.model.proofs.Written.{written-paste}
 use Rattle.wire.proofs.put.Statement.{statement}
 use Rattle.wire.proofs.put.Tie as tie
@@ -23,32 +23,11 @@ whole d at t i o e p = rw p (written-paste d at t i e)
 loop-holds : tie.Need-loop-holds Inv-loop μ-loop
 loop-holds c = (search needs, paste-zero (c .args .out .now) (c .args .at) (c .args .bytes .now), refl)
 
-shared-slice-read-out : tie.Need-shared-slice-read-out Inv-loop μ-loop
-shared-slice-read-out c = search needs
-
-add-out : tie.Need-add-out Inv-loop μ-loop
-add-out c = search needs
-
-slice-write-out : tie.Need-slice-write-out Inv-loop μ-loop
-slice-write-out c = search needs
-
-add-i : tie.Need-add-i Inv-loop μ-loop
-add-i c = search needs
-
-loop-less : tie.Need-loop-less Inv-loop μ-loop
-loop-less c = search needs
-
 loop-again : tie.Need-loop-again Inv-loop μ-loop
 loop-again c =
     let l = c .before .before in
     let a = l .before .args in
     (search needs, turn (a .out .now) (a .at) (a .bytes .now) (l .loop .i) (l .loop .out) (omega arith) (omega arith) (l .loop .inv .1), simp length-set (l .loop .inv .2))
-
-add-result : tie.Need-add-result Inv-loop μ-loop
-add-result c = search needs
-
-same-length : tie.Need-same-length Inv-loop μ-loop
-same-length c = c .before .loop .inv .2
 
 returns : tie.Need-returns Inv-loop μ-loop
 returns c =
@@ -57,7 +36,6 @@ returns c =
     whole (a .out .now) (a .at) (a .bytes .now) (l .loop .i) (l .loop .out) (le-antisymm (l .loop .inv .0) (c .loop-test .left)) (l .loop .inv .1)
 
 pub put-spec : {M : Type 1} → statement M
-put-spec =
-    tie.close
-    (tie.spec
-    Inv-loop μ-loop loop-holds shared-slice-read-out add-out slice-write-out add-i loop-less loop-again add-result same-length returns)
+put-spec = tie.close (tie.spec
+    Inv-loop μ-loop loop-holds (λ c. search needs) (λ c. search needs) (λ c. search needs) (λ c. search needs) (λ c. search needs) loop-again (λ c. search needs) (λ c. c .before .loop .inv .2)
+    returns)

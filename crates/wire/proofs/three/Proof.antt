@@ -28,7 +28,4 @@ returns c =
     put-three (s .args .kind) (s .args .a) (s .args .b) (s .pre .0) (p .four .ensures) (q .four2 .ensures) (r .four3 .ensures)
 
 pub three-spec : {M : Type 1} → statement M
-three-spec =
-    tie.close
-    (tie.spec
-    (λ c κs. search needs) four-requires-2 four-requires-3 (λ c. search needs) returns)
+three-spec = tie.close (tie.spec (λ c κs. search needs) four-requires-2 four-requires-3 (λ c. search needs) returns)

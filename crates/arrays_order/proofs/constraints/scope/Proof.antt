@@ -1,11 +1,7 @@
 -- By the number of names. Assumes nothing.
 use Rattle.model.specs.Kit.{ap, arith, length, needs}
-use Rattle.arrays_order.proofs.{Tables.framed-none, Sorts.stays-1, Scopes.scope-one, Scopes.scope-two, Scopes.scope-three, Scopes.for-names}
-use Rattle.arrays_order.proofs.constraints.scope.Statement.{statement}
+use Rattle.arrays_order.proofs.{Tables.framed-none, Sorts.stays-1, Scopes.scope-one, Scopes.scope-two, Scopes.scope-three, Scopes.for-names, constraints.scope.Statement.statement}
 use Rattle.arrays_order.proofs.constraints.scope.Tie as tie
-
-entry-requires : tie.Need-entry-requires
-entry-requires c κs = let s = c .before .before .pre .2 .1 in omega (arith, c .scope-at .ensures, s .variable 0 (s .some))
 
 returns : tie.Need-returns
 returns c = (
@@ -61,8 +57,7 @@ returns-3 c = (
 )
 
 pub scope-spec : {M : Type 1} → statement M
-scope-spec =
-    tie.close
-    (tie.spec
-    (λ c κs. search needs) (λ c κs. search needs) entry-requires (λ c. search needs) (λ c. search needs) (λ c. search needs) returns (λ c κs. search needs)
-    entry-requires-2 (λ c. search needs) two-requires returns-2 (λ c κs. search needs) entry-requires-3 (λ c. search needs) three-requires returns-3)
+scope-spec = tie.close (tie.spec
+    (λ c κs. search needs) (λ c κs. search needs) (λ c κs. let s = c .before .before .pre .2 .1 in omega (arith, c .scope-at .ensures, s .variable 0 (s .some))) (λ c. search needs)
+    (λ c. search needs) (λ c. search needs) returns (λ c κs. search needs) entry-requires-2 (λ c. search needs) two-requires returns-2 (λ c κs. search needs) entry-requires-3 (λ c. search needs)
+    three-requires returns-3)

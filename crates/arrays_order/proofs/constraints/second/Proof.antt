@@ -22,7 +22,4 @@ returns-2 : tie.Need-returns-2
 returns-2 c = after-transpose _ _ _ _ _ _ _ _ (c .before .before .before .before .before .pre .7) (c .before .before .transpose-each .ensures) (c .third2 .ensures)
 
 pub second-spec : {M : Type 1} → statement M
-second-spec =
-    tie.close
-    (tie.spec
-    (λ c κs. search needs) returns (λ c κs. search needs) third-requires-2 returns-2)
+second-spec = tie.close (tie.spec (λ c κs. search needs) returns (λ c κs. search needs) third-requires-2 returns-2)

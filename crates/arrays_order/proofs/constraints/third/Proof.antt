@@ -10,8 +10,6 @@ returns-2 : tie.Need-returns-2
 returns-2 c = after-swap _ _ _ _ _ _ _ _ (c .before .before .before .pre .6) (c .swap .ensures) (stays-3 _ _ _ _ _ (omega arith) (search needs) (search needs))
 
 pub third-spec : {M : Type 1} → statement M
-third-spec =
-    tie.close
-    (tie.spec
-    (λ c. search needs) (λ c. search needs) (λ c. search needs) (λ c. search needs) (λ c. search needs) (λ c. search needs) returns (λ c κs. search needs)
-    (λ c. search needs) (λ c. search needs) (λ c. search needs) (λ c. search needs) (λ c. search needs) (λ c. search needs) returns-2)
+third-spec = tie.close (tie.spec
+    (λ c. search needs) (λ c. search needs) (λ c. search needs) (λ c. search needs) (λ c. search needs) (λ c. search needs) returns (λ c κs. search needs) (λ c. search needs) (λ c. search needs)
+    (λ c. search needs) (λ c. search needs) (λ c. search needs) (λ c. search needs) returns-2)

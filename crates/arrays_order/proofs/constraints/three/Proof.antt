@@ -23,7 +23,4 @@ returns-2 : tie.Need-returns-2
 returns-2 c = after-swap _ _ _ _ _ _ _ _ (c .before .before .before .before .before .pre .6) (c .before .before .swap .ensures) (c .second2 .ensures)
 
 pub three-spec : {M : Type 1} → statement M
-three-spec =
-    tie.close
-    (tie.spec
-    (λ c κs. search needs) returns (λ c κs. search needs) second-requires-2 returns-2)
+three-spec = tie.close (tie.spec (λ c κs. search needs) returns (λ c κs. search needs) second-requires-2 returns-2)

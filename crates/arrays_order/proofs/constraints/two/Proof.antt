@@ -10,8 +10,6 @@ returns-2 : tie.Need-returns-2
 returns-2 c = after-2 _ _ _ _ _ _ _ (c .before .before .before .pre .3) (c .transpose .ensures) (stays-2 _ _ _ _ (omega arith) (search needs))
 
 pub two-spec : {M : Type 1} → statement M
-two-spec =
-    tie.close
-    (tie.spec
-    (λ c. search needs) (λ c. search needs) (λ c. search needs) (λ c. search needs) returns (λ c κs. search needs) (λ c. search needs) (λ c. search needs)
-    (λ c. search needs) (λ c. search needs) returns-2)
+two-spec = tie.close (tie.spec
+    (λ c. search needs) (λ c. search needs) (λ c. search needs) (λ c. search needs) returns (λ c κs. search needs) (λ c. search needs) (λ c. search needs) (λ c. search needs) (λ c. search needs)
+    returns-2)

@@ -13,29 +13,11 @@ abbrev μ-loop : tie.MeasureT-loop
 loop-holds : tie.Need-loop-holds Inv-loop μ-loop
 loop-holds c = (search needs, images-begin _ _ _ _)
 
-mul-symmetry : tie.Need-mul-symmetry Inv-loop μ-loop
-mul-symmetry c = search needs
-
-symmetry-requires : tie.Need-symmetry-requires Inv-loop μ-loop
-symmetry-requires c κs = search needs
-
-add-e : tie.Need-add-e Inv-loop μ-loop
-add-e c = search needs
-
-loop-less : tie.Need-loop-less Inv-loop μ-loop
-loop-less c = search needs
-
 loop-again : tie.Need-loop-again Inv-loop μ-loop
 loop-again c = (search needs, images-turn _ _ _ _ _ _ _ (search needs) (c .before .before .before .before .before .loop .inv .1) (c .before .before .symmetry .ensures))
-
-same-length : tie.Need-same-length Inv-loop μ-loop
-same-length c = c .before .loop .inv .1 .size
 
 returns : tie.Need-returns Inv-loop μ-loop
 returns c = images-end _ _ _ _ _ _ _ (search needs) (search needs) (c .before .loop .inv .1)
 
 pub rename-spec : {M : Type 1} → statement M
-rename-spec =
-    tie.close
-    (tie.spec
-    Inv-loop μ-loop loop-holds mul-symmetry symmetry-requires add-e loop-less loop-again same-length returns)
+rename-spec = tie.close (tie.spec Inv-loop μ-loop loop-holds (λ c. search needs) (λ c κs. search needs) (λ c. search needs) (λ c. search needs) loop-again (λ c. c .before .loop .inv .1 .size) returns)

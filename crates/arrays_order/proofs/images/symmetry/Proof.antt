@@ -13,26 +13,8 @@ Inv-loop order stands n from images₀ old m j₀ images j = (j ≤ m) × (m ≡
 abbrev μ-loop : tie.MeasureT-loop
 μ-loop order stands n from images₀ old m j₀ images j = m - j
 
-load-requires : tie.Need-load-requires Inv-loop μ-loop
-load-requires c κs = search needs
-
-mul-m : tie.Need-mul-m Inv-loop μ-loop
-mul-m c = search needs
-
 loop-holds : tie.Need-loop-holds Inv-loop μ-loop
 loop-holds c = (search needs, refl, c .load .ensures .here, filled-begin _ _ _)
-
-entry-requires : tie.Need-entry-requires Inv-loop μ-loop
-entry-requires c κs = search needs
-
-cast-x : tie.Need-cast-x Inv-loop μ-loop
-cast-x c = search needs
-
-mul-image : tie.Need-mul-image Inv-loop μ-loop
-mul-image c = search needs
-
-add-image : tie.Need-add-image Inv-loop μ-loop
-add-image c = search needs
 
 image-requires : tie.Need-image-requires Inv-loop μ-loop
 image-requires c κs = (let l : c .before .before .before .loop .j / 16 < c .before .before .before .before .before .before .before .before .args .n = omega
@@ -42,21 +24,6 @@ image-requires c κs = (let l : c .before .before .before .loop .j / 16 < c .bef
       c .before .before .before .before .before .before .before .before .pre .2
           (c .before .before .before .loop .j / 16) l,
     ))
-
-renamed-requires : tie.Need-renamed-requires Inv-loop μ-loop
-renamed-requires c κs = search needs
-
-add-images : tie.Need-add-images Inv-loop μ-loop
-add-images c = search needs
-
-slice-write-images : tie.Need-slice-write-images Inv-loop μ-loop
-slice-write-images c = omega (arith, c .before .before .before .before .before .loop .inv .3 .size)
-
-add-j : tie.Need-add-j Inv-loop μ-loop
-add-j c = search needs
-
-loop-less : tie.Need-loop-less Inv-loop μ-loop
-loop-less c = search needs
 
 loop-again : tie.Need-loop-again Inv-loop μ-loop
 loop-again c =
@@ -79,15 +46,11 @@ loop-again c =
           (c .before .before .before .entry .ensures))),
     )
 
-same-length : tie.Need-same-length Inv-loop μ-loop
-same-length c = c .before .loop .inv .3 .size
-
 returns : tie.Need-returns Inv-loop μ-loop
 returns c = filled-end _ _ _ _ _ _ (search needs) (search needs) (c .before .loop .inv .3)
 
 pub symmetry-spec : {M : Type 1} → statement M
-symmetry-spec =
-    tie.close
-    (tie.spec
-    Inv-loop μ-loop load-requires mul-m loop-holds entry-requires cast-x mul-image add-image image-requires renamed-requires add-images slice-write-images
-    add-j loop-less loop-again same-length returns)
+symmetry-spec = tie.close (tie.spec
+    Inv-loop μ-loop (λ c κs. search needs) (λ c. search needs) loop-holds (λ c κs. search needs) (λ c. search needs) (λ c. search needs) (λ c. search needs) image-requires (λ c κs. search needs)
+    (λ c. search needs) (λ c. omega (arith, c .before .before .before .before .before .loop .inv .3 .size)) (λ c. search needs) (λ c. search needs) loop-again (λ c. c .before .loop .inv .3 .size)
+    returns)

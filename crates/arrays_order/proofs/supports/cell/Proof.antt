@@ -11,7 +11,4 @@ returns-2 : tie.Need-returns-2
 returns-2 c = cell-no _ _ _ (sym (contains-op _ _) ∙ ne-eqb _ _ (c .if1 .left))
 
 pub cell-spec : {M : Type 1} → statement M
-cell-spec =
-    tie.close
-    (tie.spec
-    (λ c. search needs) (λ c. search needs) (λ c. search needs) (λ c. search needs) returns returns-2)
+cell-spec = tie.close (tie.spec (λ c. search needs) (λ c. search needs) (λ c. search needs) (λ c. search needs) returns returns-2)

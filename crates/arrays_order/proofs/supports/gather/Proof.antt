@@ -13,24 +13,6 @@ abbrev μ-loop : tie.MeasureT-loop
 loop-holds : tie.Need-loop-holds Inv-loop μ-loop
 loop-holds c = (search needs, columns-begin _ _ _ (c .pre .1) (c .pre .2))
 
-add-add : tie.Need-add-add Inv-loop μ-loop
-add-add c = search needs
-
-mul-add : tie.Need-mul-add Inv-loop μ-loop
-mul-add c = search needs
-
-element-copy-out-add : tie.Need-element-copy-out-add Inv-loop μ-loop
-element-copy-out-add c = search needs
-
-add-requires : tie.Need-add-requires Inv-loop μ-loop
-add-requires c κs = (search needs, c .before .before .before .loop .inv .1 .size)
-
-add-v : tie.Need-add-v Inv-loop μ-loop
-add-v c = search needs
-
-loop-less : tie.Need-loop-less Inv-loop μ-loop
-loop-less c = search needs
-
 loop-again : tie.Need-loop-again Inv-loop μ-loop
 unfolding at
 loop-again c = (search needs, columns-turn _ _ _ _ _ (c .before .before .before .before .loop .inv .1) (c .add .ensures))
@@ -39,7 +21,6 @@ returns : tie.Need-returns Inv-loop μ-loop
 returns c = (c .before .loop .inv .1 .size, columns-end _ _ _ _ (omega arith) (c .before .loop .inv .1))
 
 pub gather-spec : {M : Type 1} → statement M
-gather-spec =
-    tie.close
-    (tie.spec
-    Inv-loop μ-loop loop-holds add-add mul-add element-copy-out-add add-requires add-v loop-less loop-again returns)
+gather-spec = tie.close (tie.spec
+    Inv-loop μ-loop loop-holds (λ c. search needs) (λ c. search needs) (λ c. search needs) (λ c κs. (search needs, c .before .before .before .loop .inv .1 .size)) (λ c. search needs)
+    (λ c. search needs) loop-again returns)

@@ -12,15 +12,6 @@ abbrev μ-loop : tie.MeasureT-loop
 loop-holds : tie.Need-loop-holds Inv-loop μ-loop
 loop-holds c = (search needs, turned-begin _ _)
 
-cross-requires : tie.Need-cross-requires Inv-loop μ-loop
-cross-requires c κs = (search needs, search needs, c .before .before .loop .inv .1 .size ∙ c .before .before .before .pre .3)
-
-add-v : tie.Need-add-v Inv-loop μ-loop
-add-v c = search needs
-
-loop-less : tie.Need-loop-less Inv-loop μ-loop
-loop-less c = search needs
-
 loop-again : tie.Need-loop-again Inv-loop μ-loop
 loop-again c = (search needs, turned-turn _ _ _ _ _ (omega arith) (c .before .before .before .loop .inv .1) (c .cross .ensures))
 
@@ -28,7 +19,6 @@ returns : tie.Need-returns Inv-loop μ-loop
 returns c = swapped-of _ _ _ _ _ (search needs) (search needs) (search needs) (c .before .before .pre .2) (c .before .loop .inv .1)
 
 pub swap-spec : {M : Type 1} → statement M
-swap-spec =
-    tie.close
-    (tie.spec
-    Inv-loop μ-loop loop-holds cross-requires add-v loop-less loop-again returns)
+swap-spec = tie.close (tie.spec
+    Inv-loop μ-loop loop-holds (λ c κs. (search needs, search needs, c .before .before .loop .inv .1 .size ∙ c .before .before .before .pre .3)) (λ c. search needs) (λ c. search needs) loop-again
+    returns)

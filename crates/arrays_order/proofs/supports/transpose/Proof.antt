@@ -12,32 +12,8 @@ Inv-loop base supports₀ columns w₀ supports w = (w ≤ 16) × ((u : ℕ) →
 abbrev μ-loop : tie.MeasureT-loop
 μ-loop base supports₀ columns w₀ supports w = 16 - w
 
-gather-requires : tie.Need-gather-requires Inv-loop μ-loop
-gather-requires c κs = (search needs, refl, λ w. at-replicate 16 w)
-
 loop-holds : tie.Need-loop-holds Inv-loop μ-loop
 loop-holds c = (search needs, c .gather .ensures .1, filled-begin _ _ _)
-
-mul-supports : tie.Need-mul-supports Inv-loop μ-loop
-mul-supports c = search needs
-
-array-read-supports : tie.Need-array-read-supports Inv-loop μ-loop
-array-read-supports c = search needs
-
-add-supports : tie.Need-add-supports Inv-loop μ-loop
-add-supports c = search needs
-
-mul-supports-2 : tie.Need-mul-supports-2 Inv-loop μ-loop
-mul-supports-2 c = search needs
-
-element-write-supports : tie.Need-element-write-supports Inv-loop μ-loop
-element-write-supports c = search needs
-
-add-w : tie.Need-add-w Inv-loop μ-loop
-add-w c = search needs
-
-loop-less : tie.Need-loop-less Inv-loop μ-loop
-loop-less c = search needs
 
 loop-again : tie.Need-loop-again Inv-loop μ-loop
 unfolding at
@@ -53,8 +29,6 @@ returns : tie.Need-returns Inv-loop μ-loop
 returns c = filled-end _ _ _ _ _ _ (search needs) (search needs) (c .before .loop .inv .2)
 
 pub transpose-spec : {M : Type 1} → statement M
-transpose-spec =
-    tie.close
-    (tie.spec
-    Inv-loop μ-loop gather-requires loop-holds mul-supports array-read-supports add-supports mul-supports-2 element-write-supports add-w loop-less loop-again
-    returns)
+transpose-spec = tie.close (tie.spec
+    Inv-loop μ-loop (λ c κs. (search needs, refl, λ w. at-replicate 16 w)) loop-holds (λ c. search needs) (λ c. search needs) (λ c. search needs) (λ c. search needs) (λ c. search needs)
+    (λ c. search needs) (λ c. search needs) loop-again returns)

@@ -14,21 +14,6 @@ abbrev μ-loop : tie.MeasureT-loop
 loop-holds : tie.Need-loop-holds Inv-loop μ-loop
 loop-holds c = (search needs, filled-begin _ _ _)
 
-mul-transpose : tie.Need-mul-transpose Inv-loop μ-loop
-mul-transpose c = search needs
-
-add-transpose : tie.Need-add-transpose Inv-loop μ-loop
-add-transpose c = search needs
-
-transpose-requires : tie.Need-transpose-requires Inv-loop μ-loop
-transpose-requires c κs = (omega arith, c .before .before .loop .inv .1 .size ∙ c .before .before .before .pre .3)
-
-add-v : tie.Need-add-v Inv-loop μ-loop
-add-v c = search needs
-
-loop-less : tie.Need-loop-less Inv-loop μ-loop
-loop-less c = search needs
-
 loop-again : tie.Need-loop-again Inv-loop μ-loop
 loop-again c = (search needs, transposed-turn _ _ _ _ _ (c .before .before .before .loop .inv .1) (c .transpose .ensures))
 
@@ -36,7 +21,6 @@ returns : tie.Need-returns Inv-loop μ-loop
 returns c = transposed-of _ _ _ _ (c .before .before .pre .2) _ (omega arith) (omega arith) (omega arith) (c .before .loop .inv .1)
 
 pub transpose-each-spec : {M : Type 1} → statement M
-transpose-each-spec =
-    tie.close
-    (tie.spec
-    Inv-loop μ-loop loop-holds mul-transpose add-transpose transpose-requires add-v loop-less loop-again returns)
+transpose-each-spec = tie.close (tie.spec
+    Inv-loop μ-loop loop-holds (λ c. search needs) (λ c. search needs) (λ c κs. (omega arith, c .before .before .loop .inv .1 .size ∙ c .before .before .before .pre .3)) (λ c. search needs)
+    (λ c. search needs) loop-again returns)

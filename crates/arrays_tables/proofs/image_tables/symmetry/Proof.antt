@@ -12,30 +12,9 @@ Inv-loop numbers images from tables₀ n x₀ tables x = (x ≤ n) × (n ≡ at 
 abbrev μ-loop : tie.MeasureT-loop
 μ-loop numbers images from tables₀ n x₀ tables x = n - x
 
-element-copy-out-n : tie.Need-element-copy-out-n Inv-loop μ-loop
-element-copy-out-n c = search needs
-
 loop-holds : tie.Need-loop-holds Inv-loop μ-loop
 unfolding at
 loop-holds c = (search needs, refl, symmetry-begin _ _ _ _)
-
-initial-requires : tie.Need-initial-requires Inv-loop μ-loop
-initial-requires c κs = search needs
-
-mul-variable : tie.Need-mul-variable Inv-loop μ-loop
-mul-variable c = search needs
-
-add-variable : tie.Need-add-variable Inv-loop μ-loop
-add-variable c = search needs
-
-variable-requires : tie.Need-variable-requires Inv-loop μ-loop
-variable-requires c κs = (omega arith, omega (arith, c .before .before .before .loop .inv .2 .kept .size))
-
-add-x : tie.Need-add-x Inv-loop μ-loop
-add-x c = search needs
-
-loop-less : tie.Need-loop-less Inv-loop μ-loop
-loop-less c = search needs
 
 loop-again : tie.Need-loop-again Inv-loop μ-loop
 unfolding at
@@ -50,7 +29,6 @@ returns : tie.Need-returns Inv-loop μ-loop
 returns c = symmetry-end _ _ _ _ _ _ _ (omega (arith, c .before .loop .inv .1)) (c .before .loop .inv .2)
 
 pub symmetry-spec : {M : Type 1} → statement M
-symmetry-spec =
-    tie.close
-    (tie.spec
-    Inv-loop μ-loop element-copy-out-n loop-holds initial-requires mul-variable add-variable variable-requires add-x loop-less loop-again returns)
+symmetry-spec = tie.close (tie.spec
+    Inv-loop μ-loop (λ c. search needs) loop-holds (λ c κs. search needs) (λ c. search needs) (λ c. search needs)
+    (λ c κs. (omega arith, omega (arith, c .before .before .before .loop .inv .2 .kept .size))) (λ c. search needs) (λ c. search needs) loop-again returns)

@@ -13,15 +13,6 @@ abbrev μ-loop : tie.MeasureT-loop
 loop-holds : tie.Need-loop-holds Inv-loop μ-loop
 loop-holds c = (search needs, pairs-begin _ _ _ _)
 
-pair-requires : tie.Need-pair-requires Inv-loop μ-loop
-pair-requires c κs = (search needs, search needs, omega (arith, c .before .before .before .loop .inv .1 .kept .size), c .before .before .before .loop .inv .1 .sixteen)
-
-add-v : tie.Need-add-v Inv-loop μ-loop
-add-v c = search needs
-
-loop-less : tie.Need-loop-less Inv-loop μ-loop
-loop-less c = search needs
-
 loop-again : tie.Need-loop-again Inv-loop μ-loop
 loop-again c = (search needs, c .pair .ensures _ (c .before .before .before .before .loop .inv .1))
 
@@ -29,7 +20,6 @@ returns : tie.Need-returns Inv-loop μ-loop
 returns c = pairs-end _ _ _ _ _ _ _ (search needs) (c .before .loop .inv .1)
 
 pub variable-spec : {M : Type 1} → statement M
-variable-spec =
-    tie.close
-    (tie.spec
-    Inv-loop μ-loop loop-holds pair-requires add-v loop-less loop-again returns)
+variable-spec = tie.close (tie.spec
+    Inv-loop μ-loop loop-holds (λ c κs. (search needs, search needs, omega (arith, c .before .before .before .loop .inv .1 .kept .size), c .before .before .before .loop .inv .1 .sixteen))
+    (λ c. search needs) (λ c. search needs) loop-again returns)

@@ -12,24 +12,9 @@ Inv-loop numbers c all₀ k₀ all k = (k ≤ c) × (c ≡ at numbers CONSTRAINT
 abbrev μ-loop : tie.MeasureT-loop
 μ-loop numbers c all₀ k₀ all k = c - k
 
-element-copy-out-c : tie.Need-element-copy-out-c Inv-loop μ-loop
-element-copy-out-c c = search needs
-
 loop-holds : tie.Need-loop-holds Inv-loop μ-loop
 unfolding at
 loop-holds c = (search needs, refl, λ p nb. gathered-begin _)
-
-first-requires : tie.Need-first-requires Inv-loop μ-loop
-first-requires c κs = search needs
-
-one-if-requires : tie.Need-one-if-requires Inv-loop μ-loop
-one-if-requires c κs = search needs
-
-add-k : tie.Need-add-k Inv-loop μ-loop
-add-k c = search needs
-
-loop-less : tie.Need-loop-less Inv-loop μ-loop
-loop-less c = search needs
 
 loop-again : tie.Need-loop-again Inv-loop μ-loop
 loop-again c = (
@@ -44,7 +29,4 @@ returns : tie.Need-returns Inv-loop μ-loop
 returns c = λ p nb. gathered-end _ _ _ _ (omega (arith, nb .constraints, c .before .loop .inv .1)) (omega (arith, nb .constraints, c .before .loop .inv .1)) (c .before .loop .inv .2 p nb)
 
 pub all-first-spec : {M : Type 1} → statement M
-all-first-spec =
-    tie.close
-    (tie.spec
-    Inv-loop μ-loop element-copy-out-c loop-holds first-requires one-if-requires add-k loop-less loop-again returns)
+all-first-spec = tie.close (tie.spec Inv-loop μ-loop (λ c. search needs) loop-holds (λ c κs. search needs) (λ c κs. search needs) (λ c. search needs) (λ c. search needs) loop-again returns)

@@ -11,15 +11,6 @@ Inv-loop numbers k w i₀ i = (i ≤ k) × (w ≡ at numbers (SCOPES + k) % 1677
 abbrev μ-loop : tie.MeasureT-loop
 μ-loop numbers k w i₀ i = k - i
 
-add-w : tie.Need-add-w Inv-loop μ-loop
-add-w c = search needs
-
-mul-w : tie.Need-mul-w Inv-loop μ-loop
-mul-w c = search needs
-
-element-copy-out-w : tie.Need-element-copy-out-w Inv-loop μ-loop
-element-copy-out-w c = search needs
-
 returns : tie.Need-returns Inv-loop μ-loop
 unfolding at
 returns c = λ p nb h. first-other p _ nb _ h (λ e. c .if1 .taken (c .before .arity .ensures ∙ e))
@@ -28,25 +19,10 @@ loop-holds : tie.Need-loop-holds Inv-loop μ-loop
 unfolding at
 loop-holds c = (search needs, refl, λ j l e. omega arith)
 
-add-if2 : tie.Need-add-if2 Inv-loop μ-loop
-add-if2 c = search needs
-
-mul-if2 : tie.Need-mul-if2 Inv-loop μ-loop
-mul-if2 c = search needs
-
-element-copy-out-if2 : tie.Need-element-copy-out-if2 Inv-loop μ-loop
-element-copy-out-if2 c = search needs
-
 returns-2 : tie.Need-returns-2 Inv-loop μ-loop
 unfolding at
 returns-2 c = λ p nb h. first-no p _ nb _ h (sym (c .before .before .before .before .before .arity .ensures) ∙ c .before .before .before .before .if1 .left) _
     (c .before .before .loop-test .taken) (c .if2 .taken)
-
-add-i : tie.Need-add-i Inv-loop μ-loop
-add-i c = search needs
-
-loop-less : tie.Need-loop-less Inv-loop μ-loop
-loop-less c = search needs
 
 loop-again : tie.Need-loop-again Inv-loop μ-loop
 unfolding at
@@ -62,7 +38,6 @@ unfolding at
 returns-3 c = λ p nb h. first-yes p _ nb _ h (sym (c .before .before .before .arity .ensures) ∙ c .before .before .if1 .left) (λ j l. c .before .loop .inv .2 j (omega arith))
 
 pub first-spec : {M : Type 1} → statement M
-first-spec =
-    tie.close
-    (tie.spec
-    Inv-loop μ-loop add-w mul-w element-copy-out-w (λ c κs. search needs) returns loop-holds add-if2 mul-if2 element-copy-out-if2 returns-2 add-i loop-less loop-again returns-3)
+first-spec = tie.close (tie.spec
+    Inv-loop μ-loop (λ c. search needs) (λ c. search needs) (λ c. search needs) (λ c κs. search needs) returns loop-holds (λ c. search needs) (λ c. search needs) (λ c. search needs) returns-2
+    (λ c. search needs) (λ c. search needs) loop-again returns-3)

@@ -12,7 +12,4 @@ returns c = link-numbers _ _ _ (c .before .before .before .before .before .befor
     (c .before .before .variables-of .ensures) _ (c .others .ensures)
 
 pub linked-spec : {M : Type 1} → statement M
-linked-spec =
-    tie.close
-    (tie.spec
-    (λ c κs. search needs) (λ c κs. search needs) (λ c. search needs) (λ c. search needs) (λ c κs. search needs) returns)
+linked-spec = tie.close (tie.spec (λ c κs. search needs) (λ c κs. search needs) (λ c. search needs) (λ c. search needs) (λ c κs. search needs) returns)

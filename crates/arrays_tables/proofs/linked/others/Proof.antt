@@ -15,27 +15,6 @@ abbrev μ-loop : tie.MeasureT-loop
 loop-holds : tie.Need-loop-holds Inv-loop μ-loop
 loop-holds c = (search needs, filled-begin _ _ _)
 
-mul-numbers : tie.Need-mul-numbers Inv-loop μ-loop
-mul-numbers c = search needs
-
-element-copy-out-numbers : tie.Need-element-copy-out-numbers Inv-loop μ-loop
-element-copy-out-numbers c = search needs
-
-add-numbers : tie.Need-add-numbers Inv-loop μ-loop
-add-numbers c = search needs
-
-mul-numbers-2 : tie.Need-mul-numbers-2 Inv-loop μ-loop
-mul-numbers-2 c = search needs
-
-element-write-numbers : tie.Need-element-write-numbers Inv-loop μ-loop
-element-write-numbers c = search needs
-
-add-x : tie.Need-add-x Inv-loop μ-loop
-add-x c = search needs
-
-loop-less : tie.Need-loop-less Inv-loop μ-loop
-loop-less c = search needs
-
 loop-again : tie.Need-loop-again Inv-loop μ-loop
 unfolding at
 loop-again c = (
@@ -48,7 +27,5 @@ returns : tie.Need-returns Inv-loop μ-loop
 returns c = filled-end _ _ _ _ _ _ (search needs) (search needs) (c .before .loop .inv .1)
 
 pub others-spec : {M : Type 1} → statement M
-others-spec =
-    tie.close
-    (tie.spec
-    Inv-loop μ-loop loop-holds mul-numbers element-copy-out-numbers add-numbers mul-numbers-2 element-write-numbers add-x loop-less loop-again returns)
+others-spec = tie.close (tie.spec
+    Inv-loop μ-loop loop-holds (λ c. search needs) (λ c. search needs) (λ c. search needs) (λ c. search needs) (λ c. search needs) (λ c. search needs) (λ c. search needs) loop-again returns)

@@ -12,27 +12,9 @@ Inv-loop numbers set n all₀ x₀ all x = (x ≤ n) × (n ≡ at numbers VARIAB
 abbrev μ-loop : tie.MeasureT-loop
 μ-loop numbers set n all₀ x₀ all x = n - x
 
-element-copy-out-n : tie.Need-element-copy-out-n Inv-loop μ-loop
-element-copy-out-n c = search needs
-
 loop-holds : tie.Need-loop-holds Inv-loop μ-loop
 unfolding at
 loop-holds c = (search needs, refl, gathered-begin _)
-
-mul-one-if : tie.Need-mul-one-if Inv-loop μ-loop
-mul-one-if c = search needs
-
-element-copy-out-one-if : tie.Need-element-copy-out-one-if Inv-loop μ-loop
-element-copy-out-one-if c = search needs
-
-one-if-requires : tie.Need-one-if-requires Inv-loop μ-loop
-one-if-requires c κs = search needs
-
-add-x : tie.Need-add-x Inv-loop μ-loop
-add-x c = search needs
-
-loop-less : tie.Need-loop-less Inv-loop μ-loop
-loop-less c = search needs
 
 loop-again : tie.Need-loop-again Inv-loop μ-loop
 unfolding at
@@ -42,7 +24,5 @@ returns : tie.Need-returns Inv-loop μ-loop
 returns c = gathered-end _ _ _ _ (omega (arith, c .before .loop .inv .1)) (omega (arith, c .before .loop .inv .1)) (c .before .loop .inv .2)
 
 pub variables-of-spec : {M : Type 1} → statement M
-variables-of-spec =
-    tie.close
-    (tie.spec
-    Inv-loop μ-loop element-copy-out-n loop-holds mul-one-if element-copy-out-one-if one-if-requires add-x loop-less loop-again returns)
+variables-of-spec = tie.close (tie.spec
+    Inv-loop μ-loop (λ c. search needs) loop-holds (λ c. search needs) (λ c. search needs) (λ c κs. search needs) (λ c. search needs) (λ c. search needs) loop-again returns)

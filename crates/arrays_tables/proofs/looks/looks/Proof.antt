@@ -16,24 +16,6 @@ abbrev μ-loop : tie.MeasureT-loop
 loop-holds : tie.Need-loop-holds Inv-loop μ-loop
 loop-holds c = (search needs, filled-begin _ _ _)
 
-at-depth-requires : tie.Need-at-depth-requires Inv-loop μ-loop
-at-depth-requires c κs = (omega (arith, c .before .before .loop .inv .1 .other CONSTRAINTS (λ v l e. omega arith)), search needs)
-
-add-numbers : tie.Need-add-numbers Inv-loop μ-loop
-add-numbers c = search needs
-
-mul-numbers : tie.Need-mul-numbers Inv-loop μ-loop
-mul-numbers c = search needs
-
-element-write-numbers : tie.Need-element-write-numbers Inv-loop μ-loop
-element-write-numbers c = search needs
-
-add-k : tie.Need-add-k Inv-loop μ-loop
-add-k c = search needs
-
-loop-less : tie.Need-loop-less Inv-loop μ-loop
-loop-less c = search needs
-
 loop-again : tie.Need-loop-again Inv-loop μ-loop
 loop-again c = (
   search needs,
@@ -45,7 +27,6 @@ returns : tie.Need-returns Inv-loop μ-loop
 returns c = filled-end _ _ _ _ _ _ (search needs) (search needs) (c .before .loop .inv .1)
 
 pub looks-spec : {M : Type 1} → statement M
-looks-spec =
-    tie.close
-    (tie.spec
-    Inv-loop μ-loop loop-holds at-depth-requires add-numbers mul-numbers element-write-numbers add-k loop-less loop-again returns)
+looks-spec = tie.close (tie.spec
+    Inv-loop μ-loop loop-holds (λ c κs. (omega (arith, c .before .before .loop .inv .1 .other CONSTRAINTS (λ v l e. omega arith)), search needs)) (λ c. search needs) (λ c. search needs)
+    (λ c. search needs) (λ c. search needs) (λ c. search needs) loop-again returns)

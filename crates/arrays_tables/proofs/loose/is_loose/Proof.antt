@@ -12,42 +12,12 @@ Inv-loop numbers tables x n m y₀ y = (y ≤ n) × (n ≡ at numbers VARIABLES)
 abbrev μ-loop : tie.MeasureT-loop
 μ-loop numbers tables x n m y₀ y = n - y
 
-element-copy-out-n : tie.Need-element-copy-out-n Inv-loop μ-loop
-element-copy-out-n c = search needs
-
-initial-requires : tie.Need-initial-requires Inv-loop μ-loop
-initial-requires c κs = search needs
-
 loop-holds : tie.Need-loop-holds Inv-loop μ-loop
 unfolding at
 loop-holds c = (search needs, refl, c .initial .ensures, loose-begin _ _ _)
 
-mul-twice : tie.Need-mul-twice Inv-loop μ-loop
-mul-twice c = search needs
-
-add-twice : tie.Need-add-twice Inv-loop μ-loop
-add-twice c = search needs
-
-twice-requires : tie.Need-twice-requires Inv-loop μ-loop
-twice-requires c κs = search needs
-
-initial-requires-2 : tie.Need-initial-requires-2 Inv-loop μ-loop
-initial-requires-2 c κs = search needs
-
-common-requires : tie.Need-common-requires Inv-loop μ-loop
-common-requires c κs = search needs
-
-is-empty-requires : tie.Need-is-empty-requires Inv-loop μ-loop
-is-empty-requires c κs = search needs
-
 returns : tie.Need-returns Inv-loop μ-loop
 returns c = λ e. absurd (subst T (sym e) tt)
-
-add-y : tie.Need-add-y Inv-loop μ-loop
-add-y c = search needs
-
-loop-less : tie.Need-loop-less Inv-loop μ-loop
-loop-less c = search needs
 
 loop-again : tie.Need-loop-again Inv-loop μ-loop
 unfolding at
@@ -66,8 +36,6 @@ returns-2 : tie.Need-returns-2 Inv-loop μ-loop
 returns-2 c = λ e. loose-end _ _ _ _ _ (omega (arith, c .before .loop .inv .1)) (c .before .loop .inv .3)
 
 pub is-loose-spec : {M : Type 1} → statement M
-is-loose-spec =
-    tie.close
-    (tie.spec
-    Inv-loop μ-loop element-copy-out-n initial-requires loop-holds mul-twice add-twice twice-requires initial-requires-2 common-requires is-empty-requires
-    returns add-y loop-less loop-again returns-2)
+is-loose-spec = tie.close (tie.spec
+    Inv-loop μ-loop (λ c. search needs) (λ c κs. search needs) loop-holds (λ c. search needs) (λ c. search needs) (λ c κs. search needs) (λ c κs. search needs) (λ c κs. search needs)
+    (λ c κs. search needs) returns (λ c. search needs) (λ c. search needs) loop-again returns-2)

@@ -12,24 +12,9 @@ Inv-loop numbers tables n all₀ x₀ all x = (x ≤ n) × (n ≡ at numbers VAR
 abbrev μ-loop : tie.MeasureT-loop
 μ-loop numbers tables n all₀ x₀ all x = n - x
 
-element-copy-out-n : tie.Need-element-copy-out-n Inv-loop μ-loop
-element-copy-out-n c = search needs
-
 loop-holds : tie.Need-loop-holds Inv-loop μ-loop
 unfolding at
 loop-holds c = (search needs, refl, loose-none _ _)
-
-is-loose-requires : tie.Need-is-loose-requires Inv-loop μ-loop
-is-loose-requires c κs = search needs
-
-one-if-requires : tie.Need-one-if-requires Inv-loop μ-loop
-one-if-requires c κs = search needs
-
-add-x : tie.Need-add-x Inv-loop μ-loop
-add-x c = search needs
-
-loop-less : tie.Need-loop-less Inv-loop μ-loop
-loop-less c = search needs
 
 loop-again : tie.Need-loop-again Inv-loop μ-loop
 loop-again c = (search needs, c .before .before .before .loop .inv .1, loose-more _ _ _ _ _ _ (c .before .before .before .loop .inv .2) (c .one-if .ensures) (c .before .is-loose .ensures))
@@ -38,7 +23,4 @@ returns : tie.Need-returns Inv-loop μ-loop
 returns c = loose-all _ _ _ _ _ (omega (arith, c .before .loop .inv .1)) (c .before .loop .inv .2)
 
 pub loose-spec : {M : Type 1} → statement M
-loose-spec =
-    tie.close
-    (tie.spec
-    Inv-loop μ-loop element-copy-out-n loop-holds is-loose-requires one-if-requires add-x loop-less loop-again returns)
+loose-spec = tie.close (tie.spec Inv-loop μ-loop (λ c. search needs) loop-holds (λ c κs. search needs) (λ c κs. search needs) (λ c. search needs) (λ c. search needs) loop-again returns)

@@ -1,7 +1,6 @@
 -- What two values refuse. Assumes nothing.
 use Rattle.model.specs.Kit.{_-_, _≤_, needs}
-use Rattle.arrays_tables.proofs.LooseVariables.{RefusedSoFar, refused-begin, refused-turn, refused-end}
-use Rattle.arrays_tables.proofs.loose.twice.Statement.{statement}
+use Rattle.arrays_tables.proofs.{LooseVariables.RefusedSoFar, LooseVariables.refused-begin, LooseVariables.refused-turn, LooseVariables.refused-end, loose.twice.Statement.statement}
 use Rattle.arrays_tables.proofs.loose.twice.Tie as tie
 
 abbrev Inv-loop : tie.InvT-loop
@@ -12,24 +11,6 @@ abbrev μ-loop : tie.MeasureT-loop
 
 loop-holds : tie.Need-loop-holds Inv-loop μ-loop
 loop-holds c = (search needs, refused-begin _ _ _)
-
-refused-requires : tie.Need-refused-requires Inv-loop μ-loop
-refused-requires c κs = search needs
-
-common-requires : tie.Need-common-requires Inv-loop μ-loop
-common-requires c κs = search needs
-
-union-requires : tie.Need-union-requires Inv-loop μ-loop
-union-requires c κs = search needs
-
-union-requires-2 : tie.Need-union-requires-2 Inv-loop μ-loop
-union-requires-2 c κs = search needs
-
-add-v : tie.Need-add-v Inv-loop μ-loop
-add-v c = search needs
-
-loop-less : tie.Need-loop-less Inv-loop μ-loop
-loop-less c = search needs
 
 loop-again : tie.Need-loop-again Inv-loop μ-loop
 loop-again c = (
@@ -42,7 +23,5 @@ returns : tie.Need-returns Inv-loop μ-loop
 returns c = refused-end _ _ _ _ _ _ (search needs) (c .before .loop .inv .1)
 
 pub twice-spec : {M : Type 1} → statement M
-twice-spec =
-    tie.close
-    (tie.spec
-    Inv-loop μ-loop loop-holds refused-requires common-requires union-requires union-requires-2 add-v loop-less loop-again returns)
+twice-spec = tie.close (tie.spec
+    Inv-loop μ-loop loop-holds (λ c κs. search needs) (λ c κs. search needs) (λ c κs. search needs) (λ c κs. search needs) (λ c. search needs) (λ c. search needs) loop-again returns)

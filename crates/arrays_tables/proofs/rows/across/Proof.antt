@@ -14,33 +14,6 @@ abbrev μ-loop : tie.MeasureT-loop
 loop-holds : tie.Need-loop-holds Inv-loop μ-loop
 loop-holds c = (search needs, filled-begin _ _ _)
 
-add-tables : tie.Need-add-tables Inv-loop μ-loop
-add-tables c = search needs
-
-mul-tables : tie.Need-mul-tables Inv-loop μ-loop
-mul-tables c = search needs
-
-element-copy-out-tables : tie.Need-element-copy-out-tables Inv-loop μ-loop
-element-copy-out-tables c = search needs
-
-mul-tables-2 : tie.Need-mul-tables-2 Inv-loop μ-loop
-mul-tables-2 c = search needs
-
-add-tables-2 : tie.Need-add-tables-2 Inv-loop μ-loop
-add-tables-2 c = search needs
-
-mul-tables-3 : tie.Need-mul-tables-3 Inv-loop μ-loop
-mul-tables-3 c = search needs
-
-element-write-tables : tie.Need-element-write-tables Inv-loop μ-loop
-element-write-tables c = search needs
-
-add-v : tie.Need-add-v Inv-loop μ-loop
-add-v c = search needs
-
-loop-less : tie.Need-loop-less Inv-loop μ-loop
-loop-less c = search needs
-
 loop-again : tie.Need-loop-again Inv-loop μ-loop
 unfolding at
 loop-again c = (search needs, filled-turn _ _ _ _ _ _ _ (c .before .before .loop .inv .1) refl (omega arith) (λ v l e. omega arith) refl)
@@ -49,8 +22,6 @@ returns : tie.Need-returns Inv-loop μ-loop
 returns c = filled-end _ _ _ _ _ _ (search needs) (search needs) (c .before .loop .inv .1)
 
 pub across-spec : {M : Type 1} → statement M
-across-spec =
-    tie.close
-    (tie.spec
-    Inv-loop μ-loop loop-holds add-tables mul-tables element-copy-out-tables mul-tables-2 add-tables-2 mul-tables-3 element-write-tables add-v loop-less
-    loop-again returns)
+across-spec = tie.close (tie.spec
+    Inv-loop μ-loop loop-holds (λ c. search needs) (λ c. search needs) (λ c. search needs) (λ c. search needs) (λ c. search needs) (λ c. search needs) (λ c. search needs) (λ c. search needs)
+    (λ c. search needs) loop-again returns)

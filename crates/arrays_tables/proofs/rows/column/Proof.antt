@@ -11,38 +11,8 @@ Inv-loop supports base w one all₀ v₀ all v = (v ≤ 16) × Gathered (λ u. h
 abbrev μ-loop : tie.MeasureT-loop
 μ-loop supports base w one all₀ v₀ all v = 16 - v
 
-full-requires : tie.Need-full-requires Inv-loop μ-loop
-full-requires c κs = search needs
-
-only-requires : tie.Need-only-requires Inv-loop μ-loop
-only-requires c κs = search needs
-
 loop-holds : tie.Need-loop-holds Inv-loop μ-loop
 loop-holds c = (search needs, gathered-begin _)
-
-add-t10 : tie.Need-add-t10 Inv-loop μ-loop
-add-t10 c = search needs
-
-mul-t11 : tie.Need-mul-t11 Inv-loop μ-loop
-mul-t11 c = search needs
-
-element-copy-out-t14 : tie.Need-element-copy-out-t14 Inv-loop μ-loop
-element-copy-out-t14 c = search needs
-
-common-requires : tie.Need-common-requires Inv-loop μ-loop
-common-requires c κs = search needs
-
-is-empty-requires : tie.Need-is-empty-requires Inv-loop μ-loop
-is-empty-requires c κs = search needs
-
-one-if-requires : tie.Need-one-if-requires Inv-loop μ-loop
-one-if-requires c κs = search needs
-
-add-v : tie.Need-add-v Inv-loop μ-loop
-add-v c = search needs
-
-loop-less : tie.Need-loop-less Inv-loop μ-loop
-loop-less c = search needs
 
 loop-again : tie.Need-loop-again Inv-loop μ-loop
 unfolding at
@@ -54,15 +24,10 @@ loop-again c =
     let found = ap not (e .is-empty .ensures) ∙ meets-one _ _ _ _ (o .before .before .pre .1) is (e .before .common .ensures) in
     (search needs, gathered-turn _ _ _ _ (l .before .loop .inv .1) (c .one-if .ensures ∙ ap (λ (b : Bool). oneIf b (l .before .loop .v)) found))
 
-cast-t19 : tie.Need-cast-t19 Inv-loop μ-loop
-cast-t19 c = search needs
-
 returns : tie.Need-returns Inv-loop μ-loop
 returns c = gathered-mask _ _ (gathered-end _ _ _ _ (search needs) (search needs) (c .before .loop .inv .1))
 
 pub column-spec : {M : Type 1} → statement M
-column-spec =
-    tie.close
-    (tie.spec
-    Inv-loop μ-loop full-requires only-requires loop-holds add-t10 mul-t11 element-copy-out-t14 common-requires is-empty-requires one-if-requires add-v
-    loop-less loop-again cast-t19 returns)
+column-spec = tie.close (tie.spec
+    Inv-loop μ-loop (λ c κs. search needs) (λ c κs. search needs) loop-holds (λ c. search needs) (λ c. search needs) (λ c. search needs) (λ c κs. search needs) (λ c κs. search needs)
+    (λ c κs. search needs) (λ c. search needs) (λ c. search needs) loop-again (λ c. search needs) returns)

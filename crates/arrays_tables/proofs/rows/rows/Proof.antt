@@ -12,12 +12,6 @@ Inv-loop numbers supports tables₀ c k₀ tables k = (k ≤ c) × (c ≡ at num
 abbrev μ-loop : tie.MeasureT-loop
 μ-loop numbers supports tables₀ c k₀ tables k = c - k
 
-clear-requires : tie.Need-clear-requires Inv-loop μ-loop
-clear-requires c κs = search needs
-
-element-copy-out-c : tie.Need-element-copy-out-c Inv-loop μ-loop
-element-copy-out-c c = search needs
-
 loop-holds : tie.Need-loop-holds Inv-loop μ-loop
 unfolding at
 loop-holds c = (search needs, refl, c .before .clear .ensures .size ∙ c .before .before .before .pre .1, λ p g. rows-begin p _ _ (c .before .clear .ensures))
@@ -27,12 +21,6 @@ link-requires c κs =
     let q = c .before .before .before .before .before .before .pre .0 in
     let l = c .before .before .loop .inv in
     ((q .0, q .1, omega (arith, q .1 .numbered .constraints, l .1, c .before .loop-test .taken)), l .2)
-
-add-k : tie.Need-add-k Inv-loop μ-loop
-add-k c = search needs
-
-loop-less : tie.Need-loop-less Inv-loop μ-loop
-loop-less c = search needs
 
 loop-again : tie.Need-loop-again Inv-loop μ-loop
 loop-again c = (
@@ -51,7 +39,4 @@ returns c = (
 )
 
 pub rows-spec : {M : Type 1} → statement M
-rows-spec =
-    tie.close
-    (tie.spec
-    Inv-loop μ-loop clear-requires element-copy-out-c loop-holds link-requires add-k loop-less loop-again returns)
+rows-spec = tie.close (tie.spec Inv-loop μ-loop (λ c κs. search needs) (λ c. search needs) loop-holds link-requires (λ c. search needs) (λ c. search needs) loop-again returns)

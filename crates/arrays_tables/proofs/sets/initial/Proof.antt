@@ -9,7 +9,4 @@ unfolding at
 returns c = refl
 
 pub initial-spec : {M : Type 1} → statement M
-initial-spec =
-    tie.close
-    (tie.spec
-    (λ c. search needs) (λ c. search needs) (λ c. search needs) (λ c. search needs) returns)
+initial-spec = tie.close (tie.spec (λ c. search needs) (λ c. search needs) (λ c. search needs) (λ c. search needs) returns)

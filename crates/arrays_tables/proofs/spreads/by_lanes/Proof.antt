@@ -17,7 +17,4 @@ unfolding at
 returns-3 c = worded _ _ _ _ _ (c .before .unions .ensures) refl (λ j n. refl) (λ h. absurd (omega arith))
 
 pub by-lanes-spec : {M : Type 1} → statement M
-by-lanes-spec =
-    tie.close
-    (tie.spec
-    (λ c. search needs) returns (λ c κs. search needs) (λ c κs. search needs) returns-2 returns-3)
+by-lanes-spec = tie.close (tie.spec (λ c. search needs) returns (λ c κs. search needs) (λ c κs. search needs) returns-2 returns-3)

@@ -40,9 +40,7 @@ returns : tie.Need-returns Inv-loop μ-loop
 returns c = spreads-end _ _ (omega arith) (filled-end _ _ _ _ _ _ (omega arith) (omega arith) (c .before .loop .inv .2))
 
 pub spreads-spec : {M : Type 1} → statement M
-spreads-spec =
-    tie.close
-    (tie.spec
+spreads-spec = tie.close (tie.spec
     Inv-loop μ-loop (λ c. search needs) (λ c. search needs) (λ c. search needs) (λ c. search needs) loop-holds (λ c. search needs) (λ c. search needs) (λ c. search needs) mul-moved-2
-    (λ c. search needs) (λ c. search needs) (λ c. search needs) (λ c. search needs) add-numbers-3 (λ c. search needs) (λ c. search needs) (λ c. search needs) (λ c. search needs)
-    (λ c. search needs) (λ c. search needs) (λ c. search needs) loop-again returns)
+    (λ c. search needs) (λ c. search needs) (λ c. search needs) (λ c. search needs) add-numbers-3 (λ c. search needs) (λ c. search needs) (λ c. search needs) (λ c. search needs) (λ c. search needs)
+    (λ c. search needs) (λ c. search needs) loop-again returns)

@@ -15,30 +15,6 @@ abbrev μ-loop : tie.MeasureT-loop
 loop-holds : tie.Need-loop-holds Inv-loop μ-loop
 loop-holds c = (search needs, search needs, unions-begin _ _)
 
-add-arity : tie.Need-add-arity Inv-loop μ-loop
-add-arity c = search needs
-
-mul-arity : tie.Need-mul-arity Inv-loop μ-loop
-mul-arity c = search needs
-
-element-copy-out-arity : tie.Need-element-copy-out-arity Inv-loop μ-loop
-element-copy-out-arity c = search needs
-
-arity-requires : tie.Need-arity-requires Inv-loop μ-loop
-arity-requires c κs = search needs
-
-unite-requires : tie.Need-unite-requires Inv-loop μ-loop
-unite-requires c κs = search needs
-
-add-some : tie.Need-add-some Inv-loop μ-loop
-add-some c = search needs
-
-add-k : tie.Need-add-k Inv-loop μ-loop
-add-k c = search needs
-
-loop-less : tie.Need-loop-less Inv-loop μ-loop
-loop-less c = search needs
-
 -- how many after the turn
 counted : (c : tie.Joined1 Inv-loop μ-loop) → let l = c .before .before .before .before .loop in (c .if1 .some ≡ l .some + 1) ⊎ (c .if1 .some ≡ l .some)
 counted c = ⊎-elim (λ q. inl (q .4)) (λ q. inr (q .2)) (c .if1 .came)
@@ -60,7 +36,6 @@ returns : tie.Need-returns Inv-loop μ-loop
 returns c = unions-end _ _ _ _ _ (search needs) (search needs) (c .before .loop .inv .2)
 
 pub unions-spec : {M : Type 1} → statement M
-unions-spec =
-    tie.close
-    (tie.spec
-    Inv-loop μ-loop loop-holds add-arity mul-arity element-copy-out-arity arity-requires unite-requires add-some add-k loop-less loop-again returns)
+unions-spec = tie.close (tie.spec
+    Inv-loop μ-loop loop-holds (λ c. search needs) (λ c. search needs) (λ c. search needs) (λ c κs. search needs) (λ c κs. search needs) (λ c. search needs) (λ c. search needs) (λ c. search needs)
+    loop-again returns)

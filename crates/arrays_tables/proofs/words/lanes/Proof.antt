@@ -14,24 +14,6 @@ abbrev μ-loop : tie.MeasureT-loop
 loop-holds : tie.Need-loop-holds Inv-loop μ-loop
 loop-holds c = lanes-begin _
 
-mul-all : tie.Need-mul-all Inv-loop μ-loop
-mul-all c = record { fits = omega (arith, lanes-fit _ _ _ 0 (c .before .loop .inv) (c .loop-test .taken)) }
-
-sub-all : tie.Need-sub-all Inv-loop μ-loop
-sub-all c = search needs
-
-mul-all-2 : tie.Need-mul-all-2 Inv-loop μ-loop
-mul-all-2 c = search needs
-
-add-all : tie.Need-add-all Inv-loop μ-loop
-add-all c = search needs
-
-mul-all-3 : tie.Need-mul-all-3 Inv-loop μ-loop
-mul-all-3 c = search needs
-
-element-copy-out-all : tie.Need-element-copy-out-all Inv-loop μ-loop
-element-copy-out-all c = search needs
-
 cast-all : tie.Need-cast-all Inv-loop μ-loop
 cast-all c = record {
   fits = omega (
@@ -47,12 +29,6 @@ add-all-2 c = record {
       (c .before .before .before .args .base + 16 * (7 - c .before .before .loop .t)) 0) (c .before .before .loop .inv) (c .before .loop-test .taken);
 }
 
-add-t : tie.Need-add-t Inv-loop μ-loop
-add-t c = search needs
-
-loop-less : tie.Need-loop-less Inv-loop μ-loop
-loop-less c = search needs
-
 loop-again : tie.Need-loop-again Inv-loop μ-loop
 unfolding at
 loop-again c = lanes-turn _ _ _ (c .before .before .loop .inv) (c .before .loop-test .taken)
@@ -61,7 +37,6 @@ returns : tie.Need-returns Inv-loop μ-loop
 returns c = lanes-end _ _ _ (search needs) (c .before .loop .inv)
 
 pub lanes-spec : {M : Type 1} → statement M
-lanes-spec =
-    tie.close
-    (tie.spec
-    Inv-loop μ-loop loop-holds mul-all sub-all mul-all-2 add-all mul-all-3 element-copy-out-all cast-all add-all-2 add-t loop-less loop-again returns)
+lanes-spec = tie.close (tie.spec
+    Inv-loop μ-loop loop-holds (λ c. record { fits = omega (arith, lanes-fit _ _ _ 0 (c .before .loop .inv) (c .loop-test .taken)) }) (λ c. search needs) (λ c. search needs) (λ c. search needs)
+    (λ c. search needs) (λ c. search needs) cast-all add-all-2 (λ c. search needs) (λ c. search needs) loop-again returns)

@@ -13,9 +13,6 @@ abbrev μ-loop : tie.MeasureT-loop
 loop-holds : tie.Need-loop-holds Inv-loop μ-loop
 loop-holds c = turned-begin _ _
 
-mul-all : tie.Need-mul-all Inv-loop μ-loop
-mul-all c = record { fits = turned-fit _ _ _ _ (c .before .loop .inv) (c .loop-test .taken) }
-
 loop-again : tie.Need-loop-again Inv-loop μ-loop
 unfolding at
 loop-again c = turned-turn _ _ _ _ (c .before .before .loop .inv) (c .before .loop-test .taken)
@@ -24,8 +21,6 @@ returns : tie.Need-returns Inv-loop μ-loop
 returns c = turned-end _ _ _ _ (search needs) (c .before .loop .inv)
 
 pub turned-spec : {M : Type 1} → statement M
-turned-spec =
-    tie.close
-    (tie.spec
-    Inv-loop μ-loop loop-holds mul-all (λ c. search needs) (λ c. search needs) (λ c. search needs) (λ c. search needs) (λ c. search needs) (λ c. search needs) loop-again
-    returns)
+turned-spec = tie.close (tie.spec
+    Inv-loop μ-loop loop-holds (λ c. record { fits = turned-fit _ _ _ _ (c .before .loop .inv) (c .loop-test .taken) }) (λ c. search needs) (λ c. search needs) (λ c. search needs)
+    (λ c. search needs) (λ c. search needs) (λ c. search needs) loop-again returns)

@@ -10,7 +10,4 @@ returns-2 : tie.Need-returns-2
 returns-2 c = record { second = λ z. absurd (omega arith); third = λ z. turned-lanes _ _ _ _ _ (omega arith) (c .before .before .pre .1 (omega arith)) (c .turned .ensures) }
 
 pub word-spec : {M : Type 1} → statement M
-word-spec =
-    tie.close
-    (tie.spec
-    (λ c. search needs) (λ c. search needs) (λ c κs. search needs) (λ c κs. search needs) returns returns-2)
+word-spec = tie.close (tie.spec (λ c. search needs) (λ c. search needs) (λ c κs. search needs) (λ c κs. search needs) returns returns-2)

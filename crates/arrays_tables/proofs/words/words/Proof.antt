@@ -15,21 +15,6 @@ abbrev μ-loop : tie.MeasureT-loop
 loop-holds : tie.Need-loop-holds Inv-loop μ-loop
 loop-holds c = (search needs, filled-begin _ _ _)
 
-word-requires : tie.Need-word-requires Inv-loop μ-loop
-word-requires c κs = (search needs, λ l v h. c .before .before .loop .inv .1 .here v (omega arith))
-
-mul-made : tie.Need-mul-made Inv-loop μ-loop
-mul-made c = search needs
-
-element-write-made : tie.Need-element-write-made Inv-loop μ-loop
-element-write-made c = search needs
-
-add-n : tie.Need-add-n Inv-loop μ-loop
-add-n c = search needs
-
-loop-less : tie.Need-loop-less Inv-loop μ-loop
-loop-less c = search needs
-
 loop-again : tie.Need-loop-again Inv-loop μ-loop
 loop-again c = (search needs, filled-turn _ _ _ _ _ _ _ (c .before .before .before .loop .inv .1) refl (omega arith) (λ v l e. omega arith) (c .word .ensures))
 
@@ -37,7 +22,6 @@ returns : tie.Need-returns Inv-loop μ-loop
 returns c = filled-end _ _ _ _ _ _ (search needs) (search needs) (c .before .loop .inv .1)
 
 pub words-spec : {M : Type 1} → statement M
-words-spec =
-    tie.close
-    (tie.spec
-    Inv-loop μ-loop loop-holds word-requires mul-made element-write-made add-n loop-less loop-again returns)
+words-spec = tie.close (tie.spec
+    Inv-loop μ-loop loop-holds (λ c κs. (search needs, λ l v h. c .before .before .loop .inv .1 .here v (omega arith))) (λ c. search needs) (λ c. search needs) (λ c. search needs)
+    (λ c. search needs) loop-again returns)

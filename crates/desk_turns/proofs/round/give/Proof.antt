@@ -32,7 +32,4 @@ returns-3 c = some-due _ _ _ (
     (some _ (c .before .before .before .before .before .before .before .if1 .left)) _ _ (c .before .before .serve .ensures)
 
 pub give-spec : {M : Type 1} → statement M
-give-spec =
-    tie.close
-    (tie.spec
-    returns (λ c κs. search needs) (λ c. search needs) returns-2 serve-requires (λ c. search needs) returns-3)
+give-spec = tie.close (tie.spec returns (λ c κs. search needs) (λ c. search needs) returns-2 serve-requires (λ c. search needs) returns-3)

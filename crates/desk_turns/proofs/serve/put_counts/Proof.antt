@@ -16,30 +16,9 @@ abbrev μ-loop : tie.MeasureT-loop
 loop-holds : tie.Need-loop-holds Inv-loop μ-loop
 loop-holds c = let a = c .before .args in (omega arith, refl, counts-begin (a .queue .now) (added (a .t3) (a .t4)) (a .p + COUNTS))
 
-mul-k : tie.Need-mul-k Inv-loop μ-loop
-mul-k c = search needs
-
-array-read-k : tie.Need-array-read-k Inv-loop μ-loop
-array-read-k c = search needs
-
-mul-k-2 : tie.Need-mul-k-2 Inv-loop μ-loop
-mul-k-2 c = search needs
-
-array-read-k-2 : tie.Need-array-read-k-2 Inv-loop μ-loop
-array-read-k-2 c = search needs
-
 add-k : tie.Need-add-k Inv-loop μ-loop
 unfolding at
 add-k c = search (needs, c .before .before .before .pre .3 (c .before .loop .x))
-
-add-four : tie.Need-add-four Inv-loop μ-loop
-add-four c = search needs
-
-mul-four : tie.Need-mul-four Inv-loop μ-loop
-mul-four c = search needs
-
-add-four-2 : tie.Need-add-four-2 Inv-loop μ-loop
-add-four-2 c = search needs
 
 cast-four : tie.Need-cast-four Inv-loop μ-loop
 unfolding at
@@ -48,12 +27,6 @@ cast-four c = search (needs, c .before .before .before .before .pre .3 (c .befor
 four-requires : tie.Need-four-requires Inv-loop μ-loop
 unfolding at
 four-requires c κs = search (needs, c .before .before .before .before .pre .3 (c .before .before .loop .x))
-
-add-x : tie.Need-add-x Inv-loop μ-loop
-add-x c = search needs
-
-loop-less : tie.Need-loop-less Inv-loop μ-loop
-loop-less c = search needs
 
 loop-again : tie.Need-loop-again Inv-loop μ-loop
 unfolding at fourBytes
@@ -68,9 +41,6 @@ loop-again c =
           (ap fourBytes (sym (at-added (a .args .t3) (a .args .t4) (l .loop .x) (omega (arith, t))))) (c .before .before .four .ensures .bytes),
     )
 
-same-length : tie.Need-same-length Inv-loop μ-loop
-same-length c = c .before .loop .inv .1
-
 returns : tie.Need-returns Inv-loop μ-loop
 returns c =
     let l = c .before in
@@ -79,8 +49,6 @@ returns c =
     (l .loop .inv .2)
 
 pub put-counts-spec : {M : Type 1} → statement M
-put-counts-spec =
-    tie.close
-    (tie.spec
-    Inv-loop μ-loop loop-holds mul-k array-read-k mul-k-2 array-read-k-2 add-k add-four mul-four add-four-2 cast-four four-requires add-x loop-less loop-again
-    same-length returns)
+put-counts-spec = tie.close (tie.spec
+    Inv-loop μ-loop loop-holds (λ c. search needs) (λ c. search needs) (λ c. search needs) (λ c. search needs) add-k (λ c. search needs) (λ c. search needs) (λ c. search needs) cast-four
+    four-requires (λ c. search needs) (λ c. search needs) loop-again (λ c. c .before .loop .inv .1) returns)

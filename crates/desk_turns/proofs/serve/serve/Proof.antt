@@ -74,9 +74,7 @@ returns c =
     (c .turns-for .ensures)
 
 pub serve-spec : {M : Type 1} → statement M
-serve-spec =
-    tie.close
-    (tie.spec
-    (λ c. search needs) (λ c. search needs) (λ c κs. search needs) (λ c κs. search needs) (λ c κs. search needs) (λ c. search needs) share-requires
-    (λ c κs. search needs) (λ c. search needs) add-nodes (λ c κs. search needs) run-bytes-requires (λ c. search needs) (λ c. search needs)
-    (λ c κs. search needs) put-counts-requires (λ c. search needs) (λ c κs. search needs) (λ c. search needs) returns)
+serve-spec = tie.close (tie.spec
+    (λ c. search needs) (λ c. search needs) (λ c κs. search needs) (λ c κs. search needs) (λ c κs. search needs) (λ c. search needs) share-requires (λ c κs. search needs) (λ c. search needs)
+    add-nodes (λ c κs. search needs) run-bytes-requires (λ c. search needs) (λ c. search needs) (λ c κs. search needs) put-counts-requires (λ c. search needs) (λ c κs. search needs)
+    (λ c. search needs) returns)

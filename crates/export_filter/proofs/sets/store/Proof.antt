@@ -25,21 +25,6 @@ loop-holds c =
     let a = c .before .before .args in
     (omega arith, refl, refl, start (a .sets .now))
 
-mul-two : tie.Need-mul-two Inv-loop μ-loop
-mul-two c = search needs
-
-shared-slice-read-two : tie.Need-shared-slice-read-two Inv-loop μ-loop
-shared-slice-read-two c = search needs
-
-two-requires : tie.Need-two-requires Inv-loop μ-loop
-two-requires c κs = omega arith
-
-add-i : tie.Need-add-i Inv-loop μ-loop
-add-i c = omega arith
-
-loop-less : tie.Need-loop-less Inv-loop μ-loop
-loop-less c = omega arith
-
 loop-again : tie.Need-loop-again Inv-loop μ-loop
 loop-again c =
     let l = c .before .before .before .before .before .before in
@@ -51,9 +36,6 @@ loop-again c =
       bytes-turn (l .loop .i) (s .args .words .now) (omega arith) (omega (arith, l .loop .inv .2, l .loop .inv .0, s .pre)) (l .loop .inv .3) (w .two .ensures),
     )
 
-same-length : tie.Need-same-length Inv-loop μ-loop
-same-length c = c .before .loop .inv .1
-
 returns : tie.Need-returns Inv-loop μ-loop
 returns c =
     let l = c .before in
@@ -61,7 +43,5 @@ returns c =
     all-written (s .args .sets .now) (s .args .words .now) (l .loop .i) (s .pre) (c .loop-test .left) (l .loop .inv .3)
 
 pub store-spec : {M : Type 1} → statement M
-store-spec =
-    tie.close
-    (tie.spec
-    Inv-loop μ-loop loop-holds mul-two shared-slice-read-two two-requires add-i loop-less loop-again same-length returns)
+store-spec = tie.close (tie.spec
+    Inv-loop μ-loop loop-holds (λ c. search needs) (λ c. search needs) (λ c κs. omega arith) (λ c. omega arith) (λ c. omega arith) loop-again (λ c. c .before .loop .inv .1) returns)

@@ -20,8 +20,5 @@ returns-2 c =
     subst (λ (x : List ℕ). Written (a .out .now) (a .start) x (p .put-path2 .last .0) (a .start + 13)) (begin-at (a .l .now) (a .near) (t .if1 .left)) (p .put-path2 .ensures)
 
 pub put-begin-spec : {M : Type 1} → statement M
-put-begin-spec =
-    tie.close
-    (tie.spec
-    (λ c. search needs) (λ c κs. search needs) (λ c. search needs) (λ c. search needs) (λ c. search needs) (λ c κs. search needs) (λ c. search needs) returns
-    (λ c. search needs) returns-2)
+put-begin-spec = tie.close (tie.spec
+    (λ c. search needs) (λ c κs. search needs) (λ c. search needs) (λ c. search needs) (λ c. search needs) (λ c κs. search needs) (λ c. search needs) returns (λ c. search needs) returns-2)

@@ -14,21 +14,6 @@ abbrev μ-loop : tie.MeasureT-loop
 loop-holds : tie.Need-loop-holds Inv-loop μ-loop
 loop-holds c = let a = c .before .args in (omega arith, refl, omega arith, wides-start (a .out .now) (at (a .t2)))
 
-mul-eight : tie.Need-mul-eight Inv-loop μ-loop
-mul-eight c = omega arith
-
-array-read-eight : tie.Need-array-read-eight Inv-loop μ-loop
-array-read-eight c = search needs
-
-eight-requires : tie.Need-eight-requires Inv-loop μ-loop
-eight-requires c κs = search needs
-
-add-i : tie.Need-add-i Inv-loop μ-loop
-add-i c = omega arith
-
-loop-less : tie.Need-loop-less Inv-loop μ-loop
-loop-less c = omega arith
-
 loop-again : tie.Need-loop-again Inv-loop μ-loop
 unfolding at
 loop-again c =
@@ -41,14 +26,9 @@ loop-again c =
       wides-turn (l .loop .i) (at (s .args .t2)) (omega (arith, l .loop .inv .2, l .loop .inv .0, s .pre)) (l .loop .inv .3) (w .eight .ensures),
     )
 
-same-length : tie.Need-same-length Inv-loop μ-loop
-same-length c = c .before .loop .inv .1
-
 returns : tie.Need-returns Inv-loop μ-loop
 returns c = let l = c .before in wides-all (l .loop .i) _ (omega arith) (l .loop .inv .2) (l .loop .inv .3)
 
 pub put-counts-spec : {M : Type 1} → statement M
-put-counts-spec =
-    tie.close
-    (tie.spec
-    Inv-loop μ-loop loop-holds mul-eight array-read-eight eight-requires add-i loop-less loop-again same-length returns)
+put-counts-spec = tie.close (tie.spec
+    Inv-loop μ-loop loop-holds (λ c. omega arith) (λ c. search needs) (λ c κs. search needs) (λ c. omega arith) (λ c. omega arith) loop-again (λ c. c .before .loop .inv .1) returns)

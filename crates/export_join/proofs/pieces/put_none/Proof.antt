@@ -13,7 +13,4 @@ returns c =
     two-put (pathBytesAt startBytes 0) (pathBytesAt startBytes 0) (replicate 13 0) (replicate 13 0) (s .pre) none-at none-at (p .put-path .ensures) (q .put-path2 .ensures)
 
 pub put-none-spec : {M : Type 1} → statement M
-put-none-spec =
-    tie.close
-    (tie.spec
-    (λ c. search needs) (λ c κs. search needs) (λ c. search needs) (λ c κs. search needs) (λ c. search needs) returns)
+put-none-spec = tie.close (tie.spec (λ c. search needs) (λ c κs. search needs) (λ c. search needs) (λ c κs. search needs) (λ c. search needs) returns)

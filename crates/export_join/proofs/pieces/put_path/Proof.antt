@@ -14,24 +14,6 @@ abbrev μ-loop : tie.MeasureT-loop
 loop-holds : tie.Need-loop-holds Inv-loop μ-loop
 loop-holds c = let a = c .args in (omega arith, refl, written-start (a .out .now) (a .start) (λ k. at (a .l .now) (a .o + k)))
 
-add-out : tie.Need-add-out Inv-loop μ-loop
-add-out c = omega arith
-
-shared-slice-read-out : tie.Need-shared-slice-read-out Inv-loop μ-loop
-shared-slice-read-out c = omega arith
-
-add-out-2 : tie.Need-add-out-2 Inv-loop μ-loop
-add-out-2 c = omega arith
-
-slice-write-out : tie.Need-slice-write-out Inv-loop μ-loop
-slice-write-out c = omega arith
-
-add-i : tie.Need-add-i Inv-loop μ-loop
-add-i c = omega arith
-
-loop-less : tie.Need-loop-less Inv-loop μ-loop
-loop-less c = omega arith
-
 loop-again : tie.Need-loop-again Inv-loop μ-loop
 unfolding at
 loop-again c =
@@ -42,9 +24,6 @@ loop-again c =
       written-turn (a .out .now) (l .out) (a .start) (l .i) _ (λ k. at (a .l .now) (a .o + k)) (omega arith) (l .inv .1) refl (l .inv .2),
     )
 
-same-length : tie.Need-same-length Inv-loop μ-loop
-same-length c = c .before .loop .inv .1
-
 returns : tie.Need-returns Inv-loop μ-loop
 returns c =
     let l = c .before .loop in
@@ -52,7 +31,5 @@ returns c =
     bytes-all (a .out .now) (l .out) (a .start) (l .i) (a .l .now) (a .o) (omega arith) (l .inv .2)
 
 pub put-path-spec : {M : Type 1} → statement M
-put-path-spec =
-    tie.close
-    (tie.spec
-    Inv-loop μ-loop loop-holds add-out shared-slice-read-out add-out-2 slice-write-out add-i loop-less loop-again same-length returns)
+put-path-spec = tie.close (tie.spec
+    Inv-loop μ-loop loop-holds (λ c. omega arith) (λ c. omega arith) (λ c. omega arith) (λ c. omega arith) (λ c. omega arith) (λ c. omega arith) loop-again (λ c. c .before .loop .inv .1) returns)

@@ -28,8 +28,5 @@ returns-2 c =
     (stand-at (a .l .now) (a .stand) (r .reach-place .result) (t .if1 .left) (r .reach-place .ensures)) (p .put-path2 .ensures)
 
 pub put-stand-spec : {M : Type 1} → statement M
-put-stand-spec =
-    tie.close
-    (tie.spec
-    (λ c. search needs) (λ c κs. search needs) (λ c. search needs) (λ c κs. search needs) put-path-requires-2 (λ c. search needs) returns (λ c. search needs)
-    returns-2)
+put-stand-spec = tie.close (tie.spec
+    (λ c. search needs) (λ c κs. search needs) (λ c. search needs) (λ c κs. search needs) put-path-requires-2 (λ c. search needs) returns (λ c. search needs) returns-2)

@@ -39,7 +39,4 @@ returns c =
     sums-put (s .args .kind) (s .args .plans) (s .args .nodes) _ (s .pre .0) (p .four .ensures) (q .four2 .ensures) (r .eight .ensures) (t .eight2 .ensures) (n .put-counts .ensures)
 
 pub put-sums-spec : {M : Type 1} → statement M
-put-sums-spec =
-    tie.close
-    (tie.spec
-    (λ c κs. search needs) four-requires-2 eight-requires eight-requires-2 (λ c κs. search needs) (λ c. search needs) returns)
+put-sums-spec = tie.close (tie.spec (λ c κs. search needs) four-requires-2 eight-requires eight-requires-2 (λ c κs. search needs) (λ c. search needs) returns)

@@ -10,7 +10,4 @@ returns c =
     zeros-put (s .args .out .now) (p .four .last .0) (p .four .result) (s .pre) (p .four .kept .0) (p .four .ensures)
 
 pub put-zeros-spec : {M : Type 1} → statement M
-put-zeros-spec =
-    tie.close
-    (tie.spec
-    (λ c κs. search needs) (λ c. search needs) (λ c. search needs) (λ c. search needs) returns)
+put-zeros-spec = tie.close (tie.spec (λ c κs. search needs) (λ c. search needs) (λ c. search needs) (λ c. search needs) returns)

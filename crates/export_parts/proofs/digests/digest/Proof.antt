@@ -13,21 +13,6 @@ abbrev μ-loop : tie.MeasureT-loop
 loop-holds : tie.Need-loop-holds Inv-loop μ-loop
 loop-holds c = (omega arith, omega arith, digest-none (c .before .args .base))
 
-shared-slice-read-wide : tie.Need-shared-slice-read-wide Inv-loop μ-loop
-shared-slice-read-wide c = omega arith
-
-wide-requires : tie.Need-wide-requires Inv-loop μ-loop
-wide-requires c κs = search needs
-
-with-byte-requires : tie.Need-with-byte-requires Inv-loop μ-loop
-with-byte-requires c κs = search needs
-
-add-i : tie.Need-add-i Inv-loop μ-loop
-add-i c = omega arith
-
-loop-less : tie.Need-loop-less Inv-loop μ-loop
-loop-less c = omega arith
-
 loop-again : tie.Need-loop-again Inv-loop μ-loop
 loop-again c =
     let t = c .before .before .before in
@@ -46,7 +31,4 @@ returns c =
     (digest-all (s .args .base) (l .i) (l .h) (s .args .bytes .now) (c .loop-test .left) (l .inv .2), l .inv .1)
 
 pub digest-spec : {M : Type 1} → statement M
-digest-spec =
-    tie.close
-    (tie.spec
-    Inv-loop μ-loop loop-holds shared-slice-read-wide wide-requires with-byte-requires add-i loop-less loop-again returns)
+digest-spec = tie.close (tie.spec Inv-loop μ-loop loop-holds (λ c. omega arith) (λ c κs. search needs) (λ c κs. search needs) (λ c. omega arith) (λ c. omega arith) loop-again returns)

@@ -44,8 +44,6 @@ returns-3 c =
     subst (λ (x : Ending). Written (a .out .now) 0 (endingBytes (endingOf x) ++ numbersOf (a .counts)) (f .last .0) 60) (sym (c .before .before .before .before .before .e3 .given .1)) (f .ensures)
 
 pub put-ending-spec : {M : Type 1} → statement M
-put-ending-spec =
-    tie.close
-    (tie.spec
-    (λ c. search needs) put-figures-requires (λ c. search needs) put-figures-requires-2 (λ c. search needs) put-figures-requires-3 (λ c. search needs) returns
-    (λ c. search needs) returns-2 (λ c. search needs) returns-3)
+put-ending-spec = tie.close (tie.spec
+    (λ c. search needs) put-figures-requires (λ c. search needs) put-figures-requires-2 (λ c. search needs) put-figures-requires-3 (λ c. search needs) returns (λ c. search needs) returns-2
+    (λ c. search needs) returns-3)

@@ -38,7 +38,4 @@ returns c =
     figures-put (s .args .kind) (s .args .plans) (s .args .nodes) (s .args .counts) (s .pre .0) (s .pre .4 .long) (p .four .ensures) (q .four2 .ensures) (r .four3 .ensures) (n .numbers .ensures)
 
 pub put-figures-spec : {M : Type 1} → statement M
-put-figures-spec =
-    tie.close
-    (tie.spec
-    (λ c κs. search needs) four-requires-2 four-requires-3 numbers-requires (λ c. search needs) returns)
+put-figures-spec = tie.close (tie.spec (λ c κs. search needs) four-requires-2 four-requires-3 numbers-requires (λ c. search needs) returns)

@@ -41,8 +41,5 @@ returns c =
     (p .four .ensures) (q .four2 .ensures) (r .four3 .ensures) (t .four4 .ensures)
 
 pub put-name-spec : {M : Type 1} → statement M
-put-name-spec =
-    tie.close
-    (tie.spec
-    (λ c κs. search needs) (λ c κs. search needs) (λ c κs. search needs) four-requires-2 (λ c κs. search needs) four-requires-3 (λ c κs. search needs)
-    four-requires-4 (λ c. search needs) returns)
+put-name-spec = tie.close (tie.spec
+    (λ c κs. search needs) (λ c κs. search needs) (λ c κs. search needs) four-requires-2 (λ c κs. search needs) four-requires-3 (λ c κs. search needs) four-requires-4 (λ c. search needs) returns)

@@ -3,9 +3,6 @@ use Rattle.model.specs.Kit.{refl, _∙_, arith, set, take, length-set, needs}
 use Rattle.export_parts.proofs.{Pieces.kept-is, Pieces.path-put, heads.put_path.Statement.statement}
 use Rattle.export_parts.proofs.heads.put_path.Tie as tie
 
-put-values-requires : tie.Need-put-values-requires
-put-values-requires c κs = simp length-set (omega arith)
-
 same-length : tie.Need-same-length
 same-length c =
     let v = c .before .before in
@@ -23,7 +20,5 @@ returns c =
     (kept-is (a .path .now) (a .n) (m .lesser2 .result) (m .before .lesser .result) (m .before .lesser .ensures) (m .lesser2 .ensures)) refl (v .put-values .ensures) (omega arith)
 
 pub put-path-spec : {M : Type 1} → statement M
-put-path-spec =
-    tie.close
-    (tie.spec
-    (λ c κs. search needs) (λ c κs. search needs) (λ c. search needs) (λ c. search needs) (λ c. search needs) put-values-requires same-length returns)
+put-path-spec = tie.close (tie.spec
+    (λ c κs. search needs) (λ c κs. search needs) (λ c. search needs) (λ c. search needs) (λ c. search needs) (λ c κs. simp length-set (omega arith)) same-length returns)

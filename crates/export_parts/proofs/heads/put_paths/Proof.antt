@@ -12,7 +12,4 @@ returns c =
     paths-put (s .args .from .now) (s .args .upto .now) (s .args .last .now) (s .args .n) _ _ (s .pre) refl refl (p .put-path .ensures) (q .put-path2 .ensures) (r .put-path3 .ensures)
 
 pub put-paths-spec : {M : Type 1} → statement M
-put-paths-spec =
-    tie.close
-    (tie.spec
-    (λ c κs. search needs) (λ c κs. search needs) (λ c κs. search needs) (λ c. search needs) returns)
+put-paths-spec = tie.close (tie.spec (λ c κs. search needs) (λ c κs. search needs) (λ c κs. search needs) (λ c. search needs) returns)

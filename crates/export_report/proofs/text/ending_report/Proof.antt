@@ -28,7 +28,4 @@ returns-2 c = λ f t k.
     (sym (c .before .before .before .before .before .e .given .1)) (r .ensures f t)
 
 pub ending-report-spec : {M : Type 1} → statement M
-ending-report-spec =
-    tie.close
-    (tie.spec
-    (λ c. search needs) (λ c κs. search needs) (λ c. search needs) returns finished-report-requires (λ c. search needs) returns-2)
+ending-report-spec = tie.close (tie.spec (λ c. search needs) (λ c κs. search needs) (λ c. search needs) returns finished-report-requires (λ c. search needs) returns-2)

@@ -1,12 +1,12 @@
 -- `finished_report`: the figure is a number or the dash. Assumes nothing.
 use Rattle.model.specs.Kit.{_≡_, sym, ap, _∙_, subst, ⊎-elim, [], _∷_, ℕ, arith, needs}
+use Rattle.model.specs.Run.{finished}
 use types.Run.{OneOf}
 use denote.Enum.Declared.{tagOf}
-use Rattle.model.specs.Run.{finished}
 use Rattle.model.proofs.Lists.{never}
 use Rattle.families_figure.specs.Figure.{Figure, number, dash}
 use Rattle.families_count.specs.{Told.refusal, Told.told, Told.means, declared.Answer.Answer, declared.Answer.the-variants.Number, declared.Answer.the-variants.Dash}
-use Rattle.families_count.specs.declared.Answer.the-variants.{Refused}
+use Rattle.families_count.specs.{declared.Answer.the-variants.Refused}
 use Rattle.families_count.proofs.Answer.{the-type}
 use Rattle.report.specs.inner.Text.{endedText, Fitted}
 use Rattle.export_report.proofs.text.finished_report.Statement.{statement}
@@ -42,7 +42,4 @@ returns-2 c = λ f t.
     (r .ensures)
 
 pub finished-report-spec : {M : Type 1} → statement M
-finished-report-spec =
-    tie.close
-    (tie.spec
-    (λ c. search needs) (λ c κs. search needs) (λ c. search needs) returns (λ c κs. search needs) (λ c. search needs) returns-2)
+finished-report-spec = tie.close (tie.spec (λ c. search needs) (λ c κs. search needs) (λ c. search needs) returns (λ c κs. search needs) (λ c. search needs) returns-2)

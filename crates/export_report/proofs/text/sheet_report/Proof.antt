@@ -55,8 +55,6 @@ returns-2 c =
     subst (λ (k : List ℕ). Fitted (s .args .out .now) k (r .last .1 .1 .1 .1 .0) (r .result)) e (r .ensures _ (t .figure (verdict b n o x (t .sized) l h)) (dashed b n o x (t .sized) l h))
 
 pub sheet-report-spec : {M : Type 1} → statement M
-sheet-report-spec =
-    tie.close
-    (tie.spec
-    (λ c κs. search needs) (λ c. search needs) (λ c κs. search needs) (λ c. search needs) (λ c. search needs) (λ c. search needs) (λ c κs. search needs)
-    (λ c. search needs) (λ c. search needs) slice-aggregate-ending-report ending-report-requires (λ c. search needs) returns (λ c. search needs) returns-2)
+sheet-report-spec = tie.close (tie.spec
+    (λ c κs. search needs) (λ c. search needs) (λ c κs. search needs) (λ c. search needs) (λ c. search needs) (λ c. search needs) (λ c κs. search needs) (λ c. search needs) (λ c. search needs)
+    slice-aggregate-ending-report ending-report-requires (λ c. search needs) returns (λ c. search needs) returns-2)

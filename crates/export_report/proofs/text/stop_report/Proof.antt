@@ -47,8 +47,6 @@ returns-3 c =
     (c .before .before .uncounted .result)) (sym (c .before .before .before .before .before .e3 .given .1)) (c .before .before .uncounted .ensures)
 
 pub stop-report-spec : {M : Type 1} → statement M
-stop-report-spec =
-    tie.close
-    (tie.spec
-    (λ c. search needs) spent-requires (λ c. search needs) full-requires (λ c. search needs) uncounted-requires (λ c. search needs) returns (λ c. search needs)
-    returns-2 (λ c. search needs) returns-3)
+stop-report-spec = tie.close (tie.spec
+    (λ c. search needs) spent-requires (λ c. search needs) full-requires (λ c. search needs) uncounted-requires (λ c. search needs) returns (λ c. search needs) returns-2 (λ c. search needs)
+    returns-3)

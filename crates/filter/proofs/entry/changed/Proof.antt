@@ -13,24 +13,6 @@ abbrev μ-loop : tie.MeasureT-loop
 loop-holds : tie.Need-loop-holds Inv-loop μ-loop
 loop-holds c = (search needs, λ z l. absurd (not-suc-le-zero l))
 
-mul-other : tie.Need-mul-other Inv-loop μ-loop
-mul-other c = search needs
-
-element-copy-out-other : tie.Need-element-copy-out-other Inv-loop μ-loop
-element-copy-out-other c = search needs
-
-mul-other-2 : tie.Need-mul-other-2 Inv-loop μ-loop
-mul-other-2 c = search needs
-
-element-copy-out-other-2 : tie.Need-element-copy-out-other-2 Inv-loop μ-loop
-element-copy-out-other-2 c = search needs
-
-add-y : tie.Need-add-y Inv-loop μ-loop
-add-y c = search needs
-
-loop-less : tie.Need-loop-less Inv-loop μ-loop
-loop-less c = search needs
-
 loop-again : tie.Need-loop-again Inv-loop μ-loop
 unfolding at
 loop-again c =
@@ -43,7 +25,5 @@ returns c = compared-all (c .before .before .args .old .now) (c .before .before 
     (c .before .loop .inv .1)
 
 pub changed-spec : {M : Type 1} → statement M
-changed-spec =
-    tie.close
-    (tie.spec
-    Inv-loop μ-loop loop-holds mul-other element-copy-out-other mul-other-2 element-copy-out-other-2 add-y loop-less loop-again returns)
+changed-spec = tie.close (tie.spec
+    Inv-loop μ-loop loop-holds (λ c. search needs) (λ c. search needs) (λ c. search needs) (λ c. search needs) (λ c. search needs) (λ c. search needs) loop-again returns)

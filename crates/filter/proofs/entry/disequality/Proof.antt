@@ -19,7 +19,4 @@ returns-2 c =
     cut-next (a .sets .now) (a .x) (a .v) (w .result .bits) (w .ensures) (c .before .is-empty .result) (c .before .is-empty .ensures) (c .if1 .left)
 
 pub disequality-spec : {M : Type 1} → statement M
-disequality-spec =
-    tie.close
-    (tie.spec
-    (λ c. search needs) (λ c. search needs) (λ c κs. search needs) (λ c. search needs) (λ c. search needs) (λ c κs. search needs) returns returns-2)
+disequality-spec = tie.close (tie.spec (λ c. search needs) (λ c. search needs) (λ c κs. search needs) (λ c. search needs) (λ c. search needs) (λ c κs. search needs) returns returns-2)

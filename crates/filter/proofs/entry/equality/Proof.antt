@@ -28,7 +28,4 @@ returns-3 c =
     keep-split (a .sets .now) (a .x) (a .v) (w .result .bits) (w .ensures) (omega arith) (e .is-empty .result) (e .is-empty .ensures) (c .before .before .before .if1 .left) (c .if2 .left)
 
 pub equality-spec : {M : Type 1} → statement M
-equality-spec =
-    tie.close
-    (tie.spec
-    (λ c. search needs) (λ c. search needs) (λ c κs. search needs) (λ c κs. search needs) returns returns-2 returns-3)
+equality-spec = tie.close (tie.spec (λ c. search needs) (λ c. search needs) (λ c κs. search needs) (λ c κs. search needs) returns returns-2 returns-3)

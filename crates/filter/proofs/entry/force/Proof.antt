@@ -9,7 +9,4 @@ unfolding at
 returns c = ap (set (c .before .before .args .sets .now) (c .before .before .args .x)) (c .only .ensures)
 
 pub force-spec : {M : Type 1} → statement M
-force-spec =
-    tie.close
-    (tie.spec
-    (λ c. search needs) (λ c. search needs) (λ c κs. search needs) (λ c. search needs) (λ c. search needs) returns)
+force-spec = tie.close (tie.spec (λ c. search needs) (λ c. search needs) (λ c κs. search needs) (λ c. search needs) (λ c. search needs) returns)

@@ -3,9 +3,6 @@ use Rattle.model.specs.Kit.{needs}
 use Rattle.model.proofs.{Masks.full-op, Masks.full-all, Masks.shl-pos, ValueSet.full.Statement.statement}
 use Rattle.model.proofs.ValueSet.full.Tie as tie
 
-sub-t5 : tie.Need-sub-t5
-sub-t5 c = shl-pos _ (search needs)
-
 returns : tie.Need-returns
 returns c = full-op _ (search needs)
 
@@ -13,4 +10,4 @@ returns-2 : tie.Need-returns-2
 returns-2 c = full-all _ (search needs)
 
 pub full-spec : {M : Type 1} → statement M
-full-spec = tie.close (tie.spec (λ c. search needs) sub-t5 returns returns-2)
+full-spec = tie.close (tie.spec (λ c. search needs) (λ c. shl-pos _ (search needs)) returns returns-2)

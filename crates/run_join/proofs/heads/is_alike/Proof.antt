@@ -13,30 +13,6 @@ abbrev μ-loop : tie.MeasureT-loop
 loop-holds : tie.Need-loop-holds Inv-loop μ-loop
 loop-holds c = (omega arith, λ j h. absurd (omega arith))
 
-mul-long : tie.Need-mul-long Inv-loop μ-loop
-mul-long c = omega arith
-
-add-long : tie.Need-add-long Inv-loop μ-loop
-add-long c = omega arith
-
-add-long-2 : tie.Need-add-long-2 Inv-loop μ-loop
-add-long-2 c = omega arith
-
-shared-slice-read-long : tie.Need-shared-slice-read-long Inv-loop μ-loop
-shared-slice-read-long c = omega arith
-
-long-requires : tie.Need-long-requires Inv-loop μ-loop
-long-requires c κs = search needs
-
-add-long-3 : tie.Need-add-long-3 Inv-loop μ-loop
-add-long-3 c = omega arith
-
-shared-slice-read-long-2 : tie.Need-shared-slice-read-long-2 Inv-loop μ-loop
-shared-slice-read-long-2 c = omega arith
-
-long-requires-2 : tie.Need-long-requires-2 Inv-loop μ-loop
-long-requires-2 c κs = search needs
-
 returns : tie.Need-returns Inv-loop μ-loop
 unfolding at
 returns c =
@@ -45,12 +21,6 @@ returns c =
     let l = e .before .before .before in
     let a = l .before .before .args in
     alike-no (a .l .now) (a .k) (l .loop .i) (omega arith) (λ q. c .if1 .taken (e .long .ensures .0 ∙ q ∙ sym (f .long2 .ensures .0)))
-
-add-i : tie.Need-add-i Inv-loop μ-loop
-add-i c = omega arith
-
-loop-less : tie.Need-loop-less Inv-loop μ-loop
-loop-less c = omega arith
 
 loop-again : tie.Need-loop-again Inv-loop μ-loop
 unfolding at
@@ -64,8 +34,6 @@ returns-2 : tie.Need-returns-2 Inv-loop μ-loop
 returns-2 c = let l = c .before in let a = l .before .before .args in alike-yes (a .l .now) (a .k) (l .loop .i) (c .loop-test .left) (l .loop .inv .1)
 
 pub is-alike-spec : {M : Type 1} → statement M
-is-alike-spec =
-    tie.close
-    (tie.spec
-    Inv-loop μ-loop loop-holds mul-long add-long add-long-2 shared-slice-read-long long-requires add-long-3 shared-slice-read-long-2 long-requires-2 returns
-    add-i loop-less loop-again returns-2)
+is-alike-spec = tie.close (tie.spec
+    Inv-loop μ-loop loop-holds (λ c. omega arith) (λ c. omega arith) (λ c. omega arith) (λ c. omega arith) (λ c κs. search needs) (λ c. omega arith) (λ c. omega arith) (λ c κs. search needs) returns
+    (λ c. omega arith) (λ c. omega arith) loop-again returns-2)

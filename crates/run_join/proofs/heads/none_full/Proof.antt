@@ -13,24 +13,12 @@ abbrev μ-loop : tie.MeasureT-loop
 loop-holds : tie.Need-loop-holds Inv-loop μ-loop
 loop-holds c = (omega arith, λ j h. absurd (omega arith))
 
-mul-four-at : tie.Need-mul-four-at Inv-loop μ-loop
-mul-four-at c = omega arith
-
-four-at-requires : tie.Need-four-at-requires Inv-loop μ-loop
-four-at-requires c κs = search needs
-
 returns : tie.Need-returns Inv-loop μ-loop
 returns c =
     let f = c .before in
     let l = f .before .before in
     let a = l .before .before .args in
     full-kind (a .l .now) (a .n) (l .loop .k) (f .four-at .result) (omega arith) (f .four-at .ensures .0) (c .if1 .taken)
-
-add-k : tie.Need-add-k Inv-loop μ-loop
-add-k c = omega arith
-
-loop-less : tie.Need-loop-less Inv-loop μ-loop
-loop-less c = omega arith
 
 loop-again : tie.Need-loop-again Inv-loop μ-loop
 loop-again c =
@@ -42,7 +30,4 @@ returns-2 : tie.Need-returns-2 Inv-loop μ-loop
 returns-2 c = let l = c .before in let a = l .before .before .args in few-kinds (a .l .now) (a .n) (l .loop .k) (c .loop-test .left) (l .loop .inv .1)
 
 pub none-full-spec : {M : Type 1} → statement M
-none-full-spec =
-    tie.close
-    (tie.spec
-    Inv-loop μ-loop loop-holds mul-four-at four-at-requires returns add-k loop-less loop-again returns-2)
+none-full-spec = tie.close (tie.spec Inv-loop μ-loop loop-holds (λ c. omega arith) (λ c κs. search needs) returns (λ c. omega arith) (λ c. omega arith) loop-again returns-2)

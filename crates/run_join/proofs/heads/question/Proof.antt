@@ -51,7 +51,4 @@ returns-6 c =
     (asked-yes _ _ _ _ (sym (h .none-full .ensures) ∙ not-false (h .none-full .result) (c .if5 .left)) refl)))
 
 pub question-spec : {M : Type 1} → statement M
-question-spec =
-    tie.close
-    (tie.spec
-    returns returns-2 (λ c κs. search needs) returns-3 (λ c κs. search needs) returns-4 (λ c κs. search needs) returns-5 returns-6)
+question-spec = tie.close (tie.spec returns returns-2 (λ c κs. search needs) returns-3 (λ c κs. search needs) returns-4 (λ c κs. search needs) returns-5 returns-6)

@@ -18,7 +18,4 @@ returns-2 c =
     sym (ap (λ (x : Bool). both x (not (marked (a .done .now) (a .k)))) (sym (f .is-marked .ensures) ∙ c .if1 .left))
 
 pub is-pending-spec : {M : Type 1} → statement M
-is-pending-spec =
-    tie.close
-    (tie.spec
-    (λ c κs. search needs) (λ c κs. search needs) returns returns-2)
+is-pending-spec = tie.close (tie.spec (λ c κs. search needs) (λ c κs. search needs) returns returns-2)

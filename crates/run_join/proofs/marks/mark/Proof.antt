@@ -10,7 +10,4 @@ unfolding at
 returns c = let s = c .before in marked-too _ _ _ (s .pre .1) (s .pre .0) (λ y. one-has 64 _ y (omega arith))
 
 pub mark-spec : {M : Type 1} → statement M
-mark-spec =
-    tie.close
-    (tie.spec
-    (λ c. search needs) (λ c. search needs) (λ c. search needs) (λ c. search needs) (λ c. search needs) returns)
+mark-spec = tie.close (tie.spec (λ c. search needs) (λ c. search needs) (λ c. search needs) (λ c. search needs) (λ c. search needs) returns)

@@ -13,15 +13,6 @@ abbrev μ-loop : tie.MeasureT-loop
 loop-holds : tie.Need-loop-holds Inv-loop μ-loop
 loop-holds c = let s = c in (omega arith, s .pre .0, λ j h. absurd (omega arith))
 
-mark-requires : tie.Need-mark-requires Inv-loop μ-loop
-mark-requires c κs = let l = c .before .before in (l .loop .inv .1, omega arith)
-
-add-k : tie.Need-add-k Inv-loop μ-loop
-add-k c = omega arith
-
-loop-less : tie.Need-loop-less Inv-loop μ-loop
-loop-less c = omega arith
-
 loop-again : tie.Need-loop-again Inv-loop μ-loop
 loop-again c = let l = c .before .before .before in (omega arith, c .mark .ensures .long, all-turn (l .loop .marks) (l .loop .k) _ (l .loop .inv .2) (c .mark .ensures))
 
@@ -29,7 +20,4 @@ returns : tie.Need-returns Inv-loop μ-loop
 returns c = λ j h. c .before .loop .inv .2 j (omega arith)
 
 pub mark-all-spec : {M : Type 1} → statement M
-mark-all-spec =
-    tie.close
-    (tie.spec
-    Inv-loop μ-loop loop-holds mark-requires add-k loop-less loop-again returns)
+mark-all-spec = tie.close (tie.spec Inv-loop μ-loop loop-holds (λ c κs. let l = c .before .before in (l .loop .inv .1, omega arith)) (λ c. omega arith) (λ c. omega arith) loop-again returns)

@@ -14,24 +14,12 @@ abbrev μ-loop : tie.MeasureT-loop
 loop-holds : tie.Need-loop-holds Inv-loop μ-loop
 loop-holds c = (omega arith, λ j h. absurd (omega arith))
 
-is-pending-requires : tie.Need-is-pending-requires Inv-loop μ-loop
-is-pending-requires c κs = omega arith
-
-add-result : tie.Need-add-result Inv-loop μ-loop
-add-result c = omega arith
-
 returns : tie.Need-returns Inv-loop μ-loop
 returns c =
     let f = c .before in
     let l = f .before .before in
     let a = l .before .args in
     pending-one (a .marks .now) (a .done .now) (a .n) (l .loop .k) (f .before .loop-test .taken) (sym (f .is-pending .ensures) ∙ c .if1 .taken)
-
-add-k : tie.Need-add-k Inv-loop μ-loop
-add-k c = omega arith
-
-loop-less : tie.Need-loop-less Inv-loop μ-loop
-loop-less c = omega arith
 
 loop-again : tie.Need-loop-again Inv-loop μ-loop
 loop-again c = let f = c .before in (omega arith, below-more _ _ (f .before .before .loop .inv .1) (sym (f .is-pending .ensures) ∙ c .if1 .left))
@@ -43,7 +31,4 @@ returns-2 c =
     pending-none (a .marks .now) (a .done .now) (a .n) (l .loop .k) (omega arith) (l .loop .inv .1)
 
 pub pending-spec : {M : Type 1} → statement M
-pending-spec =
-    tie.close
-    (tie.spec
-    Inv-loop μ-loop loop-holds is-pending-requires add-result returns add-k loop-less loop-again returns-2)
+pending-spec = tie.close (tie.spec Inv-loop μ-loop loop-holds (λ c κs. omega arith) (λ c. omega arith) returns (λ c. omega arith) (λ c. omega arith) loop-again returns-2)

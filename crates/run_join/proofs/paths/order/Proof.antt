@@ -13,33 +13,6 @@ abbrev μ-loop : tie.MeasureT-loop
 loop-holds : tie.Need-loop-holds Inv-loop μ-loop
 loop-holds c = (omega arith, λ k h. absurd (omega arith))
 
-add-long : tie.Need-add-long Inv-loop μ-loop
-add-long c = omega arith
-
-add-long-2 : tie.Need-add-long-2 Inv-loop μ-loop
-add-long-2 c = omega arith
-
-shared-slice-read-long : tie.Need-shared-slice-read-long Inv-loop μ-loop
-shared-slice-read-long c = omega arith
-
-long-requires : tie.Need-long-requires Inv-loop μ-loop
-long-requires c κs = search needs
-
-add-long-3 : tie.Need-add-long-3 Inv-loop μ-loop
-add-long-3 c = omega arith
-
-add-long-4 : tie.Need-add-long-4 Inv-loop μ-loop
-add-long-4 c = omega arith
-
-shared-slice-read-long-2 : tie.Need-shared-slice-read-long-2 Inv-loop μ-loop
-shared-slice-read-long-2 c = omega arith
-
-long-requires-2 : tie.Need-long-requires-2 Inv-loop μ-loop
-long-requires-2 c κs = search needs
-
-compared-requires : tie.Need-compared-requires Inv-loop μ-loop
-compared-requires c κs = search needs
-
 returns : tie.Need-returns Inv-loop μ-loop
 unfolding at
 returns c =
@@ -53,12 +26,6 @@ returns c =
     (l .loop .inv .1)
     (e .long .ensures .0) (f .long2 .ensures .0) (c .before .if1 .taken) (c .compared .ensures)
 
-add-i : tie.Need-add-i Inv-loop μ-loop
-add-i c = omega arith
-
-loop-less : tie.Need-loop-less Inv-loop μ-loop
-loop-less c = omega arith
-
 loop-again : tie.Need-loop-again Inv-loop μ-loop
 unfolding at
 loop-again c =
@@ -66,21 +33,6 @@ loop-again c =
     let e = f .before .before in
     let l = e .before .before .before in
     (omega arith, below-more _ _ (l .loop .inv .1) (sym (e .long .ensures .0) ∙ c .if1 .left ∙ f .long2 .ensures .0))
-
-shared-slice-read-long-3 : tie.Need-shared-slice-read-long-3 Inv-loop μ-loop
-shared-slice-read-long-3 c = omega arith
-
-long-requires-3 : tie.Need-long-requires-3 Inv-loop μ-loop
-long-requires-3 c κs = search needs
-
-shared-slice-read-long-4 : tie.Need-shared-slice-read-long-4 Inv-loop μ-loop
-shared-slice-read-long-4 c = omega arith
-
-long-requires-4 : tie.Need-long-requires-4 Inv-loop μ-loop
-long-requires-4 c κs = search needs
-
-compared-requires-2 : tie.Need-compared-requires-2 Inv-loop μ-loop
-compared-requires-2 c κs = search needs
 
 returns-2 : tie.Need-returns-2 Inv-loop μ-loop
 unfolding at
@@ -96,9 +48,7 @@ returns-2 c =
     (e .long3 .ensures .0) (f .long4 .ensures .0) (c .compared2 .ensures)
 
 pub order-spec : {M : Type 1} → statement M
-order-spec =
-    tie.close
-    (tie.spec
-    Inv-loop μ-loop loop-holds add-long add-long-2 shared-slice-read-long long-requires add-long-3 add-long-4 shared-slice-read-long-2 long-requires-2
-    compared-requires returns add-i loop-less loop-again shared-slice-read-long-3 long-requires-3 shared-slice-read-long-4 long-requires-4 compared-requires-2
+order-spec = tie.close (tie.spec
+    Inv-loop μ-loop loop-holds (λ c. omega arith) (λ c. omega arith) (λ c. omega arith) (λ c κs. search needs) (λ c. omega arith) (λ c. omega arith) (λ c. omega arith) (λ c κs. search needs)
+    (λ c κs. search needs) returns (λ c. omega arith) (λ c. omega arith) loop-again (λ c. omega arith) (λ c κs. search needs) (λ c. omega arith) (λ c κs. search needs) (λ c κs. search needs)
     returns-2)

@@ -10,12 +10,6 @@ Inv-loop l o length i₀ i = (i ≤ 12) × (length ≤ i) × (length ≡ at l o)
 abbrev μ-loop : tie.MeasureT-loop
 μ-loop l o length i₀ i = 12 - i
 
-shared-slice-read-long : tie.Need-shared-slice-read-long Inv-loop μ-loop
-shared-slice-read-long c = omega arith
-
-long-requires : tie.Need-long-requires Inv-loop μ-loop
-long-requires c κs = search needs
-
 returns : tie.Need-returns Inv-loop μ-loop
 unfolding at
 returns c = let f = c .before in let a = f .before .before .before .args in sym (shaped-long (a .l .now) (a .o) (f .long .result) (f .long .ensures .0) (c .if1 .taken))
@@ -24,27 +18,12 @@ loop-holds : tie.Need-loop-holds Inv-loop μ-loop
 unfolding at
 loop-holds c = (omega arith, omega arith, c .before .long .ensures .0, λ k h q. absurd (omega arith))
 
-add-if2 : tie.Need-add-if2 Inv-loop μ-loop
-add-if2 c = omega arith
-
-add-if2-2 : tie.Need-add-if2-2 Inv-loop μ-loop
-add-if2-2 c = omega arith
-
-shared-slice-read-if2 : tie.Need-shared-slice-read-if2 Inv-loop μ-loop
-shared-slice-read-if2 c = omega arith
-
 returns-2 : tie.Need-returns-2 Inv-loop μ-loop
 unfolding at
 returns-2 c =
     let l = c .before .before .before in
     let a = l .before .before .before .before .before .args in
     sym (shaped-behind (a .l .now) (a .o) (l .before .before .long .result) (l .loop .i) (l .loop .inv .2) (c .before .before .loop-test .taken) (l .loop .inv .1) (c .if2 .taken))
-
-add-i : tie.Need-add-i Inv-loop μ-loop
-add-i c = omega arith
-
-loop-less : tie.Need-loop-less Inv-loop μ-loop
-loop-less c = omega arith
 
 loop-again : tie.Need-loop-again Inv-loop μ-loop
 unfolding at
@@ -57,8 +36,6 @@ returns-3 c =
     sym (shaped-yes (a .l .now) (a .o) (l .before .before .long .result) (l .loop .inv .2) (omega arith) (λ k i h. l .loop .inv .3 k (omega arith) h))
 
 pub path-shaped-spec : {M : Type 1} → statement M
-path-shaped-spec =
-    tie.close
-    (tie.spec
-    Inv-loop μ-loop shared-slice-read-long long-requires returns loop-holds add-if2 add-if2-2 shared-slice-read-if2 returns-2 add-i loop-less loop-again
+path-shaped-spec = tie.close (tie.spec
+    Inv-loop μ-loop (λ c. omega arith) (λ c κs. search needs) returns loop-holds (λ c. omega arith) (λ c. omega arith) (λ c. omega arith) returns-2 (λ c. omega arith) (λ c. omega arith) loop-again
     returns-3)

@@ -19,7 +19,4 @@ returns-2 c =
     c .is-end .ensures ∙ ap (λ (p : List ℕ). same p (255 ∷ [])) (stand-pred (s .args .l .now) (s .args .stand) (f .reach-place .result) (f .before .if1 .left) (f .reach-place .ensures))
 
 pub at-end-spec : {M : Type 1} → statement M
-at-end-spec =
-    tie.close
-    (tie.spec
-    returns (λ c. search needs) (λ c κs. search needs) is-end-requires returns-2)
+at-end-spec = tie.close (tie.spec returns (λ c. search needs) (λ c κs. search needs) is-end-requires returns-2)

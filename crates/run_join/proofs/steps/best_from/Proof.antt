@@ -1,8 +1,8 @@
 -- `best_from`: after k turns it is that of the first k heads. Assumes nothing.
 use Rattle.model.specs.Kit.{_≡_, ap, _∙_, _-_, _≤_, arith}
+use Rattle.model.specs.Lists.{both, same}
 use Rattle.run_join.specs.{Join.pathAt, Join.fromAt, Join.reachAt, Join.reachOr, Join.bestOf, inner.Inner.marked}
 use Rattle.run_join.proofs.{Turns.best-none, Turns.best-turn, Turns.chosen-few, steps.best_from.Statement.statement}
-use Rattle.model.specs.Lists.{both, same}
 use Rattle.run_cut.specs.Parts.{after}
 use Rattle.run_join.proofs.steps.best_from.Tie as tie
 
@@ -20,12 +20,6 @@ better-requires c κs =
     let l = c .before in
     let s = l .before .before .before in
     record { path = s .pre .0; heads = s .pre .1; earlier = l .loop .inv .2; inside = c .loop-test .taken }
-
-add-k : tie.Need-add-k Inv-loop μ-loop
-add-k c = omega arith
-
-loop-less : tie.Need-loop-less Inv-loop μ-loop
-loop-less c = omega arith
 
 loop-again : tie.Need-loop-again Inv-loop μ-loop
 loop-again c =
@@ -48,7 +42,4 @@ returns c =
     (l .loop .inv .1 ∙ ap (bestOf (a .l .now) (pathAt (a .here .now) (a .o))) e, omega arith)
 
 pub best-from-spec : {M : Type 1} → statement M
-best-from-spec =
-    tie.close
-    (tie.spec
-    Inv-loop μ-loop loop-holds better-requires add-k loop-less loop-again returns)
+best-from-spec = tie.close (tie.spec Inv-loop μ-loop loop-holds better-requires (λ c. omega arith) (λ c. omega arith) loop-again returns)

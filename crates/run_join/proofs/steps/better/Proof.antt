@@ -1,8 +1,8 @@
 -- `better`: three tests. Assumes nothing.
 use Rattle.model.specs.Kit.{sym, _∙_, needs, not-true, not-false}
+use Rattle.model.specs.Lists.{same}
 use Rattle.run_join.specs.Join.{pathAt, fromAt}
 use Rattle.run_join.proofs.{Turns.from-path, Turns.is-same, Turns.not-same, Turns.stays-first, Turns.stays-second, Turns.goes, steps.better.Statement.statement}
-use Rattle.model.specs.Lists.{same}
 use Rattle.model.proofs.Lists.{both-no-l, both-no-r, both-yes}
 use Rattle.run_join.proofs.steps.better.Tie as tie
 
@@ -44,8 +44,4 @@ returns-4 c =
     (both-no-r (same (fromAt (a .l .now) (a .k)) (pathAt (a .here .now) (a .o))) _ (sym (g .further .ensures) ∙ c .if3 .left))
 
 pub better-spec : {M : Type 1} → statement M
-better-spec =
-    tie.close
-    (tie.spec
-    (λ c κs. search needs) returns (λ c. search needs) (λ c. search needs) order-requires returns-2 (λ c κs. search needs) (λ c. search needs) returns-3
-    returns-4)
+better-spec = tie.close (tie.spec (λ c κs. search needs) returns (λ c. search needs) (λ c. search needs) order-requires returns-2 (λ c κs. search needs) (λ c. search needs) returns-3 returns-4)

@@ -34,7 +34,4 @@ returns-2 c =
     (g .before .if1 .left) (f .reach-place .ensures) (g .reach-place2 .ensures) (c .order2 .ensures)
 
 pub further-spec : {M : Type 1} → statement M
-further-spec =
-    tie.close
-    (tie.spec
-    (λ c κs. search needs) order-requires returns (λ c. search needs) (λ c κs. search needs) order-requires-2 returns-2)
+further-spec = tie.close (tie.spec (λ c κs. search needs) order-requires returns (λ c. search needs) (λ c κs. search needs) order-requires-2 returns-2)

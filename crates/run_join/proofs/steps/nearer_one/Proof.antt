@@ -1,8 +1,7 @@
 -- `nearer_one`: two tests. Assumes nothing.
 use Rattle.model.specs.Kit.{sym, _∙_, _-_, arith, needs, eq-eqb, ne-eqb}
 use Rattle.run_join.specs.Join.{pathAt, fromAt}
-use Rattle.run_join.proofs.Turns.{from-path, after-is, near-first, near-next, stays-first, stays-second, goes}
-use Rattle.run_join.proofs.steps.nearer_one.Statement.{statement}
+use Rattle.run_join.proofs.{Turns.from-path, Turns.after-is, Turns.near-first, Turns.near-next, Turns.stays-first, Turns.stays-second, Turns.goes, steps.nearer_one.Statement.statement}
 use Rattle.run_join.proofs.steps.nearer_one.Tie as tie
 
 order-requires : tie.Need-order-requires
@@ -49,8 +48,6 @@ returns-4 c =
     (sym (near-next (a .l .now) (pathAt (a .here .now) (a .o)) (a .near) (a .k) (g .order2 .result) (g .before .if2 .left) (g .order2 .ensures)) ∙ ne-eqb (g .order2 .result) 1 (c .if3 .left))
 
 pub nearer-one-spec : {M : Type 1} → statement M
-nearer-one-spec =
-    tie.close
-    (tie.spec
-    (λ c. search needs) (λ c. search needs) order-requires returns (λ c. search needs) returns-2 (λ c. search needs) (λ c. search needs) (λ c. search needs)
-    (λ c. search needs) (λ c. search needs) order-requires-2 (λ c. search needs) returns-3 returns-4)
+nearer-one-spec = tie.close (tie.spec
+    (λ c. search needs) (λ c. search needs) order-requires returns (λ c. search needs) returns-2 (λ c. search needs) (λ c. search needs) (λ c. search needs) (λ c. search needs) (λ c. search needs)
+    order-requires-2 (λ c. search needs) returns-3 returns-4)

@@ -4,9 +4,6 @@ use Rattle.run_join.specs.Join.{standPath, nearestOf}
 use Rattle.run_join.proofs.{Turns.start-path, Turns.start-is, Turns.reach-path, Turns.stand-pred, steps.nearest.Statement.statement}
 use Rattle.run_join.proofs.steps.nearest.Tie as tie
 
-nearest-from-requires : tie.Need-nearest-from-requires
-nearest-from-requires c κs = (start-path, c .before .before .before .pre .0)
-
 returns : tie.Need-returns
 returns c =
     let t = c .before .before in
@@ -30,7 +27,4 @@ returns-2 c =
     )
 
 pub nearest-spec : {M : Type 1} → statement M
-nearest-spec =
-    tie.close
-    (tie.spec
-    (λ c. search needs) nearest-from-requires returns (λ c. search needs) (λ c κs. search needs) nearest-from-requires-2 returns-2)
+nearest-spec = tie.close (tie.spec (λ c. search needs) (λ c κs. (start-path, c .before .before .before .pre .0)) returns (λ c. search needs) (λ c κs. search needs) nearest-from-requires-2 returns-2)

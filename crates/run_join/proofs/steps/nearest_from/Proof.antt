@@ -20,12 +20,6 @@ nearer-one-requires c κs =
     let s = l .before .before .before in
     record { path = s .pre .0; heads = s .pre .1; earlier = l .loop .inv .2; inside = c .loop-test .taken }
 
-add-k : tie.Need-add-k Inv-loop μ-loop
-add-k c = omega arith
-
-loop-less : tie.Need-loop-less Inv-loop μ-loop
-loop-less c = omega arith
-
 loop-again : tie.Need-loop-again Inv-loop μ-loop
 loop-again c =
     let l = c .before .before in
@@ -45,7 +39,4 @@ returns c =
     (l .loop .inv .1 ∙ ap (nearestOf (a .l .now) (pathAt (a .here .now) (a .o))) e, omega arith)
 
 pub nearest-from-spec : {M : Type 1} → statement M
-nearest-from-spec =
-    tie.close
-    (tie.spec
-    Inv-loop μ-loop loop-holds nearer-one-requires add-k loop-less loop-again returns)
+nearest-from-spec = tie.close (tie.spec Inv-loop μ-loop loop-holds nearer-one-requires (λ c. omega arith) (λ c. omega arith) loop-again returns)

@@ -10,7 +10,4 @@ returns-2 : tie.Need-returns-2
 returns-2 c = let f = c .before in let a = f .before .before .args in place-last (a .l .now) (a .k) (f .four-at .result) (f .four-at .ensures .0) (c .if1 .left)
 
 pub reach-place-spec : {M : Type 1} → statement M
-reach-place-spec =
-    tie.close
-    (tie.spec
-    (λ c. search needs) (λ c κs. search needs) (λ c. search needs) (λ c. search needs) returns (λ c. search needs) (λ c. search needs) returns-2)
+reach-place-spec = tie.close (tie.spec (λ c. search needs) (λ c κs. search needs) (λ c. search needs) (λ c. search needs) returns (λ c. search needs) (λ c. search needs) returns-2)

@@ -7,9 +7,6 @@ use Rattle.run_join.proofs.steps.step.Tie as tie
 returns : tie.Need-returns
 returns c = let f = c .before in let a = f .before .before .args in (step-end (a .l .now) (a .stand) (sym (f .at-end .ensures) ∙ c .if1 .taken), omega arith)
 
-best-from-requires : tie.Need-best-from-requires
-best-from-requires c κs = let s = c .before .before .before .before .before in (start-path, s .pre .0, s .pre .3)
-
 returns-2 : tie.Need-returns-2
 returns-2 c =
     let t = c .before .before in
@@ -41,7 +38,6 @@ returns-3 c =
     )
 
 pub step-spec : {M : Type 1} → statement M
-step-spec =
-    tie.close
-    (tie.spec
-    (λ c κs. search needs) returns (λ c. search needs) best-from-requires returns-2 (λ c. search needs) (λ c κs. search needs) best-from-requires-2 returns-3)
+step-spec = tie.close (tie.spec
+    (λ c κs. search needs) returns (λ c. search needs) (λ c κs. let s = c .before .before .before .before .before in (start-path, s .pre .0, s .pre .3)) returns-2 (λ c. search needs)
+    (λ c κs. search needs) best-from-requires-2 returns-3)

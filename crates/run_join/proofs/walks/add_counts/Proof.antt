@@ -13,45 +13,12 @@ abbrev μ-loop : tie.MeasureT-loop
 loop-holds : tie.Need-loop-holds Inv-loop μ-loop
 loop-holds c = (omega arith, (search needs, λ x h. absurd (omega arith), λ x h. absurd (omega arith), λ x h. refl))
 
-mul-sums : tie.Need-mul-sums Inv-loop μ-loop
-mul-sums c = omega arith
-
-array-read-sums : tie.Need-array-read-sums Inv-loop μ-loop
-array-read-sums c = search needs
-
-mul-four-at : tie.Need-mul-four-at Inv-loop μ-loop
-mul-four-at c = omega arith
-
-add-four-at : tie.Need-add-four-at Inv-loop μ-loop
-add-four-at c = omega arith
-
-mul-four-at-2 : tie.Need-mul-four-at-2 Inv-loop μ-loop
-mul-four-at-2 c = omega arith
-
-add-four-at-2 : tie.Need-add-four-at-2 Inv-loop μ-loop
-add-four-at-2 c = omega arith
-
-four-at-requires : tie.Need-four-at-requires Inv-loop μ-loop
-four-at-requires c κs = search needs
-
 add-sums : tie.Need-add-sums Inv-loop μ-loop
 unfolding at
 add-sums c =
     let l = c .before .before in
     let s = l .before .before in
     omega (arith, c .four-at .ensures .1, s .pre .1 (l .loop .i) (c .before .loop-test .taken), l .loop .inv .1 .3 (l .loop .i) (omega arith))
-
-mul-sums-2 : tie.Need-mul-sums-2 Inv-loop μ-loop
-mul-sums-2 c = omega arith
-
-array-write-sums : tie.Need-array-write-sums Inv-loop μ-loop
-array-write-sums c = search needs
-
-add-i : tie.Need-add-i Inv-loop μ-loop
-add-i c = omega arith
-
-loop-less : tie.Need-loop-less Inv-loop μ-loop
-loop-less c = omega arith
 
 loop-again : tie.Need-loop-again Inv-loop μ-loop
 unfolding at
@@ -69,8 +36,6 @@ returns c =
     record { each = λ x h. l .loop .inv .1 .1 x (omega arith); few = λ x h. l .loop .inv .1 .2 x (omega arith) }
 
 pub add-counts-spec : {M : Type 1} → statement M
-add-counts-spec =
-    tie.close
-    (tie.spec
-    Inv-loop μ-loop loop-holds mul-sums array-read-sums mul-four-at add-four-at mul-four-at-2 add-four-at-2 four-at-requires add-sums mul-sums-2
-    array-write-sums add-i loop-less loop-again returns)
+add-counts-spec = tie.close (tie.spec
+    Inv-loop μ-loop loop-holds (λ c. omega arith) (λ c. search needs) (λ c. omega arith) (λ c. omega arith) (λ c. omega arith) (λ c. omega arith) (λ c κs. search needs) add-sums (λ c. omega arith)
+    (λ c. search needs) (λ c. omega arith) (λ c. omega arith) loop-again returns)

@@ -12,9 +12,6 @@ abbrev μ-loop : tie.MeasureT-loop
 loop-holds : tie.Need-loop-holds Inv-loop μ-loop
 loop-holds c = let s = c .before in (omega arith, underway (s .args .l .now) (s .args .n) (s .pre .1))
 
-step-requires : tie.Need-step-requires Inv-loop μ-loop
-step-requires c κs = let l = c .before in let s = l .before .before in (s .pre .0, s .pre .1, l .loop .inv .1 .inside, s .pre .2)
-
 returns : tie.Need-returns Inv-loop μ-loop
 returns c =
     let f = c .before in
@@ -23,9 +20,6 @@ returns c =
     let w = l .loop .w in
     summed (s .args .l .now) (s .args .n) (l .loop .j) (w .stand) (w .plans) (w .nodes) (w .counts) (l .loop .inv .1) (s .pre .1)
     (taken-stop (s .args .l .now) (s .args .n - l .loop .j) (w .stand) (sym (f .step .ensures .0) ∙ c .if1 .taken))
-
-sub-with-head : tie.Need-sub-with-head Inv-loop μ-loop
-sub-with-head c = search needs
 
 with-head-requires : tie.Need-with-head-requires Inv-loop μ-loop
 with-head-requires c κs =
@@ -36,12 +30,6 @@ with-head-requires c κs =
       omega (arith, s .pre .0 .fits, f .step .ensures .1, c .if1 .left),
       record { plans = omega (arith, u .fewPlans, s .pre .0 .few); nodes = omega (arith, u .fewNodes, s .pre .0 .few); counts = λ x h. omega (arith, u .few x h, s .pre .0 .few) },
     )
-
-add-j : tie.Need-add-j Inv-loop μ-loop
-add-j c = omega arith
-
-loop-less : tie.Need-loop-less Inv-loop μ-loop
-loop-less c = omega arith
 
 loop-again : tie.Need-loop-again Inv-loop μ-loop
 loop-again c =
@@ -64,7 +52,6 @@ returns-2 c =
     (none-left (s .args .l .now) (s .args .n) (l .loop .j) (w .stand) (c .loop-test .left))
 
 pub walk-spec : {M : Type 1} → statement M
-walk-spec =
-    tie.close
-    (tie.spec
-    Inv-loop μ-loop loop-holds step-requires returns sub-with-head with-head-requires add-j loop-less loop-again returns-2)
+walk-spec = tie.close (tie.spec
+    Inv-loop μ-loop loop-holds (λ c κs. let l = c .before in let s = l .before .before in (s .pre .0, s .pre .1, l .loop .inv .1 .inside, s .pre .2)) returns (λ c. search needs) with-head-requires
+    (λ c. omega arith) (λ c. omega arith) loop-again returns-2)

@@ -14,21 +14,12 @@ abbrev μ-loop : tie.MeasureT-loop
 loop-holds : tie.Need-loop-holds Inv-loop μ-loop
 loop-holds c = (omega arith, λ j h. absurd (omega arith))
 
-is-first-requires : tie.Need-is-first-requires Inv-loop μ-loop
-is-first-requires c κs = (c .before .before .before .pre, omega arith)
-
 returns : tie.Need-returns Inv-loop μ-loop
 returns c =
     let f = c .before in
     let l = f .before .before in
     let a = l .before .before .args in
     first-one _ (a .n) (l .loop .k) (f .before .loop-test .taken) (sym (f .is-first .ensures) ∙ c .if1 .taken)
-
-add-k : tie.Need-add-k Inv-loop μ-loop
-add-k c = omega arith
-
-loop-less : tie.Need-loop-less Inv-loop μ-loop
-loop-less c = omega arith
 
 loop-again : tie.Need-loop-again Inv-loop μ-loop
 loop-again c = let f = c .before in (omega arith, below-more _ _ (f .before .before .loop .inv .1) (sym (f .is-first .ensures) ∙ c .if1 .left))
@@ -40,7 +31,4 @@ returns-2 c =
     first-none _ (a .n) (l .loop .k) (omega arith) (l .loop .inv .1)
 
 pub any-first-spec : {M : Type 1} → statement M
-any-first-spec =
-    tie.close
-    (tie.spec
-    Inv-loop μ-loop loop-holds is-first-requires returns add-k loop-less loop-again returns-2)
+any-first-spec = tie.close (tie.spec Inv-loop μ-loop loop-holds (λ c κs. (c .before .before .before .pre, omega arith)) returns (λ c. omega arith) (λ c. omega arith) loop-again returns-2)

@@ -1,8 +1,7 @@
 -- `comes_to`: two tests. Assumes nothing.
 use Rattle.model.specs.Kit.{needs}
 use Rattle.run_join.specs.Join.{pathAt, fromAt}
-use Rattle.run_join.proofs.{Turns.from-path, Turns.reach-path, Turns.is-same, Turns.not-same, Turns.after-is, Leads.comes-no, Leads.comes-yes}
-use Rattle.run_join.proofs.ways.comes_to.Statement.{statement}
+use Rattle.run_join.proofs.{Turns.from-path, Turns.reach-path, Turns.is-same, Turns.not-same, Turns.after-is, Leads.comes-no, Leads.comes-yes, ways.comes_to.Statement.statement}
 use Rattle.run_join.proofs.ways.comes_to.Tie as tie
 
 order-requires : tie.Need-order-requires
@@ -37,7 +36,4 @@ returns-2 c =
     (after-is (fromAt (a .l .now) (a .k)) (pathAt (a .l .now) q) (c .order2 .result) (c .order2 .ensures))
 
 pub comes-to-spec : {M : Type 1} → statement M
-comes-to-spec =
-    tie.close
-    (tie.spec
-    (λ c κs. search needs) order-requires returns (λ c. search needs) (λ c. search needs) order-requires-2 returns-2)
+comes-to-spec = tie.close (tie.spec (λ c κs. search needs) order-requires returns (λ c. search needs) (λ c. search needs) order-requires-2 returns-2)

@@ -19,7 +19,4 @@ returns-2 c =
     ways-no l (s .args .n) (s .pre .1) _ (c .mark-all .ensures) (sym (ways-joined l (s .args .n) (s .pre .1) _ (m .mark-leading .ensures)) ∙ sym (e .before .any-first .ensures) ∙ e .if1 .left)
 
 pub find-ways-spec : {M : Type 1} → statement M
-find-ways-spec =
-    tie.close
-    (tie.spec
-    (λ c κs. search needs) (λ c κs. search needs) returns (λ c κs. search needs) returns-2)
+find-ways-spec = tie.close (tie.spec (λ c κs. search needs) (λ c κs. search needs) returns (λ c κs. search needs) returns-2)

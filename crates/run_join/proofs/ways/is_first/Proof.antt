@@ -19,7 +19,4 @@ returns-2 c =
     sym (ap (λ (x : Bool). both x (same (fromAt (a .l .now) (a .k)) [])) (sym (f .is-marked .ensures) ∙ c .if1 .left))
 
 pub is-first-spec : {M : Type 1} → statement M
-is-first-spec =
-    tie.close
-    (tie.spec
-    (λ c κs. search needs) (λ c. search needs) (λ c. search needs) (λ c. search needs) (λ c κs. search needs) returns returns-2)
+is-first-spec = tie.close (tie.spec (λ c κs. search needs) (λ c. search needs) (λ c. search needs) (λ c. search needs) (λ c κs. search needs) returns returns-2)

@@ -13,18 +13,6 @@ abbrev μ-loop : tie.MeasureT-loop
 loop-holds : tie.Need-loop-holds Inv-loop μ-loop
 loop-holds c = (omega arith, back-none _ _ _ (c .before .before .pre .2))
 
-comes-to-requires : tie.Need-comes-to-requires Inv-loop μ-loop
-comes-to-requires c κs = let l = c .before in let s = l .before .before .before in record { path = s .pre .0; heads = s .pre .1; earlier = omega arith; inside = c .loop-test .taken }
-
-mark-requires : tie.Need-mark-requires Inv-loop μ-loop
-mark-requires c κs = let l = c .before .before .before .before in let s = l .before .before .before in (l .loop .inv .1 .0, omega (arith, s .pre .1 .few))
-
-add-k : tie.Need-add-k Inv-loop μ-loop
-add-k c = omega arith
-
-loop-less : tie.Need-loop-less Inv-loop μ-loop
-loop-less c = omega arith
-
 loop-again : tie.Need-loop-again Inv-loop μ-loop
 loop-again c =
     let f = c .before in
@@ -44,7 +32,7 @@ returns : tie.Need-returns Inv-loop μ-loop
 returns c = let l = c .before in back-all _ _ _ (l .loop .k) _ _ (omega arith) (l .loop .inv .1)
 
 pub mark-back-spec : {M : Type 1} → statement M
-mark-back-spec =
-    tie.close
-    (tie.spec
-    Inv-loop μ-loop loop-holds comes-to-requires mark-requires add-k loop-less loop-again returns)
+mark-back-spec = tie.close (tie.spec
+    Inv-loop μ-loop loop-holds (λ c κs. let l = c .before in let s = l .before .before .before in record { path = s .pre .0; heads = s .pre .1; earlier = omega arith; inside = c .loop-test .taken })
+    (λ c κs. let l = c .before .before .before .before in let s = l .before .before .before in (l .loop .inv .1 .0, omega (arith, s .pre .1 .few))) (λ c. omega arith) (λ c. omega arith) loop-again
+    returns)

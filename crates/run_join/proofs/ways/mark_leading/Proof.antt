@@ -1,8 +1,8 @@
 -- `mark_leading`: what is marked leads, and what is done is done. Assumes nothing.
 use Rattle.model.specs.Kit.{_-_, arith, needs}
 use Rattle.run_join.specs.inner.Inner.{Pending}
-use Rattle.run_join.proofs.{Leads.Marking, Leads.left, Leads.marking-begin, Leads.marking-inside, Leads.marking-turn, Leads.marking-end, Leads.fewer-left, Turns.from-path}
-use Rattle.run_join.proofs.{Turns.end-path, Turns.end-is, Bits.marked-none, ways.mark_leading.Statement.statement}
+use Rattle.run_join.proofs.Leads.{Marking, left, marking-begin, marking-inside, marking-turn, marking-end, fewer-left}
+use Rattle.run_join.proofs.{Turns.from-path, Turns.end-path, Turns.end-is, Bits.marked-none, ways.mark_leading.Statement.statement}
 use Rattle.run_join.proofs.ways.mark_leading.Tie as tie
 
 abbrev Inv-loop : tie.InvT-loop
@@ -11,38 +11,17 @@ Inv-loop l n marks₀ done₀ next₀ marks done next = Marking l n marks done �
 abbrev μ-loop : tie.MeasureT-loop
 μ-loop l n marks₀ done₀ next₀ marks done next = left n done
 
-slice-aggregate-mark-back : tie.Need-slice-aggregate-mark-back Inv-loop μ-loop
-slice-aggregate-mark-back c = search needs
-
-mark-back-requires : tie.Need-mark-back-requires Inv-loop μ-loop
-mark-back-requires c κs = let s = c .before .before .before in (end-path, s .pre .0, s .pre .2 .long)
-
-pending-requires : tie.Need-pending-requires Inv-loop μ-loop
-pending-requires c κs = c .before .before .before .before .before .before .pre .0 .few
-
 loop-holds : tie.Need-loop-holds Inv-loop μ-loop
 loop-holds c =
     let f = c .before .before .before in
     let s = c .before .before .before .before .before .before .before in
     (marking-begin (s .args .l .now) (s .args .n) (s .pre .1) _ (s .args .marks .now) _ _ end-is (s .pre .2) (f .mark-back .ensures) marked-none, c .pending .ensures)
 
-sub-mark : tie.Need-sub-mark Inv-loop μ-loop
-sub-mark c = omega arith
-
 mark-requires : tie.Need-mark-requires Inv-loop μ-loop
 mark-requires c κs =
     let l = c .before .before in
     let s = l .before .before .before .before .before .before .before .before in
     (l .loop .inv .0 .wide, omega (arith, s .pre .0 .few, l .loop .inv .1 .few))
-
-sub-mark-back : tie.Need-sub-mark-back Inv-loop μ-loop
-sub-mark-back c = omega arith
-
-mul-mark-back : tie.Need-mul-mark-back Inv-loop μ-loop
-mul-mark-back c = let l = c .before .before .before in let s = l .before .before .before .before .before .before .before .before in omega (arith, s .pre .0 .few, l .loop .inv .1 .few)
-
-add-mark-back : tie.Need-add-mark-back Inv-loop μ-loop
-add-mark-back c = let l = c .before .before .before in let s = l .before .before .before .before .before .before .before .before in omega (arith, s .pre .0 .few, l .loop .inv .1 .few)
 
 mark-back-requires-2 : tie.Need-mark-back-requires-2 Inv-loop μ-loop
 mark-back-requires-2 c κs =
@@ -51,9 +30,6 @@ mark-back-requires-2 c κs =
     let i = marking-inside (s .args .l .now) (s .args .n) (s .pre .1) (l .loop .marks) (l .loop .done) (l .loop .inv .0) (l .loop .next) (l .loop .inv .1)
     (c .before .before .before .loop-test .taken) in
     (from-path (s .args .l .now) (s .args .n) (l .loop .next - 1) (s .pre .0) i, s .pre .0, l .loop .inv .0 .long)
-
-pending-requires-2 : tie.Need-pending-requires-2 Inv-loop μ-loop
-pending-requires-2 c κs = c .before .before .before .before .before .before .before .before .before .before .before .before .before .before .before .pre .0 .few
 
 loop-less : tie.Need-loop-less Inv-loop μ-loop
 loop-less c =
@@ -79,8 +55,9 @@ returns c =
     marking-end (s .args .l .now) (s .args .n) (s .pre .1) (l .loop .marks) (l .loop .done) (l .loop .inv .0) (l .loop .next) (l .loop .inv .1) (c .loop-test .left)
 
 pub mark-leading-spec : {M : Type 1} → statement M
-mark-leading-spec =
-    tie.close
-    (tie.spec
-    Inv-loop μ-loop slice-aggregate-mark-back mark-back-requires pending-requires loop-holds sub-mark mark-requires sub-mark-back mul-mark-back add-mark-back
-    mark-back-requires-2 pending-requires-2 loop-less loop-again returns)
+mark-leading-spec = tie.close (tie.spec
+    Inv-loop μ-loop (λ c. search needs) (λ c κs. let s = c .before .before .before in (end-path, s .pre .0, s .pre .2 .long)) (λ c κs. c .before .before .before .before .before .before .pre .0 .few)
+    loop-holds (λ c. omega arith) mark-requires (λ c. omega arith)
+    (λ c. let l = c .before .before .before in let s = l .before .before .before .before .before .before .before .before in omega (arith, s .pre .0 .few, l .loop .inv .1 .few))
+    (λ c. let l = c .before .before .before in let s = l .before .before .before .before .before .before .before .before in omega (arith, s .pre .0 .few, l .loop .inv .1 .few)) mark-back-requires-2
+    (λ c κs. c .before .before .before .before .before .before .before .before .before .before .before .before .before .before .before .pre .0 .few) loop-less loop-again returns)

@@ -27,16 +27,10 @@ constraint-requires c κs =
           (arith, e, c .before .before .before .before .before .pre .0 .constraints, c .before .before .loop-test .taken),
     )
 
-enum-known-step : tie.Need-enum-known-step Inv-loop μ-loop
-enum-known-step c = c .match .keys1
-
 returns : tie.Need-returns Inv-loop μ-loop
 returns c = constraints-no _ _ _ _ _ _ _ _ (c .before .before .before .before .before .before .before .loop .inv .1) (c .before .before .before .before .before .before .loop-test .taken) _ _ _ _
     (ap (λ (x : Numbers). x .constraints) (c .before .before .before .before .before .before .before .before .before .pre .1)) (c .before .step .given .1)
     (c .before .before .before .constraint .ensures)
-
-enum-known-step-2 : tie.Need-enum-known-step-2 Inv-loop μ-loop
-enum-known-step-2 c = c .match .keys2
 
 add-k : tie.Need-add-k Inv-loop μ-loop
 add-k c = omega (
@@ -46,9 +40,6 @@ add-k c = omega (
       (c .before .before .before .before .before .before .before .before .before .pre .1),
   c .before .before .before .before .before .before .before .before .before .pre .0 .constraints,
 )
-
-loop-less : tie.Need-loop-less Inv-loop μ-loop
-loop-less c = omega (arith, c .before .before .before .before .before .before .loop-test .taken)
 
 loop-again : tie.Need-loop-again Inv-loop μ-loop
 loop-again c = (
@@ -68,7 +59,6 @@ returns-3 c = constraints-end _ _ _ _ _ _ _ _ (c .before .before .before .loop .
     (ap (λ (x : Numbers). x .constraints) (c .before .before .before .before .before .pre .1)) _ (ap (λ (x : Numbers). x .third) (c .before .before .before .before .before .pre .1)) (c .if1 .left)
 
 pub ask-spec : {M : Type 1} → statement M
-ask-spec =
-    tie.close
-    (tie.spec
-    Inv-loop μ-loop loop-holds constraint-requires enum-known-step returns enum-known-step-2 add-k loop-less loop-again returns-2 returns-3)
+ask-spec = tie.close (tie.spec
+    Inv-loop μ-loop loop-holds constraint-requires (λ c. c .match .keys1) returns (λ c. c .match .keys2) add-k
+    (λ c. omega (arith, c .before .before .before .before .before .before .loop-test .taken)) loop-again returns-2 returns-3)

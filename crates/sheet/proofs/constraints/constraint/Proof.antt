@@ -10,9 +10,6 @@ returns-2 : tie.Need-returns-2
 returns-2 c = refused-10 _ _ _ _ _ _ _ _ (c .before .before .before .before .before .before .pre .3) (c .before .before .before .before .if1 .left) _ _
     (c .before .before .before .read-word .ensures) (c .before .before .read-word2 .ensures) _ (c .before .counts-fit .ensures) (not-true _ (c .if2 .taken))
 
-mul-from : tie.Need-mul-from
-mul-from c = omega (arith, few (c .before .before .before .read-word .result) (c .before .before .read-word2 .result) _ (c .before .counts-fit .ensures) (not-false _ (c .if2 .left)))
-
 add-from-2 : tie.Need-add-from-2
 add-from-2 c = omega (
   arith,
@@ -79,9 +76,6 @@ returns-4 c = refused-11 _ _ _ _ _ _ _ _ (c .before .before .before .before .bef
     (not-false _ (c .before .before .before .before .if2 .left)) (c .before .before .before .if3 .left) _
     (c .before .before .before .before .before .before .before .before .before .before .pre .1) _ (c .before .scope .ensures) (not-true _ (c .if4 .taken))
 
-mul-ask : tie.Need-mul-ask
-mul-ask c = omega (arith, c .before .before .before .before .before .before .before .before .before .before .pre .5)
-
 ask-requires : tie.Need-ask-requires
 ask-requires c κs =
     let f = few (c .before .before .before .before .before .before .before .before .read-word .result) (c .before .before .before .before .before .before .before .read-word2 .result) _
@@ -123,8 +117,8 @@ returns-6 c =
     (omega (arith, c10 .before .before .before .pre .2, c10 .before .before .before .pre .0 .sixteen)) _ (c .before .ask .ensures) (c .if5 .left)
 
 pub constraint-spec : {M : Type 1} → statement M
-constraint-spec =
-    tie.close
-    (tie.spec
-    (λ c. search needs) returns (λ c κs. search needs) (λ c. search needs) (λ c κs. search needs) (λ c κs. search needs) returns-2 (λ c. search needs) mul-from
-    add-from-2 mul-next mul-next-2 add-next returns-3 (λ c. search needs) scope-requires returns-4 mul-ask ask-requires returns-5 returns-6)
+constraint-spec = tie.close (tie.spec
+    (λ c. search needs) returns (λ c κs. search needs) (λ c. search needs) (λ c κs. search needs) (λ c κs. search needs) returns-2 (λ c. search needs)
+    (λ c. omega (arith, few (c .before .before .before .read-word .result) (c .before .before .read-word2 .result) _ (c .before .counts-fit .ensures) (not-false _ (c .if2 .left)))) add-from-2
+    mul-next mul-next-2 add-next returns-3 (λ c. search needs) scope-requires returns-4
+    (λ c. omega (arith, c .before .before .before .before .before .before .before .before .before .before .pre .5)) ask-requires returns-5 returns-6)

@@ -12,15 +12,6 @@ abbrev μ-loop : tie.MeasureT-loop
 loop-holds : tie.Need-loop-holds Inv-loop μ-loop
 loop-holds c = (omega arith, scope-none _ _ _ _ _ _ (c .before .pre .1))
 
-mul-read-word : tie.Need-mul-read-word Inv-loop μ-loop
-mul-read-word c = omega (arith, c .loop-test .taken, c .before .before .before .pre .1)
-
-add-read-word : tie.Need-add-read-word Inv-loop μ-loop
-add-read-word c = omega (arith, c .loop-test .taken, c .before .before .before .pre .4, c .before .before .before .good)
-
-read-word-requires : tie.Need-read-word-requires Inv-loop μ-loop
-read-word-requires c κs = omega (arith, c .loop-test .taken, c .before .before .before .pre .4)
-
 returns : tie.Need-returns Inv-loop μ-loop
 returns c = scope-low _ _ _ _ _ _ _ _ _ _ _ (c .before .before .before .loop .inv .1) _ (c .before .read-word .ensures) (c .before .before .loop-test .taken) (c .if1 .taken)
 
@@ -60,15 +51,6 @@ mul-unit c = omega (
       (c .before .before .before .before .before .before .loop .inv .1 .power),
 )
 
-add-least : tie.Need-add-least Inv-loop μ-loop
-add-least c = omega (arith, c .before .before .if2 .left, c .before .before .before .before .before .before .before .before .pre .2)
-
-add-i : tie.Need-add-i Inv-loop μ-loop
-add-i c = omega (arith, c .before .before .before .before .before .loop-test .taken, c .before .before .before .before .before .before .before .before .pre .1)
-
-loop-less : tie.Need-loop-less Inv-loop μ-loop
-loop-less c = omega (arith, c .before .before .before .before .before .loop-test .taken)
-
 loop-again : tie.Need-loop-again Inv-loop μ-loop
 loop-again c = (
   omega (arith, c .before .before .before .before .before .loop-test .taken),
@@ -77,21 +59,14 @@ loop-again c = (
       (c .before .before .before .before .before .before .before .before .pre .2),
 )
 
-add-numbers : tie.Need-add-numbers Inv-loop μ-loop
-add-numbers c = omega (arith, c .before .before .before .pre .3)
-
-mul-numbers : tie.Need-mul-numbers Inv-loop μ-loop
-mul-numbers c = omega (arith, c .before .before .before .pre .3)
-
-element-write-numbers : tie.Need-element-write-numbers Inv-loop μ-loop
-element-write-numbers c = omega (arith, c .before .before .before .pre .3)
-
 returns-3 : tie.Need-returns-3 Inv-loop μ-loop
 returns-3 c = scope-end _ _ _ _ _ _ _ _ _ _ _ (c .before .loop .inv .1) (c .loop-test .left) (c .before .loop .inv .0)
 
 pub scope-spec : {M : Type 1} → statement M
-scope-spec =
-    tie.close
-    (tie.spec
-    Inv-loop μ-loop loop-holds mul-read-word add-read-word read-word-requires returns returns-2 touch-requires mul-packed add-packed mul-unit add-least add-i
-    loop-less loop-again add-numbers mul-numbers element-write-numbers returns-3)
+scope-spec = tie.close (tie.spec
+    Inv-loop μ-loop loop-holds (λ c. omega (arith, c .loop-test .taken, c .before .before .before .pre .1))
+    (λ c. omega (arith, c .loop-test .taken, c .before .before .before .pre .4, c .before .before .before .good)) (λ c κs. omega (arith, c .loop-test .taken, c .before .before .before .pre .4))
+    returns returns-2 touch-requires mul-packed add-packed mul-unit (λ c. omega (arith, c .before .before .if2 .left, c .before .before .before .before .before .before .before .before .pre .2))
+    (λ c. omega (arith, c .before .before .before .before .before .loop-test .taken, c .before .before .before .before .before .before .before .before .pre .1))
+    (λ c. omega (arith, c .before .before .before .before .before .loop-test .taken)) loop-again (λ c. omega (arith, c .before .before .before .pre .3))
+    (λ c. omega (arith, c .before .before .before .pre .3)) (λ c. omega (arith, c .before .before .before .pre .3)) returns-3)

@@ -6,7 +6,4 @@ returns : tie.Need-returns
 returns c = touch-is _ _ _ (omega (arith, c .before .pre .0))
 
 pub touch-spec : {M : Type 1} → statement M
-touch-spec =
-    tie.close
-    (tie.spec
-    (λ c. search needs) (λ c. search needs) (λ c. search needs) (λ c. search needs) (λ c. search needs) returns)
+touch-spec = tie.close (tie.spec (λ c. search needs) (λ c. search needs) (λ c. search needs) (λ c. search needs) (λ c. search needs) returns)

@@ -1,8 +1,8 @@
 use Rattle.model.specs.Kit.{ap, arith, not-true, not-false, now, needs}
 use Rattle.model.specs.Sheet.{Header as Numbers}
 use Rattle.sheet.specs.{Meaning.Answers, inner.Parts.headerAsked}
-use Rattle.sheet.proofs.{Asking.heading, FormTurn.fit-of, FormTurn.form-heading, FormTurn.form-sets, FormTurn.form-constraints, FormTurn.form-length, FormTurn.form-whole}
-use Rattle.sheet.proofs.form.ask.Statement.{statement}
+use Rattle.sheet.proofs.FormTurn.{fit-of, form-heading, form-sets, form-constraints, form-length, form-whole}
+use Rattle.sheet.proofs.{Asking.heading, form.ask.Statement.statement}
 use Rattle.sheet.proofs.form.ask.Tie as tie
 
 -- the header as read is the sheet's
@@ -67,8 +67,6 @@ returns-5 c =
     (c10 .before .before .before .before .before .before .before .pre .3) (c .store-counts .ensures)
 
 pub ask-spec : {M : Type 1} → statement M
-ask-spec =
-    tie.close
-    (tie.spec
-    (λ c κs. search needs) (λ c. search needs) (λ c. search needs) returns ask-requires-2 (λ c. search needs) (λ c. search needs) returns-2 ask-requires-3
-    (λ c. search needs) (λ c. search needs) returns-3 tables-fit-requires returns-4 (λ c κs. search needs) returns-5)
+ask-spec = tie.close (tie.spec
+    (λ c κs. search needs) (λ c. search needs) (λ c. search needs) returns ask-requires-2 (λ c. search needs) (λ c. search needs) returns-2 ask-requires-3 (λ c. search needs) (λ c. search needs)
+    returns-3 tables-fit-requires returns-4 (λ c κs. search needs) returns-5)

@@ -13,7 +13,4 @@ returns-3 : tie.Need-returns-3
 returns-3 c = read-no _ _ _ _ _ _ (c .before .answer .given .1) (c .before .before .before .ask .ensures)
 
 pub read-spec : {M : Type 1} → statement M
-read-spec =
-    tie.close
-    (tie.spec
-    returns (λ c κs. search needs) (λ c κs. search needs) (λ c. search needs) (λ c. search needs) returns-2 returns-3)
+read-spec = tie.close (tie.spec returns (λ c κs. search needs) (λ c κs. search needs) (λ c. search needs) (λ c. search needs) returns-2 returns-3)

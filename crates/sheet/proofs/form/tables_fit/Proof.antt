@@ -2,9 +2,6 @@ use Rattle.model.specs.Kit.{arith, needs}
 use Rattle.sheet.proofs.{FormTurn.tables-room, FormTurn.pair-room, form.tables_fit.Statement.statement}
 use Rattle.sheet.proofs.form.tables_fit.Tie as tie
 
-mul-result : tie.Need-mul-result
-mul-result c = omega (arith, pair-room (c .before .args .h .variables) (c .before .args .h .values) (c .before .pre .0) (c .before .pre .1))
-
 mul-result-2 : tie.Need-mul-result-2
 mul-result-2 c = omega (
   arith,
@@ -31,4 +28,5 @@ returns : tie.Need-returns
 returns c = search needs
 
 pub tables-fit-spec : {M : Type 1} → statement M
-tables-fit-spec = tie.close (tie.spec mul-result mul-result-2 mul-result-3 add-result returns)
+tables-fit-spec = tie.close (tie.spec
+    (λ c. omega (arith, pair-room (c .before .args .h .variables) (c .before .args .h .values) (c .before .pre .0) (c .before .pre .1))) mul-result-2 mul-result-3 add-result returns)

@@ -58,7 +58,4 @@ returns-7 c later = pass _ _ _ _ _ (le-leb _ _ (c .before .before .before .befor
     (pass _ _ _ _ _ (sym (c .before .offsets-fit .ensures) ∙ not-false _ (c .if6 .left)) refl))))))
 
 pub ask-spec : {M : Type 1} → statement M
-ask-spec =
-    tie.close
-    (tie.spec
-    (λ c κs. search needs) returns (λ c κs. search needs) returns-2 returns-3 returns-4 returns-5 offsets-fit-requires returns-6 returns-7)
+ask-spec = tie.close (tie.spec (λ c κs. search needs) returns (λ c κs. search needs) returns-2 returns-3 returns-4 returns-5 offsets-fit-requires returns-6 returns-7)

@@ -12,7 +12,4 @@ returns-3 : tie.Need-returns-3
 returns-3 c = simp (eq-eqb _ _ (c .before .before .before .before .if1 .left), eq-eqb _ _ (c .before .if2 .left)) (c .within .ensures)
 
 pub offsets-fit-spec : {M : Type 1} → statement M
-offsets-fit-spec =
-    tie.close
-    (tie.spec
-    returns (λ c. search needs) (λ c. search needs) returns-2 (λ c κs. search needs) returns-3)
+offsets-fit-spec = tie.close (tie.spec returns (λ c. search needs) (λ c. search needs) returns-2 (λ c κs. search needs) returns-3)

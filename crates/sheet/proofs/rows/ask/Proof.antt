@@ -19,18 +19,6 @@ key-requires c κs =
 returns : tie.Need-returns Inv-loop μ-loop
 returns c = row-bad _ _ _ _ _ _ _ _ _ _ _ (c .before .before .before .loop .inv .1) _ _ (c .if1 .taken) (c .before .before .loop-test .taken) (c .before .key .ensures)
 
-ordered-requires : tie.Need-ordered-requires Inv-loop μ-loop
-ordered-requires c κs = tt
-
-add-least : tie.Need-add-least Inv-loop μ-loop
-add-least c = omega (arith, c .before .if1 .left)
-
-add-row-requires : tie.Need-add-row-requires Inv-loop μ-loop
-add-row-requires c κs = (c .before .before .if1 .left, c .before .before .before .before .before .before .before .pre .5)
-
-mul-at : tie.Need-mul-at Inv-loop μ-loop
-mul-at c = omega (arith, c .before .before .before .before .before .before .before .before .pre .1)
-
 add-at : tie.Need-add-at Inv-loop μ-loop
 add-at c = omega (
   arith,
@@ -40,12 +28,6 @@ add-at c = omega (
   c .before .before .before .before .before .before .before .before .pre .4,
   c .before .before .before .before .before .before .before .before .good,
 )
-
-add-i : tie.Need-add-i Inv-loop μ-loop
-add-i c = omega (arith, c .before .before .before .before .before .loop-test .taken, c .before .before .before .before .before .before .before .before .pre .2)
-
-loop-less : tie.Need-loop-less Inv-loop μ-loop
-loop-less c = omega (arith, c .before .before .before .before .before .loop-test .taken)
 
 loop-again : tie.Need-loop-again Inv-loop μ-loop
 loop-again c = (
@@ -58,7 +40,9 @@ returns-2 : tie.Need-returns-2 Inv-loop μ-loop
 returns-2 c = rows-end _ _ _ _ _ _ _ _ _ _ _ (c .before .loop .inv .1) _ (c .loop-test .left) (c .before .loop .inv .0)
 
 pub ask-spec : {M : Type 1} → statement M
-ask-spec =
-    tie.close
-    (tie.spec
-    Inv-loop μ-loop loop-holds key-requires returns ordered-requires add-least add-row-requires mul-at add-at add-i loop-less loop-again returns-2)
+ask-spec = tie.close (tie.spec
+    Inv-loop μ-loop loop-holds key-requires returns (λ c κs. tt) (λ c. omega (arith, c .before .if1 .left))
+    (λ c κs. (c .before .before .if1 .left, c .before .before .before .before .before .before .before .pre .5))
+    (λ c. omega (arith, c .before .before .before .before .before .before .before .before .pre .1)) add-at
+    (λ c. omega (arith, c .before .before .before .before .before .loop-test .taken, c .before .before .before .before .before .before .before .before .pre .2))
+    (λ c. omega (arith, c .before .before .before .before .before .loop-test .taken)) loop-again returns-2)

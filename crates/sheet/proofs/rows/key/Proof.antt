@@ -28,8 +28,6 @@ returns-6 c =
     key-three _ _ _ _ (s .pre .2) _ (v .if1 .left) (v .before .read-word .ensures) _ (w .if3 .left) (w .before .read-word2 .ensures) _ (c .if5 .left) (c .before .read-word3 .ensures) three
 
 pub key-spec : {M : Type 1} → statement M
-key-spec =
-    tie.close
-    (tie.spec
-    (λ c κs. search needs) returns returns-2 (λ c. search needs) (λ c κs. search needs) returns-3 (λ c. search needs) (λ c. search needs) returns-4
-    (λ c. search needs) (λ c κs. search needs) returns-5 (λ c. search needs) (λ c. search needs) (λ c. search needs) (λ c. search needs) returns-6)
+key-spec = tie.close (tie.spec
+    (λ c κs. search needs) returns returns-2 (λ c. search needs) (λ c κs. search needs) returns-3 (λ c. search needs) (λ c. search needs) returns-4 (λ c. search needs) (λ c κs. search needs)
+    returns-5 (λ c. search needs) (λ c. search needs) (λ c. search needs) (λ c. search needs) returns-6)

@@ -12,23 +12,8 @@ Inv-loop sheet n d numbers₀ full x₀ numbers x = (x ≤ n) × (full .bits ≡
 abbrev μ-loop : tie.MeasureT-loop
 μ-loop sheet n d numbers₀ full x₀ numbers x = n - x
 
-fill-requires : tie.Need-fill-requires Inv-loop μ-loop
-fill-requires c κs = c .before .before .pre .3
-
-cast-full : tie.Need-cast-full Inv-loop μ-loop
-cast-full c = omega (arith, c .before .before .before .pre .0 .sixteen, c .before .before .before .pre .2)
-
-full-requires : tie.Need-full-requires Inv-loop μ-loop
-full-requires c κs = tt
-
 loop-holds : tie.Need-loop-holds Inv-loop μ-loop
 loop-holds c = (omega arith, c .full .ensures, c .before .fill .ensures .sized ∙ c .before .before .before .before .pre .3, passed-none _ _ _, filled-begin _ _ _)
-
-mul-read-word : tie.Need-mul-read-word Inv-loop μ-loop
-mul-read-word c = omega (arith, c .loop-test .taken, c .before .before .before .before .before .before .pre .0 .few, c .before .before .before .before .before .before .pre .1)
-
-add-read-word : tie.Need-add-read-word Inv-loop μ-loop
-add-read-word c = omega (arith, c .loop-test .taken, c .before .before .before .before .before .before .pre .0 .few, c .before .before .before .before .before .before .pre .1)
 
 read-word-requires : tie.Need-read-word-requires Inv-loop μ-loop
 read-word-requires c κs = omega (
@@ -38,9 +23,6 @@ read-word-requires c κs = omega (
   c .before .before .before .before .before .before .pre .0 .ordered,
   c .before .before .before .before .before .before .pre .0 .third,
 )
-
-is-set-requires : tie.Need-is-set-requires Inv-loop μ-loop
-is-set-requires c κs = tt
 
 returns : tie.Need-returns Inv-loop μ-loop
 returns c =
@@ -86,9 +68,6 @@ add-x c = omega (
   c .before .before .before .before .before .before .before .before .before .pre .1,
 )
 
-loop-less : tie.Need-loop-less Inv-loop μ-loop
-loop-less c = omega (arith, c .before .before .before .loop-test .taken)
-
 loop-again : tie.Need-loop-again Inv-loop μ-loop
 loop-again c =
     let i = c .before .before .before .before .loop .inv in (
@@ -120,8 +99,8 @@ returns-2 c =
     (c .before .before .before .fill .ensures) (i .4))
 
 pub ask-spec : {M : Type 1} → statement M
-ask-spec =
-    tie.close
-    (tie.spec
-    Inv-loop μ-loop fill-requires cast-full full-requires loop-holds mul-read-word add-read-word read-word-requires is-set-requires returns add-numbers
-    mul-numbers element-write-numbers add-x loop-less loop-again returns-2)
+ask-spec = tie.close (tie.spec
+    Inv-loop μ-loop (λ c κs. c .before .before .pre .3) (λ c. omega (arith, c .before .before .before .pre .0 .sixteen, c .before .before .before .pre .2)) (λ c κs. tt) loop-holds
+    (λ c. omega (arith, c .loop-test .taken, c .before .before .before .before .before .before .pre .0 .few, c .before .before .before .before .before .before .pre .1))
+    (λ c. omega (arith, c .loop-test .taken, c .before .before .before .before .before .before .pre .0 .few, c .before .before .before .before .before .before .pre .1)) read-word-requires
+    (λ c κs. tt) returns add-numbers mul-numbers element-write-numbers add-x (λ c. omega (arith, c .before .before .before .loop-test .taken)) loop-again returns-2)

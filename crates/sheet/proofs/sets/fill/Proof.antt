@@ -11,30 +11,9 @@ Inv-loop numbers₀ first x₀ numbers x = (x ≤ 16) × (first .bits ≡ 1) × 
 abbrev μ-loop : tie.MeasureT-loop
 μ-loop numbers₀ first x₀ numbers x = 16 - x
 
-full-requires : tie.Need-full-requires Inv-loop μ-loop
-full-requires c κs = tt
-
 loop-holds : tie.Need-loop-holds Inv-loop μ-loop
 unfolding maskBelow
 loop-holds c = (omega arith, c .full .ensures, c .before .pre, filled-begin _ _ _)
-
-cast-numbers : tie.Need-cast-numbers Inv-loop μ-loop
-cast-numbers c = omega arith
-
-add-numbers : tie.Need-add-numbers Inv-loop μ-loop
-add-numbers c = omega arith
-
-mul-numbers : tie.Need-mul-numbers Inv-loop μ-loop
-mul-numbers c = omega arith
-
-element-write-numbers : tie.Need-element-write-numbers Inv-loop μ-loop
-element-write-numbers c = omega arith
-
-add-x : tie.Need-add-x Inv-loop μ-loop
-add-x c = omega arith
-
-loop-less : tie.Need-loop-less Inv-loop μ-loop
-loop-less c = omega arith
 
 loop-again : tie.Need-loop-again Inv-loop μ-loop
 loop-again c = let i = c .before .before .loop .inv in (omega arith, i .1, i .2, set-stored _ _ _ _ _ (c .before .loop-test .taken) (i .2) (i .1) (i .3))
@@ -43,7 +22,5 @@ returns : tie.Need-returns Inv-loop μ-loop
 returns c = let i = c .before .loop .inv in zero-sets _ _ _ (c .loop-test .left) (i .0) (i .3)
 
 pub fill-spec : {M : Type 1} → statement M
-fill-spec =
-    tie.close
-    (tie.spec
-    Inv-loop μ-loop full-requires loop-holds cast-numbers add-numbers mul-numbers element-write-numbers add-x loop-less loop-again returns)
+fill-spec = tie.close (tie.spec
+    Inv-loop μ-loop (λ c κs. tt) loop-holds (λ c. omega arith) (λ c. omega arith) (λ c. omega arith) (λ c. omega arith) (λ c. omega arith) (λ c. omega arith) loop-again returns)

@@ -10,7 +10,4 @@ returns-2 : tie.Need-returns-2
 returns-2 c = sym (ap (λ (b : Bool). both b (not (eqb (c .before .before .args .s) 0))) (lt-leb _ _ (c .if1 .left)))
 
 pub is-set-spec : {M : Type 1} → statement M
-is-set-spec =
-    tie.close
-    (tie.spec
-    (λ c. search needs) (λ c. search needs) (λ c κs. search needs) returns returns-2)
+is-set-spec = tie.close (tie.spec (λ c. search needs) (λ c. search needs) (λ c κs. search needs) returns returns-2)

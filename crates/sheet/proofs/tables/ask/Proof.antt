@@ -1,7 +1,7 @@
 use Rattle.model.specs.Kit.{ℕ, _-_, _≤_, _<_, ap, subst, arith}
 use Rattle.model.specs.Sheet.{Header as Numbers, problemOf}
-use Rattle.sheet.proofs.{Stating.form-passed, FormTurn.pair-room, FormTurn.same-size, TablesTurn.TablesTo, TablesTurn.tables-none, TablesTurn.tables-more}
-use Rattle.sheet.proofs.{TablesTurn.tables-no, TablesTurn.tables-end, TablesTurn.table-asked, TablesTurn.table-room, tables.ask.Statement.statement}
+use Rattle.sheet.proofs.TablesTurn.{TablesTo, tables-none, tables-more, tables-no, tables-end, table-asked, table-room}
+use Rattle.sheet.proofs.{Stating.form-passed, FormTurn.pair-room, FormTurn.same-size, tables.ask.Statement.statement}
 use Rattle.sheet.proofs.tables.ask.Tie as tie
 
 abbrev Inv-loop : tie.InvT-loop
@@ -72,9 +72,6 @@ add-e c =
       f .symmetries,
     )
 
-loop-less : tie.Need-loop-less Inv-loop μ-loop
-loop-less c = omega (arith, c .before .before .loop-test .taken)
-
 loop-again : tie.Need-loop-again Inv-loop μ-loop
 loop-again c = (
   omega (arith, c .before .before .loop-test .taken),
@@ -90,7 +87,5 @@ returns-2 : tie.Need-returns-2 Inv-loop μ-loop
 returns-2 c = tables-end _ _ _ (c .before .loop .inv .1) (omega (arith, c .loop-test .left, ap (λ (x : Numbers). x .symmetries) (c .before .before .before .before .pre .1)))
 
 pub ask-spec : {M : Type 1} → statement M
-ask-spec =
-    tie.close
-    (tie.spec
-    Inv-loop μ-loop mul-size mul-size-2 loop-holds table-question-requires returns add-at add-e loop-less loop-again returns-2)
+ask-spec = tie.close (tie.spec
+    Inv-loop μ-loop mul-size mul-size-2 loop-holds table-question-requires returns add-at add-e (λ c. omega (arith, c .before .before .loop-test .taken)) loop-again returns-2)

@@ -12,36 +12,12 @@ abbrev μ-loop : tie.MeasureT-loop
 loop-holds : tie.Need-loop-holds Inv-loop μ-loop
 loop-holds c = (omega arith, filled-begin _ _ _)
 
-mul-read-word : tie.Need-mul-read-word Inv-loop μ-loop
-mul-read-word c = omega (arith, c .loop-test .taken, c .before .before .before .pre .whole, c .before .before .before .good)
-
-add-read-word : tie.Need-add-read-word Inv-loop μ-loop
-add-read-word c = omega (arith, c .loop-test .taken, c .before .before .before .pre .whole, c .before .before .before .good)
-
-read-word-requires : tie.Need-read-word-requires Inv-loop μ-loop
-read-word-requires c κs = omega (arith, c .loop-test .taken, c .before .before .before .pre .whole)
-
 pair-code-requires : tie.Need-pair-code-requires Inv-loop μ-loop
 pair-code-requires c κs = coded _ _ _ _ _ _ (c .before .before .before .before .pre) _ (omega
     (arith, c .read-word .ensures, c .before .before .before .before .pre .pairs (c .before .before .loop .q) (c .before .loop-test .taken)))
 
-cast-images : tie.Need-cast-images Inv-loop μ-loop
-cast-images c = omega (arith, c .pair-code .ensures .1)
-
-pair-code-requires-2 : tie.Need-pair-code-requires-2 Inv-loop μ-loop
-pair-code-requires-2 c κs = coded _ _ _ _ _ _ (c .before .before .before .before .before .pre) _ (c .before .before .loop-test .taken)
-
-add-images : tie.Need-add-images Inv-loop μ-loop
-add-images c = omega (arith, c .pair-code2 .ensures .1, c .before .before .before .before .before .before .pre .room)
-
-element-write-images : tie.Need-element-write-images Inv-loop μ-loop
-element-write-images c = omega (arith, c .pair-code2 .ensures .1, c .before .before .before .before .before .before .pre .room)
-
 add-q : tie.Need-add-q Inv-loop μ-loop
 add-q c = omega (arith, c .before .before .before .loop-test .taken, c .before .before .before .before .before .before .pre .small, c .before .before .before .before .before .before .pre .few)
-
-loop-less : tie.Need-loop-less Inv-loop μ-loop
-loop-less c = omega (arith, c .before .before .before .loop-test .taken)
 
 loop-again : tie.Need-loop-again Inv-loop μ-loop
 loop-again c = (
@@ -55,8 +31,11 @@ returns : tie.Need-returns Inv-loop μ-loop
 returns c = decode-end _ _ _ _ _ _ _ _ (c .loop-test .left) (c .before .loop .inv .0) (c .before .loop .inv .1)
 
 pub decode-spec : {M : Type 1} → statement M
-decode-spec =
-    tie.close
-    (tie.spec
-    Inv-loop μ-loop loop-holds mul-read-word add-read-word read-word-requires pair-code-requires cast-images pair-code-requires-2 add-images
-    element-write-images add-q loop-less loop-again returns)
+decode-spec = tie.close (tie.spec
+    Inv-loop μ-loop loop-holds (λ c. omega (arith, c .loop-test .taken, c .before .before .before .pre .whole, c .before .before .before .good))
+    (λ c. omega (arith, c .loop-test .taken, c .before .before .before .pre .whole, c .before .before .before .good))
+    (λ c κs. omega (arith, c .loop-test .taken, c .before .before .before .pre .whole)) pair-code-requires (λ c. omega (arith, c .pair-code .ensures .1))
+    (λ c κs. coded _ _ _ _ _ _ (c .before .before .before .before .before .pre) _ (c .before .before .loop-test .taken))
+    (λ c. omega (arith, c .pair-code2 .ensures .1, c .before .before .before .before .before .before .pre .room))
+    (λ c. omega (arith, c .pair-code2 .ensures .1, c .before .before .before .before .before .before .pre .room)) add-q (λ c. omega (arith, c .before .before .before .loop-test .taken)) loop-again
+    returns)

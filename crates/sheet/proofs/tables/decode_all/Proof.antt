@@ -1,9 +1,8 @@
 use Rattle.model.specs.Kit.{_≡_, sym, ap, _∙_, subst, true, ℕ, _-_, _*_, _≤_, _<_, arith, not-true, not-false, now}
 use Rattle.model.specs.Sheet.{Header as Numbers, headerOf, problemOf, permutesPairs}
 use Rattle.sheet.specs.inner.Decoding.{Decodable}
-use Rattle.sheet.proofs.{Stating.FormPassed, Stating.form-passed, FormTurn.pair-room, FormTurn.same-size, TablesTurn.table-framed, TablesTurn.table-is}
 use Rattle.sheet.proofs.DecodeTurn.{permutedAt, permuted-each, ImagesTo, images-none, images-more, decodable, tables-decoded, tables-not}
-use Rattle.sheet.proofs.tables.decode_all.Statement.{statement}
+use Rattle.sheet.proofs.{Stating.FormPassed, Stating.form-passed, FormTurn.pair-room, FormTurn.same-size, TablesTurn.table-framed, TablesTurn.table-is, tables.decode_all.Statement.statement}
 use Rattle.sheet.proofs.tables.decode_all.Tie as tie
 
 abbrev Inv-loop : tie.InvT-loop
@@ -36,9 +35,6 @@ answered c = c .permuted .ensures ∙ ap (permutesPairs (problemOf (now (c .befo
 passes : (c : tie.Else1 Inv-loop μ-loop) → permutedAt (now (c .before .before .before .before .before .before .args .sheet)) (c .before .before .before .loop .e) ≡ true
 passes c = sym (answered (c .before)) ∙ not-false _ (c .if1 .left)
 
-mul-count : tie.Need-mul-count Inv-loop μ-loop
-mul-count c = omega (arith, small (c .before .before))
-
 loop-holds : tie.Need-loop-holds Inv-loop μ-loop
 loop-holds c = (omega arith, images-none _ _ _ (ap (λ (x : Numbers). x .third) (c .before .before .pre .1)) (c .before .before .pre .2))
 
@@ -54,30 +50,12 @@ permuted-requires c κs =
 returns : tie.Need-returns Inv-loop μ-loop
 returns c = tables-not _ _ _ _ (inside (c .before .before)) (c .before .before .before .loop .inv .1) (sym (answered (c .before)) ∙ not-true _ (c .if1 .taken))
 
-mul-decode : tie.Need-mul-decode Inv-loop μ-loop
-mul-decode c = omega (arith, inside (c .before .before), known (c .before .before .before .before .before .before) .fits .symmetries)
-
 ready : (c : tie.Else1 Inv-loop μ-loop) → let s = c .before .before .before .before .before .before in
     let l = c .before .before .before .loop in
     Decodable (now (s .args .sheet)) (l .from) (s .args .h .variables * s .args .h .values) (s .args .h .values) (192 * l .e) (l .images)
 ready c =
     let s = c .before .before .before .before .before .before in
     decodable _ (known s) _ _ _ (c .before .before .before .loop .inv .1) (inside (c .before .before)) _ _ (values-are s) (size-is s) (passes c)
-
-decode-requires : tie.Need-decode-requires Inv-loop μ-loop
-decode-requires c κs = ready (c .before)
-
-mul-from : tie.Need-mul-from Inv-loop μ-loop
-mul-from c = omega (arith, small (c .before .before .before .before .before .before .before .before))
-
-add-from : tie.Need-add-from Inv-loop μ-loop
-add-from c = omega (arith, ready (c .before .before) .whole, c .before .before .before .before .before .before .before .before .good)
-
-add-e : tie.Need-add-e Inv-loop μ-loop
-add-e c = omega (arith, inside (c .before .before .before .before), known (c .before .before .before .before .before .before .before .before) .fits .symmetries)
-
-loop-less : tie.Need-loop-less Inv-loop μ-loop
-loop-less c = omega (arith, c .before .before .before .before .loop-test .taken)
 
 loop-again : tie.Need-loop-again Inv-loop μ-loop
 loop-again c =
@@ -91,7 +69,10 @@ returns-2 : tie.Need-returns-2 Inv-loop μ-loop
 returns-2 c = tables-decoded _ _ _ _ (omega (arith, c .loop-test .left, ap (λ (x : Numbers). x .symmetries) (c .before .before .before .before .pre .1))) (c .before .loop .inv .1)
 
 pub decode-all-spec : {M : Type 1} → statement M
-decode-all-spec =
-    tie.close
-    (tie.spec
-    Inv-loop μ-loop mul-count loop-holds permuted-requires returns mul-decode decode-requires mul-from add-from add-e loop-less loop-again returns-2)
+decode-all-spec = tie.close (tie.spec
+    Inv-loop μ-loop (λ c. omega (arith, small (c .before .before))) loop-holds permuted-requires returns
+    (λ c. omega (arith, inside (c .before .before), known (c .before .before .before .before .before .before) .fits .symmetries)) (λ c κs. ready (c .before))
+    (λ c. omega (arith, small (c .before .before .before .before .before .before .before .before)))
+    (λ c. omega (arith, ready (c .before .before) .whole, c .before .before .before .before .before .before .before .before .good))
+    (λ c. omega (arith, inside (c .before .before .before .before), known (c .before .before .before .before .before .before .before .before) .fits .symmetries))
+    (λ c. omega (arith, c .before .before .before .before .loop-test .taken)) loop-again returns-2)

@@ -1,7 +1,7 @@
 use Rattle.model.specs.Kit.{_≡_, refl, sym, _∙_, subst, ℕ, _+_, _*_, _<_, arith, T, not-false}
 use Rattle.model.specs.{Lists.at, ValueSets.has}
 use Rattle.model.proofs.{Lists.T-of, Lowest.some-left, Lowest.none-left}
-use Rattle.sheet_table.proofs.{Laws.Swept, Laws.swept-none, Laws.swept-over, Laws.swept-small, Laws.swept-less, Laws.swept-rest}
+use Rattle.sheet_table.proofs.Laws.{Swept, swept-none, swept-over, swept-small, swept-less, swept-rest}
 use Rattle.sheet_carried.proofs.carried.all_from.Statement.{statement}
 use Rattle.sheet_carried.proofs.carried.all_from.Tie as tie
 
@@ -22,33 +22,6 @@ spot c =
     let h = c .before .before .before .before .before .pre .0 in
     omega (arith, swept-small _ _ (c .before .before .before .before .loop .inv) (some (c .before .before)) _ (c .before .lowest .ensures))
 
-is-empty-requires : tie.Need-is-empty-requires Inv-loop μ-loop
-is-empty-requires c κs = tt
-
-lowest-requires : tie.Need-lowest-requires Inv-loop μ-loop
-lowest-requires c κs = tt
-
-without-lowest-requires : tie.Need-without-lowest-requires Inv-loop μ-loop
-without-lowest-requires c κs = tt
-
-mul-place : tie.Need-mul-place Inv-loop μ-loop
-mul-place c = omega (arith, spot c)
-
-cast-place : tie.Need-cast-place Inv-loop μ-loop
-cast-place c = omega (arith, spot c)
-
-add-place : tie.Need-add-place Inv-loop μ-loop
-add-place c = omega (arith, spot c)
-
-place-requires : tie.Need-place-requires Inv-loop μ-loop
-place-requires c κs = spot c
-
-cast-contains : tie.Need-cast-contains Inv-loop μ-loop
-cast-contains c = omega (arith, c .place .ensures .1)
-
-contains-requires : tie.Need-contains-requires Inv-loop μ-loop
-contains-requires c κs = tt
-
 returns : tie.Need-returns Inv-loop μ-loop
 returns c = λ q. absurd (subst T (sym q) tt)
 
@@ -67,8 +40,6 @@ returns-2 : tie.Need-returns-2 Inv-loop μ-loop
 returns-2 c = λ q. swept-over _ _ (c .before .before .loop .inv) (none-left _ _ (c .before .is-empty .ensures) (c .if1 .left))
 
 pub all-from-spec : {M : Type 1} → statement M
-all-from-spec =
-    tie.close
-    (tie.spec
-    Inv-loop μ-loop loop-holds is-empty-requires lowest-requires without-lowest-requires mul-place cast-place add-place place-requires cast-contains
-    contains-requires returns loop-less loop-again returns-2)
+all-from-spec = tie.close (tie.spec
+    Inv-loop μ-loop loop-holds (λ c κs. tt) (λ c κs. tt) (λ c κs. tt) (λ c. omega (arith, spot c)) (λ c. omega (arith, spot c)) (λ c. omega (arith, spot c)) (λ c κs. spot c)
+    (λ c. omega (arith, c .place .ensures .1)) (λ c κs. tt) returns loop-less loop-again returns-2)

@@ -3,15 +3,12 @@ use Rattle.model.specs.{Lists.at, Problem.Problem, Problem.constraintAt}
 use Rattle.arrays.specs.inner.Places.{SUPPORTS}
 use Rattle.sheet_table.specs.inner.Forbidden.{MaybePair, Walking, Across}
 use Rattle.sheet_table.proofs.Codes.{variable-lt}
-use Rattle.sheet_carried.proofs.{Across.across-of, Across.carried-key, Across.carried-image, Across.carried-variable, Across.carried-all}
+use Rattle.sheet_carried.proofs.Across.{across-of, carried-key, carried-image, carried-variable, carried-all}
 use Rattle.sheet_carried.proofs.{Wholes.walk-whole, Wholes.whole-walked, carried.carried.Statement.statement}
 use Rattle.sheet_carried.proofs.carried.carried.Tie as tie
 
 abbrev Walks : tie.Start → Problem → List ℕ → List ℕ → ℕ → ℕ → Type 0
 Walks c p vs codes z w = Walking p vs (now (c .args .numbers)) (now (c .args .supports)) codes (now (c .args .moves)) (c .args .k) (c .args .ahead) (c .args .key) z w (c .args .a)
-
-turned-requires : tie.Need-turned-requires
-turned-requires c κs = let h = c .before .pre in (h .0, h .2, walk-whole (h .0) (h .1) _ _ (h .2) _ _ _ _ _ _ _ (h .5) (c .if1 .taken))
 
 returns : tie.Need-returns
 returns c = λ q p vs codes z w s. let t = c .before .if1 .taken in whole-walked p vs _ _ codes _ _ _ _ _ _ _ s t (c .turned .ensures q p codes (walk-whole p vs _ _ codes _ _ _ _ _ _ _ s t))
@@ -92,21 +89,9 @@ row c =
 scope-at-requires : tie.Need-scope-at-requires
 scope-at-requires c κs = let h = c .before .before .before .before .pre in (h .0, h .5 .lent .ready .framed, h .5 .chosen .inside, omega (arith, three c (h .0) (h .1) (h .2) (h .3) (h .4) (h .5)))
 
-add-place : tie.Need-add-place
-add-place c = let h = c .before .before .before .before .before .pre in omega (arith, first c (h .0) (h .1) (h .2) (h .3) (h .4) (h .5))
-
-place-requires : tie.Need-place-requires
-place-requires c κs = let h = c .before .before .before .before .before .pre in omega (arith, first c (h .0) (h .1) (h .2) (h .3) (h .4) (h .5))
-
 scope-at-requires-2 : tie.Need-scope-at-requires-2
 scope-at-requires-2 c κs = let h = c .before .before .before .before .before .before .pre in
     (h .0, h .5 .lent .ready .framed, h .5 .chosen .inside, omega (arith, three (c .before .before) (h .0) (h .1) (h .2) (h .3) (h .4) (h .5)))
-
-add-place-2 : tie.Need-add-place-2
-add-place-2 c = let h = c .before .before .before .before .before .before .before .pre in omega (arith, second c (h .0) (h .1) (h .2) (h .3) (h .4) (h .5))
-
-place-requires-2 : tie.Need-place-requires-2
-place-requires-2 c κs = let h = c .before .before .before .before .before .before .before .pre in omega (arith, second c (h .0) (h .1) (h .2) (h .3) (h .4) (h .5))
 
 number-requires : tie.Need-number-requires
 number-requires c κs = let h = c .before .before .before .before .before .before .before .before .pre in omega
@@ -118,12 +103,6 @@ returns-4 c = λ q. absurd (subst T (sym q) tt)
 pick-requires : tie.Need-pick-requires
 pick-requires c κs = let h = c .before .before .before .before .before .before .before .before .before .before .before .before .pre in
     (omega (arith, h .5 .chosen .inside, h .5 .lent .ready .framed .stated .most), c .if4 .left)
-
-mul-rows-from-2 : tie.Need-mul-rows-from-2
-mul-rows-from-2 c = omega (arith, row c)
-
-add-rows-from : tie.Need-add-rows-from
-add-rows-from c = omega (arith, row c)
 
 rows-from-requires : tie.Need-rows-from-requires
 rows-from-requires c κs =
@@ -138,9 +117,10 @@ returns-5 c =
     (c .rows-from .ensures q p (across (c .before) p vs codes z w s))
 
 pub carried-spec : {M : Type 1} → statement M
-carried-spec =
-    tie.close
-    (tie.spec
-    turned-requires returns returns-2 (λ c κs. search needs) returns-3 scope-at-requires add-place place-requires scope-at-requires-2 add-place-2
-    place-requires-2 number-requires (λ c κs. search needs) (λ c κs. search needs) returns-4 pick-requires (λ c. search needs) mul-rows-from-2 add-rows-from
-    rows-from-requires returns-5)
+carried-spec = tie.close (tie.spec
+    (λ c κs. let h = c .before .pre in (h .0, h .2, walk-whole (h .0) (h .1) _ _ (h .2) _ _ _ _ _ _ _ (h .5) (c .if1 .taken))) returns returns-2 (λ c κs. search needs) returns-3 scope-at-requires
+    (λ c. let h = c .before .before .before .before .before .pre in omega (arith, first c (h .0) (h .1) (h .2) (h .3) (h .4) (h .5)))
+    (λ c κs. let h = c .before .before .before .before .before .pre in omega (arith, first c (h .0) (h .1) (h .2) (h .3) (h .4) (h .5))) scope-at-requires-2
+    (λ c. let h = c .before .before .before .before .before .before .before .pre in omega (arith, second c (h .0) (h .1) (h .2) (h .3) (h .4) (h .5)))
+    (λ c κs. let h = c .before .before .before .before .before .before .before .pre in omega (arith, second c (h .0) (h .1) (h .2) (h .3) (h .4) (h .5))) number-requires (λ c κs. search needs)
+    (λ c κs. search needs) returns-4 pick-requires (λ c. search needs) (λ c. omega (arith, row c)) (λ c. omega (arith, row c)) rows-from-requires returns-5)

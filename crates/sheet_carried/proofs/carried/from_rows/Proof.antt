@@ -2,10 +2,8 @@ use Rattle.model.specs.Kit.{_≡_, sym, subst, ℕ, _+_, _*_, _^_, _<_, arith, 
 use Rattle.model.specs.{Lists.at, Problem.Problem}
 use Rattle.model.proofs.{Sets.mask-lt, Lowest.some-left, Lowest.none-left}
 use Rattle.sheet_table.specs.inner.Forbidden.{Across, FromRows}
-use Rattle.sheet_table.proofs.{Codes.init-small, Laws.Swept}
-use Rattle.sheet_carried.proofs.{Across.across-second, Across.across-third, Across.across-few, Across.across-on, Across.across-rows}
-use Rattle.sheet_table.proofs.Laws.{swept-none, swept-over, swept-in, swept-small, swept-less, swept-rest}
-use Rattle.sheet_carried.proofs.carried.from_rows.Statement.{statement}
+use Rattle.sheet_table.proofs.{Codes.init-small, Laws.Swept, Laws.swept-none, Laws.swept-over, Laws.swept-in, Laws.swept-small, Laws.swept-less, Laws.swept-rest}
+use Rattle.sheet_carried.proofs.{Across.across-second, Across.across-third, Across.across-few, Across.across-on, Across.across-rows, carried.from_rows.Statement.statement}
 use Rattle.arrays.specs.inner.Places.{SUPPORTS}
 use Rattle.sheet_carried.proofs.carried.from_rows.Tie as tie
 
@@ -16,23 +14,8 @@ Inv-loop numbers supports moves from m a y z last rest₀ rest = (p : Problem) �
 abbrev μ-loop : tie.MeasureT-loop
 μ-loop numbers supports moves from m a y z last rest₀ rest = rest .bits
 
-initial-requires : tie.Need-initial-requires Inv-loop μ-loop
-initial-requires c κs = let h = c .pre .0 in (h .0, h .1 .ready .framed, across-third (h .0) _ _ _ _ _ _ (h .1))
-
-initial-requires-2 : tie.Need-initial-requires-2 Inv-loop μ-loop
-initial-requires-2 c κs = let h = c .before .pre .0 in (h .0, h .1 .ready .framed, across-second (h .0) _ _ _ _ _ _ (h .1))
-
 loop-holds : tie.Need-loop-holds Inv-loop μ-loop
 loop-holds c = λ p x. let l = across-second p _ _ _ _ _ _ x in swept-none _ _ _ (c .initial2 .ensures p (x .ready .framed) l) (init-small p (x .ready .framed .stated) _ l)
-
-is-empty-requires : tie.Need-is-empty-requires Inv-loop μ-loop
-is-empty-requires c κs = tt
-
-mul-e : tie.Need-mul-e Inv-loop μ-loop
-mul-e c = let h = c .before .before .before .before .before .pre .0 in omega (arith, across-few (h .0) _ _ _ _ _ _ (h .1) .0)
-
-lowest-requires : tie.Need-lowest-requires Inv-loop μ-loop
-lowest-requires c κs = tt
 
 some : (c : tie.Then1 Inv-loop μ-loop) → c .before .before .loop .rest .bits ≡ 0 → ⊥
 some c = some-left _ _ (c .before .is-empty .ensures) (c .if1 .taken)
@@ -43,27 +26,6 @@ low c = let h = c .before .before .before .before .before .before .pre .0 in swe
 spot : (c : tie.After-without-lowest Inv-loop μ-loop) → 16 * c .before .before .before .before .before .before .before .args .y + c .before .lowest .result < 256
 spot c = let h = c .before .before .before .before .before .before .before .pre .0 in omega (arith, across-few (h .0) _ _ _ _ _ _ (h .1) .0, low (c .before))
 
-cast-e : tie.Need-cast-e Inv-loop μ-loop
-cast-e c = omega (arith, low c)
-
-add-e : tie.Need-add-e Inv-loop μ-loop
-add-e c = let h = c .before .before .before .before .before .before .pre .0 in omega (arith, across-few (h .0) _ _ _ _ _ _ (h .1) .0, low c)
-
-without-lowest-requires : tie.Need-without-lowest-requires Inv-loop μ-loop
-without-lowest-requires c κs = tt
-
-refusing-requires : tie.Need-refusing-requires Inv-loop μ-loop
-refusing-requires c κs = let h = c .before .before .before .before .before .before .before .pre .0 in across-few (h .0) _ _ _ _ _ _ (h .1) .2
-
-complement-requires : tie.Need-complement-requires Inv-loop μ-loop
-complement-requires c κs = tt
-
-common-requires : tie.Need-common-requires Inv-loop μ-loop
-common-requires c κs = tt
-
-place-requires : tie.Need-place-requires Inv-loop μ-loop
-place-requires c κs = spot (c .before .before .before)
-
 row : (c : tie.After-place Inv-loop μ-loop) → c .before .before .before .before .before .before .before .before .before .before .before .args .from + c .place .result < SUPPORTS
 row c = let h = c .before .before .before .before .before .before .before .before .before .before .before .pre in omega (
   arith,
@@ -72,12 +34,6 @@ row c = let h = c .before .before .before .before .before .before .before .befor
   h .2 (16 * c .before .before .before .before .before .before .before .before .before .before .before .args .y +
       c .before .before .before .before .before .lowest .result),
 )
-
-add-support : tie.Need-add-support Inv-loop μ-loop
-add-support c = omega (arith, row c)
-
-support-requires : tie.Need-support-requires Inv-loop μ-loop
-support-requires c κs = row c
 
 all-from-requires : tie.Need-all-from-requires Inv-loop μ-loop
 all-from-requires c κs = let d = c .before .before .before .before .before .before in let h = d .before .before .before .before .before .before .pre in
@@ -106,8 +62,10 @@ returns-2 : tie.Need-returns-2 Inv-loop μ-loop
 returns-2 c = λ q p x. swept-over _ _ (c .before .before .loop .inv p x) (none-left _ _ (c .before .is-empty .ensures) (c .if1 .left))
 
 pub from-rows-spec : {M : Type 1} → statement M
-from-rows-spec =
-    tie.close
-    (tie.spec
-    Inv-loop μ-loop initial-requires initial-requires-2 loop-holds is-empty-requires mul-e lowest-requires cast-e add-e without-lowest-requires
-    refusing-requires complement-requires common-requires place-requires add-support support-requires all-from-requires returns loop-less loop-again returns-2)
+from-rows-spec = tie.close (tie.spec
+    Inv-loop μ-loop (λ c κs. let h = c .pre .0 in (h .0, h .1 .ready .framed, across-third (h .0) _ _ _ _ _ _ (h .1)))
+    (λ c κs. let h = c .before .pre .0 in (h .0, h .1 .ready .framed, across-second (h .0) _ _ _ _ _ _ (h .1))) loop-holds (λ c κs. tt)
+    (λ c. let h = c .before .before .before .before .before .pre .0 in omega (arith, across-few (h .0) _ _ _ _ _ _ (h .1) .0)) (λ c κs. tt) (λ c. omega (arith, low c))
+    (λ c. let h = c .before .before .before .before .before .before .pre .0 in omega (arith, across-few (h .0) _ _ _ _ _ _ (h .1) .0, low c)) (λ c κs. tt)
+    (λ c κs. let h = c .before .before .before .before .before .before .before .pre .0 in across-few (h .0) _ _ _ _ _ _ (h .1) .2) (λ c κs. tt) (λ c κs. tt)
+    (λ c κs. spot (c .before .before .before)) (λ c. omega (arith, row c)) (λ c κs. row c) all-from-requires returns loop-less loop-again returns-2)

@@ -1,6 +1,5 @@
 use Rattle.model.specs.Kit.{arith, needs}
-use Rattle.sheet_carried.proofs.Across.{across-second, across-third, across-few, across-first, across-between}
-use Rattle.sheet_carried.proofs.carried.rows_from.Statement.{statement}
+use Rattle.sheet_carried.proofs.{Across.across-second, Across.across-third, Across.across-few, Across.across-first, Across.across-between, carried.rows_from.Statement.statement}
 use Rattle.sheet_carried.proofs.carried.rows_from.Tie as tie
 
 returns : tie.Need-returns
@@ -33,8 +32,6 @@ returns-5 : tie.Need-returns-5
 returns-5 c = search needs
 
 pub rows-from-spec : {M : Type 1} → statement M
-rows-from-spec =
-    tie.close
-    (tie.spec
-    (λ c κs. search needs) returns (λ c κs. search needs) returns-2 (λ c. search needs) (λ c. search needs) (λ c. search needs) sets-from-requires returns-3
-    (λ c. search needs) (λ c. search needs) sets-from-requires-2 returns-4 (λ c κs. search needs) returns-5)
+rows-from-spec = tie.close (tie.spec
+    (λ c κs. search needs) returns (λ c κs. search needs) returns-2 (λ c. search needs) (λ c. search needs) (λ c. search needs) sets-from-requires returns-3 (λ c. search needs) (λ c. search needs)
+    sets-from-requires-2 returns-4 (λ c κs. search needs) returns-5)

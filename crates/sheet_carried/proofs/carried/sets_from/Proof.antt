@@ -2,10 +2,8 @@ use Rattle.model.specs.Kit.{_≡_, sym, subst, ℕ, _+_, _*_, _^_, _<_, arith, 
 use Rattle.model.specs.{Lists.at, Problem.Problem}
 use Rattle.model.proofs.{Sets.mask-lt, Lowest.some-left, Lowest.none-left}
 use Rattle.sheet_table.specs.{inner.Table.Framed, inner.Forbidden.SetFrom}
-use Rattle.sheet_table.proofs.{Codes.init-small, Laws.Swept, Laws.swept-none, Laws.swept-over, Laws.swept-small, Laws.swept-less}
-use Rattle.sheet_carried.proofs.{Surely.lacking-place, Across.set-from}
-use Rattle.sheet_table.proofs.Laws.{swept-rest}
-use Rattle.sheet_carried.proofs.carried.sets_from.Statement.{statement}
+use Rattle.sheet_table.proofs.{Codes.init-small, Laws.Swept, Laws.swept-none, Laws.swept-over, Laws.swept-small, Laws.swept-less, Laws.swept-rest}
+use Rattle.sheet_carried.proofs.{Surely.lacking-place, Across.set-from, carried.sets_from.Statement.statement}
 use Rattle.arrays.specs.inner.Places.{SUPPORTS}
 use Rattle.sheet_carried.proofs.carried.sets_from.Tie as tie
 
@@ -16,20 +14,8 @@ Inv-loop numbers supports moves from base step y z last rest₀ rest = (p : Prob
 abbrev μ-loop : tie.MeasureT-loop
 μ-loop numbers supports moves from base step y z last rest₀ rest = rest .bits
 
-initial-requires : tie.Need-initial-requires Inv-loop μ-loop
-initial-requires c κs = let h = c .pre .0 in (h .0, h .1, h .3)
-
-initial-requires-2 : tie.Need-initial-requires-2 Inv-loop μ-loop
-initial-requires-2 c κs = let h = c .before .pre .0 in (h .0, h .1, h .2)
-
 loop-holds : tie.Need-loop-holds Inv-loop μ-loop
 loop-holds c = λ p f ly lz. swept-none _ _ _ (c .initial2 .ensures p f ly) (init-small p (f .stated) _ ly)
-
-is-empty-requires : tie.Need-is-empty-requires Inv-loop μ-loop
-is-empty-requires c κs = tt
-
-lowest-requires : tie.Need-lowest-requires Inv-loop μ-loop
-lowest-requires c κs = tt
 
 some : (c : tie.Then1 Inv-loop μ-loop) → c .before .before .loop .rest .bits ≡ 0 → ⊥
 some c = some-left _ _ (c .before .is-empty .ensures) (c .if1 .taken)
@@ -48,39 +34,6 @@ spot c = let h = c .before .before .before .before .before .before .before .befo
 row : (c : tie.After-place Inv-loop μ-loop) → c .before .before .before .before .before .before .before .before .before .before .args .from + c .place .result < SUPPORTS
 row c = let h = c .before .before .before .before .before .before .before .before .before .before .pre in omega
     (arith, h .1, c .place .ensures .0, h .3 (16 * c .before .before .before .before .before .before .before .before .before .before .args .y + c .before .before .before .before .lowest .result))
-
-cast-v : tie.Need-cast-v Inv-loop μ-loop
-cast-v c = omega (arith, low c)
-
-without-lowest-requires : tie.Need-without-lowest-requires Inv-loop μ-loop
-without-lowest-requires c κs = tt
-
-mul-support : tie.Need-mul-support Inv-loop μ-loop
-mul-support c = omega (arith, set-spot c)
-
-add-support : tie.Need-add-support Inv-loop μ-loop
-add-support c = omega (arith, set-spot c)
-
-support-requires : tie.Need-support-requires Inv-loop μ-loop
-support-requires c κs = set-spot c
-
-common-requires : tie.Need-common-requires Inv-loop μ-loop
-common-requires c κs = tt
-
-mul-place : tie.Need-mul-place Inv-loop μ-loop
-mul-place c = let h = c .before .before .before .before .before .before .before .before .before .pre .0 in omega (arith, h .2, h .1 .stated .few)
-
-add-place : tie.Need-add-place Inv-loop μ-loop
-add-place c = omega (arith, spot c)
-
-place-requires : tie.Need-place-requires Inv-loop μ-loop
-place-requires c κs = spot c
-
-add-support-2 : tie.Need-add-support-2 Inv-loop μ-loop
-add-support-2 c = omega (arith, row c)
-
-support-requires-2 : tie.Need-support-requires-2 Inv-loop μ-loop
-support-requires-2 c κs = row c
 
 all-from-requires : tie.Need-all-from-requires Inv-loop μ-loop
 all-from-requires c κs = let h = c .before .before .before .before .before .before .before .before .before .before .before .pre in
@@ -108,9 +61,8 @@ returns-2 : tie.Need-returns-2 Inv-loop μ-loop
 returns-2 c = λ q p f ly lz. swept-over _ _ (c .before .before .loop .inv p f ly lz) (none-left _ _ (c .before .is-empty .ensures) (c .if1 .left))
 
 pub sets-from-spec : {M : Type 1} → statement M
-sets-from-spec =
-    tie.close
-    (tie.spec
-    Inv-loop μ-loop initial-requires initial-requires-2 loop-holds is-empty-requires lowest-requires cast-v without-lowest-requires mul-support add-support
-    support-requires common-requires mul-place add-place place-requires add-support-2 support-requires-2 all-from-requires returns loop-less loop-again
-    returns-2)
+sets-from-spec = tie.close (tie.spec
+    Inv-loop μ-loop (λ c κs. let h = c .pre .0 in (h .0, h .1, h .3)) (λ c κs. let h = c .before .pre .0 in (h .0, h .1, h .2)) loop-holds (λ c κs. tt) (λ c κs. tt) (λ c. omega (arith, low c))
+    (λ c κs. tt) (λ c. omega (arith, set-spot c)) (λ c. omega (arith, set-spot c)) (λ c κs. set-spot c) (λ c κs. tt)
+    (λ c. let h = c .before .before .before .before .before .before .before .before .before .pre .0 in omega (arith, h .2, h .1 .stated .few)) (λ c. omega (arith, spot c)) (λ c κs. spot c)
+    (λ c. omega (arith, row c)) (λ c κs. row c) all-from-requires returns loop-less loop-again returns-2)

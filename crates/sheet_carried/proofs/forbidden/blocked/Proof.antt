@@ -1,36 +1,18 @@
 use Rattle.model.specs.Kit.{_≡_, sym, _∙_, subst, ℕ, _/_, _^_, _<_, arith, now, bitAnd, bitOr, length}
 use Rattle.model.specs.{Lists.at, Problem.Problem}
 use Rattle.sheet_table.specs.inner.Forbidden.{Triple}
-use Rattle.sheet_carried.proofs.{Scopes.all-few, Scopes.two-few, Asking.first-clash, Asking.second-clash, Asking.third-clash, Asking.variables-small, Asking.asked-yes}
-use Rattle.sheet_carried.proofs.{Asking.asked-all, forbidden.blocked.Statement.statement}
+use Rattle.sheet_carried.proofs.Asking.{first-clash, second-clash, third-clash, variables-small, asked-yes, asked-all}
+use Rattle.sheet_carried.proofs.{Scopes.all-few, Scopes.two-few, forbidden.blocked.Statement.statement}
 use Rattle.sheet_carried.proofs.forbidden.blocked.Tie as tie
-
-clash-requires : tie.Need-clash-requires
-clash-requires c κs = tt
 
 returns : tie.Need-returns
 returns c = λ p t. first-clash p _ _ _ _ _ t (sym (c .before .clash .ensures) ∙ c .if1 .taken)
 
-clash-requires-2 : tie.Need-clash-requires-2
-clash-requires-2 c κs = tt
-
 returns-2 : tie.Need-returns-2
 returns-2 c = λ p t. second-clash p _ _ _ _ _ t (sym (c .before .clash2 .ensures) ∙ c .if2 .taken)
 
-clash-requires-3 : tie.Need-clash-requires-3
-clash-requires-3 c κs = tt
-
 returns-3 : tie.Need-returns-3
 returns-3 c = λ p t. third-clash p _ _ _ _ _ t (sym (c .before .clash3 .ensures) ∙ c .if3 .taken)
-
-number-requires : tie.Need-number-requires
-number-requires c κs = let h = c .before .before .before .before .before .before .pre in omega (arith, variables-small (h .0) _ _ _ _ _ (h .1) .0)
-
-number-requires-2 : tie.Need-number-requires-2
-number-requires-2 c κs = let h = c .before .before .before .before .before .before .before .pre in omega (arith, variables-small (h .0) _ _ _ _ _ (h .1) .1)
-
-number-requires-3 : tie.Need-number-requires-3
-number-requires-3 c κs = let h = c .before .before .before .before .before .before .before .before .pre in omega (arith, variables-small (h .0) _ _ _ _ _ (h .1) .2)
 
 -- the constraints on two of the variables, and on any
 abbrev two : ℕ → ℕ → ℕ → ℕ
@@ -56,14 +38,8 @@ few-all : (c : tie.After-number3) (p : Problem) → Given (c .before .before .be
     (c .before .number2 .result) (c .number3 .result) < 2 ^ length (p .constraints)
 few-all c p t = let v = variables-small p _ _ _ _ _ t in subst (λ (n : ℕ). n < 2 ^ length (p .constraints)) (sym (found c some)) (all-few p _ (t .ready .framed) _ _ _ (v .0) (v .1) (v .2))
 
-any-refuses-requires : tie.Need-any-refuses-requires
-any-refuses-requires c κs = let h = c .before .before .before .before .before .before .before .before .before .pre in (h .0, h .1, few-two c (h .0) (h .1))
-
 returns-4 : tie.Need-returns-4
 returns-4 c = λ p t. asked-yes p _ _ _ _ _ t _ _ (c .before .any-refuses .ensures p t (few-two (c .before .before) p t)) (c .if4 .taken)
-
-any-refuses-requires-2 : tie.Need-any-refuses-requires-2
-any-refuses-requires-2 c κs = let h = c .before .before .before .before .before .before .before .before .before .before .before .pre in (h .0, h .1, few-all (c .before .before) (h .0) (h .1))
 
 returns-5 : tie.Need-returns-5
 returns-5 c = λ p t.
@@ -74,8 +50,10 @@ returns-5 c = λ p t.
     (sym (c .before .before .before .before .before .before .before .clash3 .ensures) ∙ c .before .before .before .before .before .before .if3 .left)
 
 pub blocked-spec : {M : Type 1} → statement M
-blocked-spec =
-    tie.close
-    (tie.spec
-    clash-requires returns clash-requires-2 returns-2 clash-requires-3 returns-3 number-requires number-requires-2 number-requires-3 any-refuses-requires
-    returns-4 any-refuses-requires-2 returns-5)
+blocked-spec = tie.close (tie.spec
+    (λ c κs. tt) returns (λ c κs. tt) returns-2 (λ c κs. tt) returns-3
+    (λ c κs. let h = c .before .before .before .before .before .before .pre in omega (arith, variables-small (h .0) _ _ _ _ _ (h .1) .0))
+    (λ c κs. let h = c .before .before .before .before .before .before .before .pre in omega (arith, variables-small (h .0) _ _ _ _ _ (h .1) .1))
+    (λ c κs. let h = c .before .before .before .before .before .before .before .before .pre in omega (arith, variables-small (h .0) _ _ _ _ _ (h .1) .2))
+    (λ c κs. let h = c .before .before .before .before .before .before .before .before .before .pre in (h .0, h .1, few-two c (h .0) (h .1))) returns-4
+    (λ c κs. let h = c .before .before .before .before .before .before .before .before .before .before .before .pre in (h .0, h .1, few-all (c .before .before) (h .0) (h .1))) returns-5)

@@ -2,8 +2,7 @@ use Rattle.model.specs.Kit.{sym, ap, _∙_, subst, ⊎-elim, ℕ, _+_, _-_, _*_
 use Rattle.model.specs.{declared.ValueSet.ValueSet, ValueSets.onlyMask, ValueSets.unionMask}
 use Rattle.model.proofs.Sets.{mask-lt}
 use Rattle.sheet_table.specs.inner.Forbidden.{Lacking}
-use Rattle.sheet_carried.proofs.Surely.{lacking-place, lacking-none, lacking-same, lacking-more, lacking-all}
-use Rattle.sheet_carried.proofs.sure.lacking.Statement.{statement}
+use Rattle.sheet_carried.proofs.{Surely.lacking-place, Surely.lacking-none, Surely.lacking-same, Surely.lacking-more, Surely.lacking-all, sure.lacking.Statement.statement}
 use Rattle.arrays.specs.inner.Places.{SUPPORTS}
 use Rattle.sheet_carried.proofs.sure.lacking.Tie as tie
 
@@ -18,36 +17,6 @@ loop-holds c = (omega arith, omega arith, lacking-none _ _ _ _)
 
 place : (c : tie.In-loop Inv-loop μ-loop) → c .before .before .args .base + c .before .before .args .step * c .before .loop .v < SUPPORTS
 place c = lacking-place _ _ _ (c .before .before .pre .0) (c .loop-test .taken)
-
-mul-support : tie.Need-mul-support Inv-loop μ-loop
-mul-support c = omega (arith, place c)
-
-add-support : tie.Need-add-support Inv-loop μ-loop
-add-support c = omega (arith, place c)
-
-support-requires : tie.Need-support-requires Inv-loop μ-loop
-support-requires c κs = place c
-
-contains-requires : tie.Need-contains-requires Inv-loop μ-loop
-contains-requires c κs = tt
-
-full-requires : tie.Need-full-requires Inv-loop μ-loop
-full-requires c κs = tt
-
-cast-only : tie.Need-cast-only Inv-loop μ-loop
-cast-only c = omega arith
-
-only-requires : tie.Need-only-requires Inv-loop μ-loop
-only-requires c κs = tt
-
-union-requires : tie.Need-union-requires Inv-loop μ-loop
-union-requires c κs = tt
-
-add-v : tie.Need-add-v Inv-loop μ-loop
-add-v c = omega arith
-
-loop-less : tie.Need-loop-less Inv-loop μ-loop
-loop-less c = omega arith
 
 loop-again : tie.Need-loop-again Inv-loop μ-loop
 loop-again c =
@@ -69,8 +38,6 @@ returns : tie.Need-returns Inv-loop μ-loop
 returns c = lacking-all _ _ _ _ _ _ (c .loop-test .left) (c .before .loop .inv .0) (c .before .loop .inv .2)
 
 pub lacking-spec : {M : Type 1} → statement M
-lacking-spec =
-    tie.close
-    (tie.spec
-    Inv-loop μ-loop loop-holds mul-support add-support support-requires contains-requires full-requires cast-only only-requires union-requires add-v loop-less
-    loop-again returns)
+lacking-spec = tie.close (tie.spec
+    Inv-loop μ-loop loop-holds (λ c. omega (arith, place c)) (λ c. omega (arith, place c)) (λ c κs. place c) (λ c κs. tt) (λ c κs. tt) (λ c. omega arith) (λ c κs. tt) (λ c κs. tt) (λ c. omega arith)
+    (λ c. omega arith) loop-again returns)

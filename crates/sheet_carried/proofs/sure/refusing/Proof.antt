@@ -12,7 +12,4 @@ returns-3 : tie.Need-returns-3
 returns-3 c = λ p numbers o. sure-none p _ _ _
 
 pub refusing-spec : {M : Type 1} → statement M
-refusing-spec =
-    tie.close
-    (tie.spec
-    (λ c κs. search needs) returns (λ c κs. search needs) returns-2 returns-3)
+refusing-spec = tie.close (tie.spec (λ c κs. search needs) returns (λ c κs. search needs) returns-2 returns-3)

@@ -2,7 +2,7 @@ use Rattle.model.specs.Kit.{_≡_, refl, sym, _∙_, subst, ℕ, _+_, _*_, _<_,
 use Rattle.model.specs.{Lists.at, ValueSets.has}
 use Rattle.model.proofs.{Lists.T-of, Lowest.some-left, Lowest.none-left}
 use Rattle.arrays.specs.inner.Places.{SUPPORTS}
-use Rattle.sheet_table.proofs.{Laws.Swept, Laws.swept-none, Laws.swept-over, Laws.swept-small, Laws.swept-less, Laws.swept-rest}
+use Rattle.sheet_table.proofs.Laws.{Swept, swept-none, swept-over, swept-small, swept-less, swept-rest}
 use Rattle.sheet_carried.proofs.turned.firsts_from.Statement.{statement}
 use Rattle.sheet_carried.proofs.turned.firsts_from.Tie as tie
 
@@ -26,42 +26,6 @@ spot c =
 row : (c : tie.After-place Inv-loop μ-loop) → c .before .before .before .before .before .before .args .from + 16 * c .place .result < SUPPORTS
 row c = let s = c .before .before .before .before .before .before in omega (arith, s .pre .3, c .place .ensures .0, s .pre .4 (16 * s .args .x + c .before .before .lowest .result))
 
-is-empty-requires : tie.Need-is-empty-requires Inv-loop μ-loop
-is-empty-requires c κs = tt
-
-lowest-requires : tie.Need-lowest-requires Inv-loop μ-loop
-lowest-requires c κs = tt
-
-without-lowest-requires : tie.Need-without-lowest-requires Inv-loop μ-loop
-without-lowest-requires c κs = tt
-
-mul-place : tie.Need-mul-place Inv-loop μ-loop
-mul-place c = omega (arith, spot c)
-
-cast-place : tie.Need-cast-place Inv-loop μ-loop
-cast-place c = omega (arith, spot c)
-
-add-place : tie.Need-add-place Inv-loop μ-loop
-add-place c = omega (arith, spot c)
-
-place-requires : tie.Need-place-requires Inv-loop μ-loop
-place-requires c κs = spot c
-
-mul-support : tie.Need-mul-support Inv-loop μ-loop
-mul-support c = omega (arith, row c)
-
-add-support : tie.Need-add-support Inv-loop μ-loop
-add-support c = omega (arith, row c)
-
-support-requires : tie.Need-support-requires Inv-loop μ-loop
-support-requires c κs = row c
-
-cast-contains : tie.Need-cast-contains Inv-loop μ-loop
-cast-contains c = omega (arith, c .before .before .before .before .before .before .before .pre .2)
-
-contains-requires : tie.Need-contains-requires Inv-loop μ-loop
-contains-requires c κs = tt
-
 returns : tie.Need-returns Inv-loop μ-loop
 returns c = λ q. absurd (subst T (sym q) tt)
 
@@ -82,8 +46,7 @@ returns-2 : tie.Need-returns-2 Inv-loop μ-loop
 returns-2 c = λ q. swept-over _ _ (c .before .before .loop .inv) (none-left _ _ (c .before .is-empty .ensures) (c .if1 .left))
 
 pub firsts-from-spec : {M : Type 1} → statement M
-firsts-from-spec =
-    tie.close
-    (tie.spec
-    Inv-loop μ-loop loop-holds is-empty-requires lowest-requires without-lowest-requires mul-place cast-place add-place place-requires mul-support add-support
-    support-requires cast-contains contains-requires returns loop-less loop-again returns-2)
+firsts-from-spec = tie.close (tie.spec
+    Inv-loop μ-loop loop-holds (λ c κs. tt) (λ c κs. tt) (λ c κs. tt) (λ c. omega (arith, spot c)) (λ c. omega (arith, spot c)) (λ c. omega (arith, spot c)) (λ c κs. spot c)
+    (λ c. omega (arith, row c)) (λ c. omega (arith, row c)) (λ c κs. row c) (λ c. omega (arith, c .before .before .before .before .before .before .before .pre .2)) (λ c κs. tt) returns loop-less
+    loop-again returns-2)

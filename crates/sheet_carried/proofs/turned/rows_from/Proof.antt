@@ -11,16 +11,10 @@ ready s p h = let i = three-in p _ _ (now (s .args .moves)) _ (s .args .k) _ _ _
 room : (s : tie.Start) → s .args .m < 32
 room s = let h = s .pre .0 in omega (arith, h .1 .inside, h .1 .ready .framed .stated .most)
 
-seconds-from-requires : tie.Need-seconds-from-requires
-seconds-from-requires c κs = let s = c .before in let r = ready s (s .pre .0 .0) (s .pre .0 .1) in ((s .pre .0 .0, r .0, r .1), s .pre .1, omega (arith, room s), s .pre .4)
-
 returns : tie.Need-returns
 returns c =
     let s = c .before .before in
     λ q p h. let r = ready s p h in whole-up p _ _ _ _ _ _ _ _ h (s .pre .2) (s .pre .3) (c .before .if1 .taken) (c .seconds-from .ensures q p (r .0) (r .1))
-
-seconds-from-requires-2 : tie.Need-seconds-from-requires-2
-seconds-from-requires-2 c κs = let s = c .before .before in let r = ready s (s .pre .0 .0) (s .pre .0 .1) in ((s .pre .0 .0, r .0, r .1), s .pre .1, omega (arith, room s), s .pre .4)
 
 returns-2 : tie.Need-returns-2
 returns-2 c =
@@ -31,7 +25,7 @@ returns-3 : tie.Need-returns-3
 returns-3 c = λ q. absurd (subst T (sym q) tt)
 
 pub rows-from-spec : {M : Type 1} → statement M
-rows-from-spec =
-    tie.close
-    (tie.spec
-    (λ c. search needs) seconds-from-requires returns (λ c. search needs) seconds-from-requires-2 returns-2 returns-3)
+rows-from-spec = tie.close (tie.spec
+    (λ c. search needs) (λ c κs. let s = c .before in let r = ready s (s .pre .0 .0) (s .pre .0 .1) in ((s .pre .0 .0, r .0, r .1), s .pre .1, omega (arith, room s), s .pre .4)) returns
+    (λ c. search needs) (λ c κs. let s = c .before .before in let r = ready s (s .pre .0 .0) (s .pre .0 .1) in ((s .pre .0 .0, r .0, r .1), s .pre .1, omega (arith, room s), s .pre .4)) returns-2
+    returns-3)

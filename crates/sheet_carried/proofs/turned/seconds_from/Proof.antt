@@ -4,8 +4,7 @@ use Rattle.model.proofs.Lowest.{some-left, none-left}
 use Rattle.arrays.specs.inner.Places.{SUPPORTS}
 use Rattle.sheet_table.specs.inner.Forbidden.{ThirdsFrom, Two}
 use Rattle.sheet_table.proofs.{Codes.init-small, Laws.Swept, Laws.swept-none, Laws.swept-over, Laws.swept-small, Laws.swept-less, Laws.swept-rest}
-use Rattle.sheet_carried.proofs.Surely.{lacking-place}
-use Rattle.sheet_carried.proofs.turned.seconds_from.Statement.{statement}
+use Rattle.sheet_carried.proofs.{Surely.lacking-place, turned.seconds_from.Statement.statement}
 use Rattle.sheet_carried.proofs.turned.seconds_from.Tie as tie
 
 abbrev Inv-loop : tie.InvT-loop
@@ -15,9 +14,6 @@ Inv-loop numbers supports moves k base step third x y z rest₀ rest =
 
 abbrev μ-loop : tie.MeasureT-loop
 μ-loop numbers supports moves k base step third x y z rest₀ rest = rest .bits
-
-initial-requires : tie.Need-initial-requires Inv-loop μ-loop
-initial-requires c κs = let h = c .pre .0 in (h .0, h .1 .0, h .2)
 
 loop-holds : tie.Need-loop-holds Inv-loop μ-loop
 loop-holds c = λ p h l. swept-none _ _ _ (c .initial .ensures p (h .0) l) (init-small p (h .0 .stated) _ l)
@@ -42,42 +38,6 @@ set-spot c =
     let s = c .before .before .before .before .before .before .before in
     omega (arith, lacking-place (s .args .base + 15 * s .args .third) (s .args .step) (c .before .before .lowest .result) (omega (arith, s .pre .2)) (low (c .before .before)))
 
-is-empty-requires : tie.Need-is-empty-requires Inv-loop μ-loop
-is-empty-requires c κs = tt
-
-lowest-requires : tie.Need-lowest-requires Inv-loop μ-loop
-lowest-requires c κs = tt
-
-cast-v : tie.Need-cast-v Inv-loop μ-loop
-cast-v c = omega (arith, low c)
-
-without-lowest-requires : tie.Need-without-lowest-requires Inv-loop μ-loop
-without-lowest-requires c κs = tt
-
-mul-from : tie.Need-mul-from Inv-loop μ-loop
-mul-from c = omega (arith, c .before .before .before .before .before .before .pre .1)
-
-mul-place : tie.Need-mul-place Inv-loop μ-loop
-mul-place c = omega (arith, spot c)
-
-add-place : tie.Need-add-place Inv-loop μ-loop
-add-place c = omega (arith, spot c)
-
-place-requires : tie.Need-place-requires Inv-loop μ-loop
-place-requires c κs = spot c
-
-add-from : tie.Need-add-from Inv-loop μ-loop
-add-from c = omega (arith, row c, c .before .before .before .before .before .before .before .pre .1)
-
-mul-thirds-from : tie.Need-mul-thirds-from Inv-loop μ-loop
-mul-thirds-from c = omega (arith, set-spot c)
-
-add-thirds-from : tie.Need-add-thirds-from Inv-loop μ-loop
-add-thirds-from c = omega (arith, set-spot c)
-
-thirds-from-requires : tie.Need-thirds-from-requires Inv-loop μ-loop
-thirds-from-requires c κs = let h = c .before .before .before .before .before .before .before .pre in ((h .0 .0, h .0 .1), omega (arith, row c, h .1), set-spot c, h .3)
-
 returns : tie.Need-returns Inv-loop μ-loop
 returns c = λ q. absurd (subst T (sym q) tt)
 
@@ -101,8 +61,8 @@ returns-2 : tie.Need-returns-2 Inv-loop μ-loop
 returns-2 c = λ q p h l. swept-over _ _ (c .before .before .loop .inv p h l) (none-left _ _ (c .before .is-empty .ensures) (c .if1 .left))
 
 pub seconds-from-spec : {M : Type 1} → statement M
-seconds-from-spec =
-    tie.close
-    (tie.spec
-    Inv-loop μ-loop initial-requires loop-holds is-empty-requires lowest-requires cast-v without-lowest-requires mul-from mul-place add-place place-requires
-    add-from mul-thirds-from add-thirds-from thirds-from-requires returns loop-less loop-again returns-2)
+seconds-from-spec = tie.close (tie.spec
+    Inv-loop μ-loop (λ c κs. let h = c .pre .0 in (h .0, h .1 .0, h .2)) loop-holds (λ c κs. tt) (λ c κs. tt) (λ c. omega (arith, low c)) (λ c κs. tt)
+    (λ c. omega (arith, c .before .before .before .before .before .before .pre .1)) (λ c. omega (arith, spot c)) (λ c. omega (arith, spot c)) (λ c κs. spot c)
+    (λ c. omega (arith, row c, c .before .before .before .before .before .before .before .pre .1)) (λ c. omega (arith, set-spot c)) (λ c. omega (arith, set-spot c))
+    (λ c κs. let h = c .before .before .before .before .before .before .before .pre in ((h .0 .0, h .0 .1), omega (arith, row c, h .1), set-spot c, h .3)) returns loop-less loop-again returns-2)

@@ -3,10 +3,8 @@ use Rattle.model.specs.{Lists.at, Problem.Problem}
 use Rattle.model.proofs.{Sets.mask-lt, Lowest.some-left, Lowest.none-left}
 use Rattle.arrays.specs.inner.Places.{SUPPORTS}
 use Rattle.sheet_table.specs.inner.Forbidden.{FirstsFrom, Two}
-use Rattle.sheet_table.proofs.{Codes.init-small, Laws.Swept, Laws.swept-none, Laws.swept-over, Laws.swept-small}
-use Rattle.sheet_carried.proofs.{Surely.lacking-place, Wholes.firsts-from}
-use Rattle.sheet_table.proofs.{Laws.swept-less, Laws.swept-rest}
-use Rattle.sheet_carried.proofs.turned.thirds_from.Statement.{statement}
+use Rattle.sheet_table.proofs.{Codes.init-small, Laws.Swept, Laws.swept-none, Laws.swept-over, Laws.swept-small, Laws.swept-less, Laws.swept-rest}
+use Rattle.sheet_carried.proofs.{Surely.lacking-place, Wholes.firsts-from, turned.thirds_from.Statement.statement}
 use Rattle.sheet_carried.proofs.turned.thirds_from.Tie as tie
 
 abbrev Inv-loop : tie.InvT-loop
@@ -15,12 +13,6 @@ Inv-loop numbers supports moves from base step x z first rest₀ rest =
 
 abbrev μ-loop : tie.MeasureT-loop
 μ-loop numbers supports moves from base step x z first rest₀ rest = rest .bits
-
-initial-requires : tie.Need-initial-requires Inv-loop μ-loop
-initial-requires c κs = let h = c .pre .0 in (h .0, h .1 .0, h .1 .1)
-
-initial-requires-2 : tie.Need-initial-requires-2 Inv-loop μ-loop
-initial-requires-2 c κs = let h = c .before .pre .0 in (h .0, h .1 .0, h .1 .2)
 
 loop-holds : tie.Need-loop-holds Inv-loop μ-loop
 loop-holds c = λ p h. swept-none _ _ _ (c .initial2 .ensures p (h .0) (h .2)) (init-small p (h .0 .stated) _ (h .2))
@@ -39,39 +31,6 @@ set-spot c = lacking-place _ _ _ (c .before .before .before .before .before .bef
 
 spot : (c : tie.After-common Inv-loop μ-loop) → 16 * c .before .before .before .before .before .before .before .before .before .args .z + c .before .before .before .lowest .result < 256
 spot c = let h = c .before .before .before .before .before .before .before .before .before .pre .0 in omega (arith, h .1 .2, h .1 .0 .stated .few, low (c .before .before .before))
-
-is-empty-requires : tie.Need-is-empty-requires Inv-loop μ-loop
-is-empty-requires c κs = tt
-
-lowest-requires : tie.Need-lowest-requires Inv-loop μ-loop
-lowest-requires c κs = tt
-
-cast-u : tie.Need-cast-u Inv-loop μ-loop
-cast-u c = omega (arith, low c)
-
-without-lowest-requires : tie.Need-without-lowest-requires Inv-loop μ-loop
-without-lowest-requires c κs = tt
-
-mul-support : tie.Need-mul-support Inv-loop μ-loop
-mul-support c = omega (arith, set-spot c)
-
-add-support : tie.Need-add-support Inv-loop μ-loop
-add-support c = omega (arith, set-spot c)
-
-support-requires : tie.Need-support-requires Inv-loop μ-loop
-support-requires c κs = set-spot c
-
-common-requires : tie.Need-common-requires Inv-loop μ-loop
-common-requires c κs = tt
-
-mul-place : tie.Need-mul-place Inv-loop μ-loop
-mul-place c = omega (arith, spot c)
-
-add-place : tie.Need-add-place Inv-loop μ-loop
-add-place c = omega (arith, spot c)
-
-place-requires : tie.Need-place-requires Inv-loop μ-loop
-place-requires c κs = spot c
 
 firsts-from-requires : tie.Need-firsts-from-requires Inv-loop μ-loop
 firsts-from-requires c κs =
@@ -107,8 +66,7 @@ returns-2 : tie.Need-returns-2 Inv-loop μ-loop
 returns-2 c = λ q p h. swept-over _ _ (c .before .before .loop .inv p h) (none-left _ _ (c .before .is-empty .ensures) (c .if1 .left))
 
 pub thirds-from-spec : {M : Type 1} → statement M
-thirds-from-spec =
-    tie.close
-    (tie.spec
-    Inv-loop μ-loop initial-requires initial-requires-2 loop-holds is-empty-requires lowest-requires cast-u without-lowest-requires mul-support add-support
-    support-requires common-requires mul-place add-place place-requires firsts-from-requires returns loop-less loop-again returns-2)
+thirds-from-spec = tie.close (tie.spec
+    Inv-loop μ-loop (λ c κs. let h = c .pre .0 in (h .0, h .1 .0, h .1 .1)) (λ c κs. let h = c .before .pre .0 in (h .0, h .1 .0, h .1 .2)) loop-holds (λ c κs. tt) (λ c κs. tt)
+    (λ c. omega (arith, low c)) (λ c κs. tt) (λ c. omega (arith, set-spot c)) (λ c. omega (arith, set-spot c)) (λ c κs. set-spot c) (λ c κs. tt) (λ c. omega (arith, spot c))
+    (λ c. omega (arith, spot c)) (λ c κs. spot c) firsts-from-requires returns loop-less loop-again returns-2)

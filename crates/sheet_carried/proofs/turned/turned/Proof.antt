@@ -51,24 +51,6 @@ three c p codes s =
     (small b _ _ (d .place3 .ensures .0)) _ _
     (ap₂ bitAnd (ap₂ bitAnd (c .before .before .before .before .number .ensures) (c .before .before .before .number2 .ensures)) (c .before .before .number3 .ensures)) (c .pick .ensures)
 
-add-place : tie.Need-add-place
-add-place c = omega (arith, few (c .before) 0 _ (omega arith) (is-0 c))
-
-place-requires : tie.Need-place-requires
-place-requires c κs = omega (arith, few (c .before) 0 _ (omega arith) (is-0 c))
-
-add-place-2 : tie.Need-add-place-2
-add-place-2 c = omega (arith, few (c .before .before .before) 1 _ (omega arith) (is-1 c))
-
-place-requires-2 : tie.Need-place-requires-2
-place-requires-2 c κs = omega (arith, few (c .before .before .before) 1 _ (omega arith) (is-1 c))
-
-add-place-3 : tie.Need-add-place-3
-add-place-3 c = omega (arith, few (c .before .before .before .before .before) 2 _ (omega arith) (is-2 c))
-
-place-requires-3 : tie.Need-place-requires-3
-place-requires-3 c κs = omega (arith, few (c .before .before .before .before .before) 2 _ (omega arith) (is-2 c))
-
 returns : tie.Need-returns
 returns c = λ q. absurd (subst T (sym q) tt)
 
@@ -103,8 +85,9 @@ returns-4 c =
     (c .rows-from .ensures q p h)
 
 pub turned-spec : {M : Type 1} → statement M
-turned-spec =
-    tie.close
-    (tie.spec
-    (λ c κs. search needs) add-place place-requires (λ c κs. search needs) add-place-2 place-requires-2 (λ c κs. search needs) add-place-3 place-requires-3
-    returns returns-2 (λ c κs. search needs) (λ c κs. search needs) (λ c κs. search needs) returns-3 (λ c κs. search needs) rows-from-requires returns-4)
+turned-spec = tie.close (tie.spec
+    (λ c κs. search needs) (λ c. omega (arith, few (c .before) 0 _ (omega arith) (is-0 c))) (λ c κs. omega (arith, few (c .before) 0 _ (omega arith) (is-0 c))) (λ c κs. search needs)
+    (λ c. omega (arith, few (c .before .before .before) 1 _ (omega arith) (is-1 c))) (λ c κs. omega (arith, few (c .before .before .before) 1 _ (omega arith) (is-1 c))) (λ c κs. search needs)
+    (λ c. omega (arith, few (c .before .before .before .before .before) 2 _ (omega arith) (is-2 c)))
+    (λ c κs. omega (arith, few (c .before .before .before .before .before) 2 _ (omega arith) (is-2 c))) returns returns-2 (λ c κs. search needs) (λ c κs. search needs) (λ c κs. search needs)
+    returns-3 (λ c κs. search needs) rows-from-requires returns-4)

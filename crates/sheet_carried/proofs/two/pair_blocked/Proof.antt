@@ -6,9 +6,6 @@ use Rattle.sheet_carried.proofs.two.pair_blocked.Tie as tie
 returns : tie.Need-returns
 returns c = λ p t. sym (of-T _ (couple-after p _ _ _ (c .before .refused-two .ensures (c .if2 .taken) p t)))
 
-refused-two-requires-2 : tie.Need-refused-two-requires-2
-refused-two-requires-2 c κs = let h = c .before .before .pre in ((h .0, triple-turned (h .0) _ _ _ _ _ (h .1)), c .if3 .taken)
-
 returns-2 : tie.Need-returns-2
 returns-2 c = λ p t. sym (of-T _ (couple-turned p _ _ _ (c .before .refused-two2 .ensures (c .if4 .taken) p (triple-turned p _ _ _ _ _ t))))
 
@@ -16,7 +13,5 @@ returns-3 : tie.Need-returns-3
 returns-3 c = search needs
 
 pub pair-blocked-spec : {M : Type 1} → statement M
-pair-blocked-spec =
-    tie.close
-    (tie.spec
-    (λ c κs. search needs) returns refused-two-requires-2 returns-2 (λ c κs. search needs) returns-3)
+pair-blocked-spec = tie.close (tie.spec
+    (λ c κs. search needs) returns (λ c κs. let h = c .before .before .pre in ((h .0, triple-turned (h .0) _ _ _ _ _ (h .1)), c .if3 .taken)) returns-2 (λ c κs. search needs) returns-3)

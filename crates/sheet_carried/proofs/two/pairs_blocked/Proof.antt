@@ -2,8 +2,7 @@ use Rattle.model.specs.Kit.{_≡_, refl, sym, ap, _∙_, subst, ℕ, _+_, _*_, 
 use Rattle.model.specs.{ValueSets.members, ValueSets.withoutMask, Problem.Problem}
 use Rattle.model.proofs.Lowest.{some-left, none-left}
 use Rattle.sheet_table.specs.inner.Forbidden.{Beside, allBlocked}
-use Rattle.sheet_carried.proofs.Beside.{beside-next, beside-less, beside-triple, beside-stop, beside-rest, beside-over}
-use Rattle.sheet_carried.proofs.two.pairs_blocked.Statement.{statement}
+use Rattle.sheet_carried.proofs.{Beside.beside-next, Beside.beside-less, Beside.beside-triple, Beside.beside-stop, Beside.beside-rest, Beside.beside-over, two.pairs_blocked.Statement.statement}
 use Rattle.sheet_carried.proofs.two.pairs_blocked.Tie as tie
 
 abbrev Inv-loop : tie.InvT-loop
@@ -25,27 +24,6 @@ spot c =
     let h = c .before .before .before .before .before .pre in
     subst (λ (v : ℕ). 16 * c .before .before .before .before .before .args .x + v < 256) (sym (c .before .lowest .ensures))
     (beside-next (h .0) _ _ _ _ _ _ _ (c .before .before .before .before .loop .inv (h .0) (h .1) .0) (some (c .before .before)))
-
-is-empty-requires : tie.Need-is-empty-requires Inv-loop μ-loop
-is-empty-requires c κs = tt
-
-lowest-requires : tie.Need-lowest-requires Inv-loop μ-loop
-lowest-requires c κs = tt
-
-without-lowest-requires : tie.Need-without-lowest-requires Inv-loop μ-loop
-without-lowest-requires c κs = tt
-
-mul-place : tie.Need-mul-place Inv-loop μ-loop
-mul-place c = omega (arith, spot c)
-
-cast-place : tie.Need-cast-place Inv-loop μ-loop
-cast-place c = omega (arith, spot c)
-
-add-place : tie.Need-add-place Inv-loop μ-loop
-add-place c = omega (arith, spot c)
-
-place-requires : tie.Need-place-requires Inv-loop μ-loop
-place-requires c κs = spot c
 
 pair-blocked-requires : tie.Need-pair-blocked-requires Inv-loop μ-loop
 pair-blocked-requires c κs = let h = c .before .before .before .before .before .before .pre in (
@@ -84,8 +62,6 @@ returns-2 : tie.Need-returns-2 Inv-loop μ-loop
 returns-2 c = λ p s. let i = c .before .before .loop .inv p s in beside-over p _ _ _ _ _ _ _ (i .0) _ (none-left _ _ (c .before .is-empty .ensures) (c .if1 .left)) (i .1)
 
 pub pairs-blocked-spec : {M : Type 1} → statement M
-pairs-blocked-spec =
-    tie.close
-    (tie.spec
-    Inv-loop μ-loop loop-holds is-empty-requires lowest-requires without-lowest-requires mul-place cast-place add-place place-requires pair-blocked-requires
+pairs-blocked-spec = tie.close (tie.spec
+    Inv-loop μ-loop loop-holds (λ c κs. tt) (λ c κs. tt) (λ c κs. tt) (λ c. omega (arith, spot c)) (λ c. omega (arith, spot c)) (λ c. omega (arith, spot c)) (λ c κs. spot c) pair-blocked-requires
     returns loop-less loop-again returns-2)

@@ -1,9 +1,9 @@
 -- `walk` meets its contract. The measure is how many variables are ahead; the loop goes through the choices for the next one.
 -- Assumes nothing.
 use Rattle.model.specs.Kit.{_≡_, refl, _∙_, ap, true, List, [], _∷_, _++_, ℕ, _+_, _-_, _*_, _≤_, _<_, arith, length, now, not-true, not-false}
+use Rattle.model.specs.{Lists.at, Problem.Problem, Problem.constraintAt}
 use borrow.Fn.Kinds.{In}
 use borrow.Fn.PlainCycle.{Measures, is, falls, and}
-use Rattle.model.specs.{Lists.at, Problem.Problem, Problem.constraintAt}
 use Rattle.model.proofs.Lowest.{lowest-le, some-left, none-left}
 use Rattle.sheet_table.specs.inner.Forbidden.{Walking, Choices}
 use Rattle.sheet_carried.proofs.Walks.{last-beside, last-all, choices-over, next-place, next-less, next-spot, next-key, next-walk, walk-stop, walk-rest}

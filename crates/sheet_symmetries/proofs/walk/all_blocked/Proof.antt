@@ -2,8 +2,8 @@ use Rattle.model.specs.Kit.{_≡_, refl, sym, ap, _∙_, subst, ℕ, _+_, _*_, 
 use Rattle.model.specs.{ValueSets.members, ValueSets.withoutMask, Problem.Problem}
 use Rattle.model.proofs.Lowest.{lowest-le, some-left, none-left}
 use Rattle.sheet_table.specs.inner.Forbidden.{Sure, Beside, allBlocked}
-use Rattle.sheet_carried.proofs.{Surely.sure-none, Beside.beside-one, Beside.beside-one-is, Beside.beside-clash, Beside.beside-next, Beside.beside-less}
-use Rattle.sheet_carried.proofs.Beside.{beside-pair, beside-small, beside-triple, beside-stop, beside-rest, beside-over}
+use Rattle.sheet_carried.proofs.Surely.{sure-none}
+use Rattle.sheet_carried.proofs.Beside.{beside-one, beside-one-is, beside-clash, beside-next, beside-less, beside-pair, beside-small, beside-triple, beside-stop, beside-rest, beside-over}
 use Rattle.sheet_symmetries.proofs.walk.all_blocked.Statement.{statement}
 use Rattle.sheet_symmetries.proofs.walk.all_blocked.Tie as tie
 
@@ -15,14 +15,8 @@ Inv-loop numbers supports codes x a b rest₀ y₀ sure₀ rest y sure =
 abbrev μ-loop : tie.MeasureT-loop
 μ-loop numbers supports codes x a b rest₀ y₀ sure₀ rest y sure = rest .bits
 
-pairs-blocked-requires : tie.Need-pairs-blocked-requires Inv-loop μ-loop
-pairs-blocked-requires c κs = let h = c .before .pre in (h .0, beside-one (h .0) _ _ _ _ _ _ _ (c .if1 .taken) (h .1))
-
 returns : tie.Need-returns Inv-loop μ-loop
 returns c = λ p s. beside-one-is p _ _ _ _ _ _ (c .before .if1 .taken) (c .pairs-blocked .ensures p (beside-one p _ _ _ _ _ _ _ (c .before .if1 .taken) s))
-
-clash-requires : tie.Need-clash-requires Inv-loop μ-loop
-clash-requires c κs = tt
 
 returns-2 : tie.Need-returns-2 Inv-loop μ-loop
 returns-2 c = λ p s. beside-clash p _ _ _ _ _ _ _ s (sym (c .before .clash .ensures) ∙ c .if2 .taken)
@@ -38,30 +32,6 @@ spot c =
     let h = c .before .before .before .before .before .before .before .before .pre in
     subst (λ (v : ℕ). 16 * c .before .before .before .before .before .before .before .before .args .x + v < 256) (sym (c .before .lowest .ensures))
     (beside-next (h .0) _ _ _ _ _ _ _ (c .before .before .before .before .loop .inv (h .0) (h .1) .0) (some (c .before .before)))
-
-is-empty-requires : tie.Need-is-empty-requires Inv-loop μ-loop
-is-empty-requires c κs = tt
-
-lowest-requires : tie.Need-lowest-requires Inv-loop μ-loop
-lowest-requires c κs = tt
-
-cast-without : tie.Need-cast-without Inv-loop μ-loop
-cast-without c = omega (arith, c .lowest .ensures, lowest-le (c .before .before .before .loop .rest .bits))
-
-without-requires : tie.Need-without-requires Inv-loop μ-loop
-without-requires c κs = tt
-
-mul-place : tie.Need-mul-place Inv-loop μ-loop
-mul-place c = omega (arith, spot c)
-
-cast-place : tie.Need-cast-place Inv-loop μ-loop
-cast-place c = omega (arith, spot c)
-
-add-place : tie.Need-add-place Inv-loop μ-loop
-add-place c = omega (arith, spot c)
-
-place-requires : tie.Need-place-requires Inv-loop μ-loop
-place-requires c κs = spot c
 
 surely-after-requires : tie.Need-surely-after-requires Inv-loop μ-loop
 surely-after-requires c κs = let h = c .before .before .before .before .before .before .before .before .before .pre in (
@@ -115,8 +85,7 @@ returns-4 : tie.Need-returns-4 Inv-loop μ-loop
 returns-4 c = λ p s. let i = c .before .before .loop .inv p s in beside-over p _ _ _ _ _ _ _ (i .0) _ (none-left _ _ (c .before .is-empty .ensures) (c .if3 .left)) (i .1)
 
 pub all-blocked-spec : {M : Type 1} → statement M
-all-blocked-spec =
-    tie.close
-    (tie.spec
-    Inv-loop μ-loop pairs-blocked-requires returns clash-requires returns-2 loop-holds is-empty-requires lowest-requires cast-without without-requires mul-place
-    cast-place add-place place-requires surely-after-requires third-blocked-requires returns-3 loop-less loop-again returns-4)
+all-blocked-spec = tie.close (tie.spec
+    Inv-loop μ-loop (λ c κs. let h = c .before .pre in (h .0, beside-one (h .0) _ _ _ _ _ _ _ (c .if1 .taken) (h .1))) returns (λ c κs. tt) returns-2 loop-holds (λ c κs. tt) (λ c κs. tt)
+    (λ c. omega (arith, c .lowest .ensures, lowest-le (c .before .before .before .loop .rest .bits))) (λ c κs. tt) (λ c. omega (arith, spot c)) (λ c. omega (arith, spot c))
+    (λ c. omega (arith, spot c)) (λ c κs. spot c) surely-after-requires third-blocked-requires returns-3 loop-less loop-again returns-4)

@@ -29,14 +29,8 @@ some e = omega arith
 returns : tie.Need-returns
 returns c = λ q. absurd (subst T (sym q) tt)
 
-sub-scope-at : tie.Need-sub-scope-at
-sub-scope-at c = let h = c .before .before .pre in omega (arith, last c (h .0) (h .1) (h .2, h .3))
-
 scope-at-requires : tie.Need-scope-at-requires
 scope-at-requires c κs = let h = c .before .before .pre in (h .0, h .2 .framed, h .3 .inside, omega (arith, last c (h .0) (h .1) (h .2, h .3), c .arity .ensures (h .0) (h .2 .framed) (h .3 .inside)))
-
-choices-requires : tie.Need-choices-requires
-choices-requires c κs = let h = c .before .before .before .pre in (h .0, h .1, h .2, chosen (c .before .before) (h .0) (h .1) (h .2, h .3), some, variable c (h .0) (h .1) (h .2, h .3))
 
 returns-2 : tie.Need-returns-2
 returns-2 c =
@@ -45,7 +39,7 @@ returns-2 c =
     choices-over p vs codes _ _ _ (c .before .choices .ensures p vs codes r (chosen (d .before .before) p vs (r, h)) some (variable d p vs (r, h))) (eqb-true _ _ (sym (c .is-empty .ensures) ∙ q))
 
 pub all-rows-spec : {M : Type 1} → statement M
-all-rows-spec =
-    tie.close
-    (tie.spec
-    returns (λ c κs. search needs) sub-scope-at scope-at-requires choices-requires (λ c κs. search needs) returns-2)
+all-rows-spec = tie.close (tie.spec
+    returns (λ c κs. search needs) (λ c. let h = c .before .before .pre in omega (arith, last c (h .0) (h .1) (h .2, h .3))) scope-at-requires
+    (λ c κs. let h = c .before .before .before .pre in (h .0, h .1, h .2, chosen (c .before .before) (h .0) (h .1) (h .2, h .3), some, variable c (h .0) (h .1) (h .2, h .3))) (λ c κs. search needs)
+    returns-2)

@@ -19,9 +19,6 @@ Inv-loop numbers supports codes moves c k₀ k = (p : Problem) → Lent p number
 abbrev μ-loop : tie.MeasureT-loop
 μ-loop numbers supports codes moves c k₀ k = c - k
 
-number-requires : tie.Need-number-requires Inv-loop μ-loop
-number-requires c κs = search needs
-
 inside : (c : tie.In-loop Inv-loop μ-loop) (p : Problem) → Lent p (now (c .before .before .before .args .numbers)) (now (c .before .before .before .args .supports))
     (now (c .before .before .before .args .codes)) (now (c .before .before .before .args .moves)) → c .before .loop .k < length (p .constraints)
 inside c p l = omega (arith, c .before .before .number .ensures, l .ready .framed .numbered .constraints, c .loop-test .taken)
@@ -44,21 +41,9 @@ answer c p l = sym (c .walk .ensures p [] 255 (start (c .before) p l) (some (c .
 loop-holds : tie.Need-loop-holds Inv-loop μ-loop
 loop-holds c = λ p l. (omega arith, refl)
 
-arity-requires : tie.Need-arity-requires Inv-loop μ-loop
-arity-requires c κs = let h = c .before .before .before .pre in (h .0, h .1 .ready .framed, inside c (h .0) (h .1))
-
-walk-requires : tie.Need-walk-requires Inv-loop μ-loop
-walk-requires c κs = let h = c .before .before .before .before .pre in (h .0, [], 255, start c (h .0) (h .1), some c (h .0) (h .1))
-
 returns : tie.Need-returns Inv-loop μ-loop
 returns c = λ p l. list-stop (kept p _) (p .constraints) none _ _ (c .before .before .before .before .loop .inv p l .1) (inside (c .before .before .before) p l)
     (answer (c .before) p l ∙ not-true _ (c .if1 .taken))
-
-add-k : tie.Need-add-k Inv-loop μ-loop
-add-k c = let h = c .before .before .before .before .before .before .pre in omega (arith, inside (c .before .before .before) (h .0) (h .1), h .1 .ready .framed .stated .most)
-
-loop-less : tie.Need-loop-less Inv-loop μ-loop
-loop-less c = omega arith
 
 loop-again : tie.Need-loop-again Inv-loop μ-loop
 loop-again c = λ p l. (
@@ -72,7 +57,8 @@ returns-2 c = λ p l. list-over (kept p _) (p .constraints) none (c .before .loo
     (omega (arith, c .before .before .number .ensures, l .ready .framed .numbered .constraints, c .loop-test .left, c .before .loop .inv p l .0))
 
 pub constraints-spec : {M : Type 1} → statement M
-constraints-spec =
-    tie.close
-    (tie.spec
-    Inv-loop μ-loop number-requires loop-holds arity-requires walk-requires returns add-k loop-less loop-again returns-2)
+constraints-spec = tie.close (tie.spec
+    Inv-loop μ-loop (λ c κs. search needs) loop-holds (λ c κs. let h = c .before .before .before .pre in (h .0, h .1 .ready .framed, inside c (h .0) (h .1)))
+    (λ c κs. let h = c .before .before .before .before .pre in (h .0, [], 255, start c (h .0) (h .1), some c (h .0) (h .1))) returns
+    (λ c. let h = c .before .before .before .before .before .before .pre in omega (arith, inside (c .before .before .before) (h .0) (h .1), h .1 .ready .framed .stated .most)) (λ c. omega arith)
+    loop-again returns-2)

@@ -2,8 +2,8 @@ use Rattle.model.specs.Kit.{_≡_, _∙_, _+_, _*_, _<_, arith, not-true, not-f
 use Rattle.model.specs.Problem.{Problem}
 use Rattle.model.proofs.Lowest.{lowest-le, some-left, none-left}
 use Rattle.sheet_table.specs.inner.Forbidden.{Lent, Doubling}
-use Rattle.sheet_symmetries.proofs.Doubles.{doubled-together, doubling-start, doubling-spot, doubling-less, doubling-beside, doubling-are, doubling-stop, doubling-rest}
-use Rattle.sheet_symmetries.proofs.{Doubles.doubling-over, walk.doubles.Statement.statement}
+use Rattle.sheet_symmetries.proofs.Doubles.{doubled-together, doubling-start, doubling-spot, doubling-less, doubling-beside, doubling-are, doubling-stop, doubling-rest, doubling-over}
+use Rattle.sheet_symmetries.proofs.walk.doubles.Statement.{statement}
 use Rattle.sheet_symmetries.proofs.walk.doubles.Tie as tie
 
 abbrev Inv-loop : tie.InvT-loop
@@ -12,17 +12,8 @@ Inv-loop numbers supports codes moves x rest₀ rest = (p : Problem) → Lent p 
 abbrev μ-loop : tie.MeasureT-loop
 μ-loop numbers supports codes moves x rest₀ rest = rest .bits
 
-add-place : tie.Need-add-place Inv-loop μ-loop
-add-place c = let h = c .pre in omega (arith, h .2, h .1 .ready .framed .stated .few)
-
-place-requires : tie.Need-place-requires Inv-loop μ-loop
-place-requires c κs = let h = c .pre in omega (arith, h .2, h .1 .ready .framed .stated .few)
-
 returns : tie.Need-returns Inv-loop μ-loop
 returns c = λ p l h. doubled-together p _ _ _ _ _ l h (λ q. c .if1 .taken (c .before .place .ensures .0 ∙ q))
-
-initial-requires : tie.Need-initial-requires Inv-loop μ-loop
-initial-requires c κs = let h = c .before .before .pre in (h .0, h .1 .ready .framed, h .2)
 
 loop-holds : tie.Need-loop-holds Inv-loop μ-loop
 loop-holds c = λ p l h. doubling-start p _ _ _ _ _ _ l h (c .initial .ensures p (l .ready .framed) h)
@@ -33,30 +24,6 @@ some c = some-left _ _ (c .before .is-empty .ensures) (c .if2 .taken)
 spot : (c : tie.After-without Inv-loop μ-loop) → 16 * c .before .before .before .before .before .before .before .before .args .x + c .before .lowest .result < 256
 spot c = let h = c .before .before .before .before .before .before .before .before .pre in doubling-spot (h .0) _ _ _ _ _ _ (h .1) (h .2)
     (c .before .before .before .before .loop .inv (h .0) (h .1) (h .2)) (some (c .before .before)) _ _ (c .before .lowest .ensures) (c .without .ensures)
-
-is-empty-requires : tie.Need-is-empty-requires Inv-loop μ-loop
-is-empty-requires c κs = tt
-
-lowest-requires : tie.Need-lowest-requires Inv-loop μ-loop
-lowest-requires c κs = tt
-
-cast-without : tie.Need-cast-without Inv-loop μ-loop
-cast-without c = omega (arith, c .lowest .ensures, lowest-le (c .before .before .before .loop .rest .bits))
-
-without-requires : tie.Need-without-requires Inv-loop μ-loop
-without-requires c κs = tt
-
-mul-place : tie.Need-mul-place Inv-loop μ-loop
-mul-place c = omega (arith, spot c)
-
-cast-place : tie.Need-cast-place Inv-loop μ-loop
-cast-place c = omega (arith, spot c)
-
-add-place-2 : tie.Need-add-place-2 Inv-loop μ-loop
-add-place-2 c = omega (arith, spot c)
-
-place-requires-2 : tie.Need-place-requires-2 Inv-loop μ-loop
-place-requires-2 c κs = spot c
 
 pairs-blocked-requires : tie.Need-pairs-blocked-requires Inv-loop μ-loop
 pairs-blocked-requires c κs = let h = c .before .before .before .before .before .before .before .before .before .pre in (
@@ -94,8 +61,8 @@ returns-3 : tie.Need-returns-3 Inv-loop μ-loop
 returns-3 c = λ p l h. doubling-over p _ _ _ (c .before .before .loop .inv p l h) (none-left _ _ (c .before .is-empty .ensures) (c .if2 .left))
 
 pub doubles-spec : {M : Type 1} → statement M
-doubles-spec =
-    tie.close
-    (tie.spec
-    Inv-loop μ-loop add-place place-requires returns initial-requires loop-holds is-empty-requires lowest-requires cast-without without-requires mul-place
-    cast-place add-place-2 place-requires-2 pairs-blocked-requires returns-2 loop-less loop-again returns-3)
+doubles-spec = tie.close (tie.spec
+    Inv-loop μ-loop (λ c. let h = c .pre in omega (arith, h .2, h .1 .ready .framed .stated .few)) (λ c κs. let h = c .pre in omega (arith, h .2, h .1 .ready .framed .stated .few)) returns
+    (λ c κs. let h = c .before .before .pre in (h .0, h .1 .ready .framed, h .2)) loop-holds (λ c κs. tt) (λ c κs. tt)
+    (λ c. omega (arith, c .lowest .ensures, lowest-le (c .before .before .before .loop .rest .bits))) (λ c κs. tt) (λ c. omega (arith, spot c)) (λ c. omega (arith, spot c))
+    (λ c. omega (arith, spot c)) (λ c κs. spot c) pairs-blocked-requires returns-2 loop-less loop-again returns-3)

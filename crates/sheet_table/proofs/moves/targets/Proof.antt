@@ -11,9 +11,6 @@ Inv-loop numbers codes moves₀ n x₀ moves x =
 abbrev μ-loop : tie.MeasureT-loop
 μ-loop numbers codes moves₀ n x₀ moves x = n - x
 
-number-requires : tie.Need-number-requires Inv-loop μ-loop
-number-requires c κs = search needs
-
 loop-holds : tie.Need-loop-holds Inv-loop μ-loop
 loop-holds c = (c .before .pre .1, λ p f d b. (omega arith, moving-none p (f .stated) _ _ b))
 
@@ -22,24 +19,6 @@ inside c p f = omega (arith, c .before .before .number .ensures, f .numbered .va
 
 small : (c : tie.In-loop Inv-loop μ-loop) → 192 + c .before .loop .x < 256
 small c = let h = c .before .before .before .pre .0 in omega (arith, inside c (h .0) (h .1), h .1 .stated .few)
-
-goes-to-requires : tie.Need-goes-to-requires Inv-loop μ-loop
-goes-to-requires c κs = let h = c .before .before .before .pre .0 in (h .0, h .1, inside c (h .0) (h .1))
-
-cast-moves : tie.Need-cast-moves Inv-loop μ-loop
-cast-moves c = omega (arith, c .goes-to .ensures .0)
-
-add-moves : tie.Need-add-moves Inv-loop μ-loop
-add-moves c = omega (arith, small (c .before))
-
-element-write-moves : tie.Need-element-write-moves Inv-loop μ-loop
-element-write-moves c = omega (arith, small (c .before))
-
-add-x : tie.Need-add-x Inv-loop μ-loop
-add-x c = omega (arith, small (c .before))
-
-loop-less : tie.Need-loop-less Inv-loop μ-loop
-loop-less c = omega arith
 
 loop-again : tie.Need-loop-again Inv-loop μ-loop
 loop-again c =
@@ -58,7 +37,6 @@ returns c =
     λ p f d a. moved-all p (f .stated) _ _ _ (omega (arith, c .before .before .number .ensures, f .numbered .variables, c .loop-test .left, i .1 p f d a .0)) (i .0 .small) (i .1 p f d a .1)
 
 pub targets-spec : {M : Type 1} → statement M
-targets-spec =
-    tie.close
-    (tie.spec
-    Inv-loop μ-loop number-requires loop-holds goes-to-requires cast-moves add-moves element-write-moves add-x loop-less loop-again returns)
+targets-spec = tie.close (tie.spec
+    Inv-loop μ-loop (λ c κs. search needs) loop-holds (λ c κs. let h = c .before .before .before .pre .0 in (h .0, h .1, inside c (h .0) (h .1))) (λ c. omega (arith, c .goes-to .ensures .0))
+    (λ c. omega (arith, small (c .before))) (λ c. omega (arith, small (c .before))) (λ c. omega (arith, small (c .before))) (λ c. omega arith) loop-again returns)

@@ -1,11 +1,11 @@
 use Rattle.model.specs.Kit.{⊎-elim, _≡_, refl, sym, ap, _∙_, subst, ℕ, _+_, _-_, _*_, _%_, _≤_, _<_, arith, needs, not-true, not-false, now, length, length-set}
-use native.Mathlib.Nat.{mod-lt}
 use Rattle.model.specs.{Lists.at, Problem.Problem}
+use native.Mathlib.Nat.{mod-lt}
 use Rattle.model.proofs.{Lists.T-of, Lists.at-replicate, Pairs.isPair-lt}
 use Rattle.sheet_table.specs.{inner.Table.TableAt, inner.Table.tableOf, inner.Forbidden.Blank, inner.Scan.Seen, inner.Scan.DrawnTo}
-use Rattle.sheet_table.proofs.{Frames.size-lt, Frames.size-is, Scans.seen-none, Scans.seen-all, Scans.read-out, Scans.read-twice, Scans.read-moved}
-use Rattle.sheet_table.proofs.Scans.{read-same, read-more, number-lt, table-length, table-small, drawn-none, drawn-same, read-drawn, drawn-no, drawn-yes}
-use Rattle.sheet_table.proofs.{Targets.blank-same, Targets.blank-moves, Targets.blank-codes, table.decode.Statement.statement}
+use Rattle.sheet_table.proofs.Scans.{seen-none, seen-all, read-out, read-twice, read-moved, read-same, read-more, number-lt, table-length, table-small, drawn-none, drawn-same, read-drawn}
+use Rattle.sheet_table.proofs.Scans.{drawn-no, drawn-yes}
+use Rattle.sheet_table.proofs.{Frames.size-lt, Frames.size-is, Targets.blank-same, Targets.blank-moves, Targets.blank-codes, table.decode.Statement.statement}
 use Rattle.sheet_table.proofs.table.decode.Tie as tie
 
 abbrev Inv-loop : tie.InvT-loop
@@ -15,15 +15,6 @@ Inv-loop sheet offset numbers codes₀ moves₀ d count seen₀ q₀ codes moves
 
 abbrev μ-loop : tie.MeasureT-loop
 μ-loop sheet offset numbers codes₀ moves₀ d count seen₀ q₀ codes moves seen q = count - q
-
-number-requires : tie.Need-number-requires Inv-loop μ-loop
-number-requires c κs = search needs
-
-number-requires-2 : tie.Need-number-requires-2 Inv-loop μ-loop
-number-requires-2 c κs = search needs
-
-mul-count : tie.Need-mul-count Inv-loop μ-loop
-mul-count c = let l = c .before .before .before .pre .0 in omega (arith, size-lt (l .0) _ (l .1 .framed) _ _ (c .number2 .ensures) (c .before .number .ensures))
 
 loop-holds : tie.Need-loop-holds Inv-loop μ-loop
 loop-holds c = (c .before .before .before .pre .1, refl, λ p l. (omega arith, seen-none p _ _ (at-replicate 192), drawn-none p _ _ _))
@@ -66,21 +57,6 @@ image-in c p l = isPair-lt p _ (T-of _ (sym (c .before .is-pair2 .ensures p (l .
 image-small : (c : tie.Else2 Inv-loop μ-loop) → c .before .before .before .before .read-word .result < 192
 image-small c = let l = c .before .before .before .before .before .before .before .before .before .before .pre .0 in omega (arith, image-in c (l .0) (l .1), table-small (l .0) (l .1 .framed .stated))
 
-mul-read-word : tie.Need-mul-read-word Inv-loop μ-loop
-mul-read-word c = omega (arith, small c)
-
-add-read-word : tie.Need-add-read-word Inv-loop μ-loop
-add-read-word c = omega (arith, room c)
-
-read-word-requires : tie.Need-read-word-requires Inv-loop μ-loop
-read-word-requires c κs = omega (arith, room c)
-
-is-pair-requires : tie.Need-is-pair-requires Inv-loop μ-loop
-is-pair-requires c κs = let l = c .before .before .before .before .before .before .pre .0 in (l .0, l .1 .framed)
-
-is-pair-requires-2 : tie.Need-is-pair-requires-2 Inv-loop μ-loop
-is-pair-requires-2 c κs = let l = c .before .before .before .before .before .before .before .before .pre .0 in (l .0, l .1 .framed)
-
 returns : tie.Need-returns Inv-loop μ-loop
 returns c =
     let b = c .before .before .before .before .before in
@@ -91,39 +67,12 @@ returns c =
           (sym (c .before .before .before .is-pair .ensures p (l .framed)) ∙ c .before .before .if1 .taken) (sym (c .before .is-pair2 .ensures p (l .framed)) ∙ not-true _ (c .if2 .taken)));
     }
 
-array-read-if3 : tie.Need-array-read-if3 Inv-loop μ-loop
-array-read-if3 c = image-small c
-
 returns-2 : tie.Need-returns-2 Inv-loop μ-loop
 unfolding at
 returns-2 c =
     let r = c .before .before .before .before .before in
     let b = r .before in
     record { room = b .before .loop .inv .0; drawn = λ p l. drawn-no p _ _ _ (read-twice p _ _ _ _ _ (b .before .loop .inv .2 p l .1) (inside b p l) (r .read-word .ensures) (c .if3 .taken)) }
-
-array-write-seen : tie.Need-array-write-seen Inv-loop μ-loop
-array-write-seen c = image-small (c .before)
-
-pair-code-requires : tie.Need-pair-code-requires Inv-loop μ-loop
-pair-code-requires c κs = coded (c .before .before .before .before .before .before) _ (image-in (c .before))
-
-cast-codes : tie.Need-cast-codes Inv-loop μ-loop
-cast-codes c = omega (arith, c .pair-code .ensures .1)
-
-pair-code-requires-2 : tie.Need-pair-code-requires-2 Inv-loop μ-loop
-pair-code-requires-2 c κs = coded (c .before .before .before .before .before .before .before) _ (inside (c .before .before .before .before .before .before .before))
-
-element-write-codes : tie.Need-element-write-codes Inv-loop μ-loop
-element-write-codes c = omega (arith, c .pair-code2 .ensures .1)
-
-rem-moves : tie.Need-rem-moves Inv-loop μ-loop
-rem-moves c = omega (arith, value (c .before .before .before .before .before .before .before .before) .0)
-
-cast-moves : tie.Need-cast-moves Inv-loop μ-loop
-cast-moves c = omega (arith, value (c .before .before .before .before .before .before .before .before) .1)
-
-element-write-moves : tie.Need-element-write-moves Inv-loop μ-loop
-element-write-moves c = omega (arith, c .before .pair-code .ensures .1)
 
 returns-3 : tie.Need-returns-3 Inv-loop μ-loop
 returns-3 c =
@@ -134,12 +83,6 @@ returns-3 c =
           (read-moved p _ _ _ _ _ (b .before .loop .inv .2 p l .1) (inside b p l) (c .before .before .before .read-word .ensures)
           (sym (c .before .before .is-pair .ensures p (l .framed)) ∙ c .before .if1 .left) (c .if4 .taken));
     }
-
-add-q : tie.Need-add-q Inv-loop μ-loop
-add-q c = omega (arith, small (c .before .before .before))
-
-loop-less : tie.Need-loop-less Inv-loop μ-loop
-loop-less c = omega arith
 
 loop-again : tie.Need-loop-again Inv-loop μ-loop
 unfolding at
@@ -184,9 +127,13 @@ returns-4 c =
     }
 
 pub decode-spec : {M : Type 1} → statement M
-decode-spec =
-    tie.close
-    (tie.spec
-    Inv-loop μ-loop number-requires number-requires-2 mul-count loop-holds mul-read-word add-read-word read-word-requires is-pair-requires is-pair-requires-2
-    returns array-read-if3 returns-2 array-write-seen pair-code-requires cast-codes pair-code-requires-2 element-write-codes rem-moves cast-moves
-    element-write-moves returns-3 add-q loop-less loop-again returns-4)
+decode-spec = tie.close (tie.spec
+    Inv-loop μ-loop (λ c κs. search needs) (λ c κs. search needs)
+    (λ c. let l = c .before .before .before .pre .0 in omega (arith, size-lt (l .0) _ (l .1 .framed) _ _ (c .number2 .ensures) (c .before .number .ensures))) loop-holds (λ c. omega (arith, small c))
+    (λ c. omega (arith, room c)) (λ c κs. omega (arith, room c)) (λ c κs. let l = c .before .before .before .before .before .before .pre .0 in (l .0, l .1 .framed))
+    (λ c κs. let l = c .before .before .before .before .before .before .before .before .pre .0 in (l .0, l .1 .framed)) returns (λ c. image-small c) returns-2 (λ c. image-small (c .before))
+    (λ c κs. coded (c .before .before .before .before .before .before) _ (image-in (c .before))) (λ c. omega (arith, c .pair-code .ensures .1))
+    (λ c κs. coded (c .before .before .before .before .before .before .before) _ (inside (c .before .before .before .before .before .before .before))) (λ c. omega (arith, c .pair-code2 .ensures .1))
+    (λ c. omega (arith, value (c .before .before .before .before .before .before .before .before) .0))
+    (λ c. omega (arith, value (c .before .before .before .before .before .before .before .before) .1)) (λ c. omega (arith, c .before .pair-code .ensures .1)) returns-3
+    (λ c. omega (arith, small (c .before .before .before))) (λ c. omega arith) loop-again returns-4)

@@ -3,9 +3,6 @@ use Rattle.model.specs.Lists.{at}
 use Rattle.sheet_table.proofs.{Frames.size-lt, Frames.pair-variable, Frames.pair-value, Frames.is-pair, Frames.no-pair, table.is_pair.Statement.statement}
 use Rattle.sheet_table.proofs.table.is_pair.Tie as tie
 
-mul-if1 : tie.Need-mul-if1
-mul-if1 c = let f = c .before .before .pre in omega (arith, size-lt (f .0) _ (f .1) _ _ (c .before .number .ensures) (c .number2 .ensures))
-
 initial-requires : tie.Need-initial-requires
 initial-requires c κs = let f = c .before .before .before .pre in (f .0, f .1, pair-variable (f .0) _ (f .1) _ _ _ (c .before .before .number .ensures) (c .before .number2 .ensures) (c .if1 .taken))
 
@@ -24,8 +21,6 @@ returns-2 : tie.Need-returns-2
 returns-2 c = λ p f. no-pair p _ f _ _ _ (c .before .before .number .ensures) (c .before .number2 .ensures) (c .if1 .left)
 
 pub is-pair-spec : {M : Type 1} → statement M
-is-pair-spec =
-    tie.close
-    (tie.spec
-    (λ c κs. search needs) (λ c κs. search needs) mul-if1 (λ c. search needs) initial-requires (λ c. search needs) cast-contains (λ c κs. search needs) returns
-    returns-2)
+is-pair-spec = tie.close (tie.spec
+    (λ c κs. search needs) (λ c κs. search needs) (λ c. let f = c .before .before .pre in omega (arith, size-lt (f .0) _ (f .1) _ _ (c .before .number .ensures) (c .number2 .ensures)))
+    (λ c. search needs) initial-requires (λ c. search needs) cast-contains (λ c κs. search needs) returns returns-2)
