@@ -1,5 +1,5 @@
 // The layout of the compiled problem: definitions (specs/), where the arrays have what, and the numbers by which the parts of the search name
-// an outcome. specs/Places.antt has the same names. A packed scope is taken apart here.
+// an outcome. specs/inner/Places.antt has the same names. A packed scope is taken apart here.
 ghost use mathlib.Core.Path.{_≡_};
 ghost use Prim.Native.Nat.{_<_};
 ghost use Rattle.arrays.specs.inner.Layout.{arityIn, variableIn};
