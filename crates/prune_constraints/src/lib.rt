@@ -97,7 +97,7 @@ fn mask(b: ValueSet, e: ValueSet, v: u16) -> u16
     if b.contains(v) { e.bits } else { 0 }
 }
 
-// Sixteen sets: e where the set b has the value, else the empty set. Every value has its turn, so that the compiler takes all sixteen at once; likewise in `meet`.
+// Sixteen sets: e where the set b has the value, else the empty set. No value is left out, so that the compiler takes all sixteen at once, as in `meet`.
 fn masks(b: ValueSet, e: ValueSet) -> [u16; 16]
     ensures { λ r. ⌜ Masks (b .bits) (e .bits) r ⌝ }
 {
