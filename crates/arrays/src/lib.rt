@@ -1,5 +1,7 @@
 // The layout of the compiled problem: definitions (specs/), where the arrays have what, and the numbers by which the parts of the search name
 // an outcome. specs/Inner/Places.antt has the same names. A packed scope is taken apart here.
+#![tactic(auto)]
+
 ghost use Rattle.std.specs.Prelude.{◌≡◌, ◌<◌};
 ghost use Rattle.arrays.specs.Inner.Layout.{arity_in, variable_in};
 

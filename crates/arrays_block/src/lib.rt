@@ -1,4 +1,6 @@
 // Questions 36, 15 and 16 to a block (paper 02, #111), on the arrays of the compiled problem; the places of its variables in an order; its images.
+#![tactic(auto)]
+
 ghost use Rattle.std.specs.Prelude.{◌≡◌, ◌+◌, ◌*◌, ◌≤◌, ◌<◌, T, length};
 ghost use Rattle.model.specs.Lists.{at};
 ghost use Rattle.model.specs.Inner.Filling.{Gathered};

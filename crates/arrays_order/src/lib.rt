@@ -1,6 +1,8 @@
 // The compiled problem (crate arrays) with its variables in another order (paper 02, request 108): variable i of the new problem is variable order[i] of the
 // old.
 // It runs once a run, before the search's tables are made.
+#![tactic(auto)]
+
 ghost use Rattle.model.specs.Problem.{Problem};
 ghost use Rattle.arrays_order.specs.Inner.Reorder.{Movable, Moved};
 

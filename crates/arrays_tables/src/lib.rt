@@ -1,5 +1,7 @@
 // The search's tables, made once from the compiled problem: constraints on two variables by variable, constraints on three by unions in numbers of
 // eight lanes and by the depth of their look-ups, and for each symmetry and pair the images of the smaller values.
+#![tactic(auto)]
+
 ghost use Rattle.model.specs.Problem.{Problem};
 ghost use Rattle.arrays_tables.specs.Inner.Index.{Compact, Made};
 

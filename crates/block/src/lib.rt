@@ -1,4 +1,6 @@
 // The orderings of 0 to 4 in ascending order, five numbers a row (paper 02, #111).
+#![tactic(auto)]
+
 ghost use Rattle.std.specs.Prelude.{◌≡◌};
 ghost use Rattle.model.specs.Lists.{flat};
 ghost use Rattle.block.specs.Block.{orderings};

@@ -1,5 +1,7 @@
 // A queue of jobs in eight slots (paper 02, #113: a desk, its halls and seats) in lent bytes.
 // specs/Inner/Layout.antt says what any bytes mean; zeros are the empty queue.
+#![tactic(auto)]
+
 ghost use Rattle.std.specs.Prelude.{◌≡◌, ◌+◌, ◌≤◌, ◌<◌, min, length};
 ghost use Rattle.model.specs.Lists.{at};
 ghost use Rattle.model.specs.Sheet.{«word»};
@@ -45,7 +47,7 @@ pub const SHEET_BYTES: usize = 55656;
 // Where the byte stands that says where the next turn begins to look.
 pub const NEXT: usize = 839064;
 
-#[derive(Drop)]
+#[derive(Clone, Copy)]
 pub enum Answer {
     Queued {
         slot: usize,
@@ -71,7 +73,7 @@ pub enum Answer {
 }
 
 // How a slot stands, and its nodes by variable: twelve counts, 0 after a refusal.
-#[derive(Drop)]
+#[derive(Clone, Copy)]
 pub struct SlotStatus {
     pub answer: Answer,
     pub counts: [u32; 12],

@@ -1,4 +1,6 @@
 // A slot's status, and a slot freed (paper 02, #113). What any bytes mean: crate desk.
+#![tactic(auto)]
+
 ghost use Rattle.std.specs.Prelude.{◌≡◌, [], ◌+◌, ◌*◌, ◌≤◌, ◌<◌, length};
 ghost use Rattle.desk.specs.Inner.Places.{LIST, LIST_BYTES};
 ghost use Rattle.desk.specs.Queue.{refusal};

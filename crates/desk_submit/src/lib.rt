@@ -1,4 +1,6 @@
 // A job into the lowest free slot (paper 02, #113). What any bytes mean: crate desk.
+#![tactic(auto)]
+
 ghost use Rattle.std.specs.Prelude.{◌≡◌, ◌+◌, ◌≤◌, length};
 ghost use Rattle.model.specs.Written.{placed};
 ghost use Rattle.desk.specs.Inner.Places.{SHEET, SHEET_BYTES};

@@ -1,4 +1,6 @@
 // Turns of the queue (paper 02, #113): the run of a slot goes on from its last node, by 64 nodes (the paper's trials) a turn.
+#![tactic(auto)]
+
 mod round;
 mod serve;
 
@@ -11,7 +13,7 @@ use round::go_round;
 use serve::serve;
 
 // What rounds answer: the slots whose run ended in them and those whose run goes on, bit k for slot k.
-#[derive(Drop)]
+#[derive(Clone, Copy)]
 pub enum Reply {
     Given { ended: u16, going: u16 },
     // 255 where the queue has not QUEUE_BYTES bytes.

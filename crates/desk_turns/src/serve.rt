@@ -24,7 +24,7 @@ use wire::{four, place};
 const QUANTUM: usize = 64;
 
 // How a slot stands after its turns, and how many it took.
-#[derive(Drop)]
+#[derive(Clone, Copy)]
 pub struct Served {
     pub standing: u8,
     pub plans: usize,

@@ -1,4 +1,6 @@
 // The slots whose run hasn't ended.
+#![tactic(auto)]
+
 ghost use Rattle.std.specs.Prelude.{◌≡◌, ◌<◌, length};
 ghost use Rattle.model.specs.ValueSets.{mask_of, one_if};
 ghost use Rattle.desk.specs.Queue.{waits, slot_at, to_serve, size};

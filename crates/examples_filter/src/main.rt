@@ -1,6 +1,8 @@
 // Puts the cases of standard input to the filter (paper 01), one a line, and prints of each its name, the answer, and the sets afterwards.
 // A line is a name, a colon, and four lists of numbers with a slash between them: the sets, and of the entries the variables, the values of
 // the equalities and those of the disequalities, 255 the mark of an absent one. A line that begins with # is a remark.
+#![tactic(auto)]
+
 ghost use Rattle.std.specs.Prelude.{◌≤◌, length};
 
 use examples_lines::{find, number, say, say_number};
@@ -9,7 +11,7 @@ use libc::STDIN_FILENO;
 use model::wide;
 
 // How many numbers a list has, and where it ends.
-#[derive(Drop)]
+#[derive(Clone, Copy)]
 struct Listed {
     count: usize,
     end: usize,

@@ -1,11 +1,13 @@
 // Lines that the examples' programs read, and what they print.
+#![tactic(auto)]
+
 ghost use Rattle.std.specs.Prelude.{◌≤◌, ◌<◌, length};
 
 use libc::STDOUT_FILENO;
 use model::wide;
 
 // A number of a line, and where it ends; done where there is none.
-#[derive(Drop)]
+#[derive(Clone, Copy)]
 pub struct Found {
     pub value: usize,
     pub end: usize,

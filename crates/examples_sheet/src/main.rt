@@ -1,6 +1,8 @@
 // Puts the questions (paper 01) to the sheets that standard input names, one a line, and prints each line with the answer.
 // A line is a letter, A for sheet A of paper 01 or L for the longest sheet, the number of bytes lent, and any number of changes:
 // an offset and the number that stands there instead. What follows is a remark.
+#![tactic(auto)]
+
 ghost use Rattle.std.specs.Prelude.{◌≤◌, length};
 
 use examples_lines::{find, number, say, say_number};

@@ -1,4 +1,6 @@
 // Whether the exchanges of a run are closed (paper 02, #112).
+#![tactic(auto)]
+
 ghost use Rattle.export_closed.specs.Calls.{CallClosedBytes};
 
 use families_closed::Answer;

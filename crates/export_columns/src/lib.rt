@@ -1,6 +1,8 @@
 // Plans stored by window (paper 02, #103): rows to columns and back. The answer has 12 bytes, three numbers of four bytes, low byte first:
 // 1, the number of bytes written, 0. Answers 0; or a refusal, and then every buffer is as it came; or, asked first, 255 times 256 where the
 // answer has not 12 bytes.
+#![tactic(auto)]
+
 ghost use Rattle.export_columns.specs.Calls.{CallColumnsBytes, CallRowsBytes};
 
 use list_columns::Answer;

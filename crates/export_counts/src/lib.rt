@@ -1,4 +1,6 @@
 // Nodes by variable (paper 02, #107): an ending and the twelve counts as bytes.
+#![tactic(auto)]
+
 ghost use Rattle.std.specs.Prelude.{◌≡◌, ◌++◌, ◌+◌, ◌^◌, ◌≤◌, ◌<◌, length};
 ghost use Rattle.model.specs.Written.{Written};
 ghost use Rattle.run_state.specs.Meaning.{ending_of};

@@ -2,6 +2,8 @@
 // Numbers in an answer have four bytes, low byte
 // first. Each function answers 0; or a refusal, and then every buffer is as it came; or, asked first, 255 times 256 where the answer or the queue has
 // another length than is asked.
+#![tactic(auto)]
+
 ghost use Rattle.std.specs.Prelude.{◌≡◌, [], ℕ, ◌^◌, ◌≤◌, ◌<◌, length};
 ghost use Rattle.model.specs.Written.{Written};
 ghost use Rattle.desk.specs.Queue.{submit, standing_by};

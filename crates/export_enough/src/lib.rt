@@ -1,4 +1,6 @@
 // At least m plans (paper 02, #101)?
+#![tactic(auto)]
+
 ghost use Rattle.std.specs.Prelude.{◌≡◌, length};
 ghost use Rattle.run.specs.Meaning.{said_enough};
 ghost use Rattle.export_enough.specs.Enough.{said_code, said_bytes};

@@ -1,4 +1,6 @@
 // The number of families of a run (paper 02, #104).
+#![tactic(auto)]
+
 ghost use Rattle.export_families.specs.Families.{CallFigured};
 
 use families_count::Answer;

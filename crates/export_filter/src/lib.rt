@@ -1,4 +1,5 @@
 // The filter for callers: sets and lists in bytes.
+#![tactic(auto)]
 
 mod sets;
 

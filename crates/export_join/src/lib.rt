@@ -1,4 +1,6 @@
 // The heads of parts joined, with the answer in lent bytes.
+#![tactic(auto)]
+
 mod pieces;
 
 ghost use Rattle.export_join.specs.Joined.{CallJoinBytes};

@@ -1,4 +1,6 @@
 // Calls that are lent a sheet, pairs and a block (paper 02, #108 and #111). Pairs: two bytes each, "this place before that place".
+#![tactic(auto)]
+
 ghost use Rattle.export_lent.specs.Calls.{CallQuestionCode, CallRunBytes};
 
 use export_counts::ending;

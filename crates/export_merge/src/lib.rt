@@ -1,5 +1,7 @@
 // One list from two (paper 02, #106). The answer has 12 bytes, three numbers of four bytes, low byte first: 1, then the number of bytes
 // written, its low half and its high half.
+#![tactic(auto)]
+
 ghost use Rattle.export_merge.specs.Merged.{CallMerged};
 
 use list_merge::Answer;

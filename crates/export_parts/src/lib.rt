@@ -1,4 +1,6 @@
 // A part of a run between two paths, lent a sheet, pairs and a block, with its answer in lent bytes. A refusal's number and item are those of the papers.
+#![tactic(auto)]
+
 mod digests;
 mod heads;
 

@@ -1,4 +1,6 @@
 // The report on a sheet for callers. The answer has 12 bytes, three numbers of four bytes, low byte first: 1, the report's length, 0.
+#![tactic(auto)]
+
 mod text;
 
 ghost use Rattle.std.specs.Prelude.{take};

@@ -1,4 +1,6 @@
 // The questions of paper 01 put to a sheet, and the ending of a run in lent bytes. A refusal's number and item are those of the papers.
+#![tactic(auto)]
+
 ghost use Rattle.std.specs.Prelude.{◌≡◌, length};
 ghost use Rattle.run_state.specs.Meaning.{ending_of};
 ghost use Rattle.export_run.specs.Run.{ending_bytes};

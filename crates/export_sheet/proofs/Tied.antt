@@ -1,5 +1,5 @@
 -- The contract of `run`, as the checker states it, is what `Exported` supposes, and asks for nothing. Assumes nothing.
-use Rattle.model.specs.Kit.{◌≡◌, refl, SProp, emp, now}
+use Rattle.model.specs.Kit.{◌≡◌, refl, SProp, emp}
 use seplogic.Ra.Ura.{Ura}
 use prog.Memory.{Memory}
 use prog.Routine.{Routine}
@@ -14,5 +14,5 @@ use Rattle.export_sheet.specs.contracts.run as run
 module _ {M : Type 1} {𝓤 : Ura M} (𝓛 : Logic 𝓤) (mem : Memory → SProp 𝓤) (of : Routine → Fun 𝓤) where
   pub run_tied : (κs : Lfts 3) (a : Args run.signature κs) (r : Res run.signature κs) (s : AtExit run.ended κs) →
       ((run.clauses 𝓛 mem of κs a).requires tt ≡ emp 𝓤) × ((run.clauses 𝓛 mem of κs a).ensures tt r s ≡ fact 𝓤
-      (CallExported (now a.0) a.1.0 (now a.1.1.0) (now a.1.1.1.0) r (now s.1.1.0) (now s.1.1.1.0)))
+      (CallExported a.0.now a.1.0 a.1.1.0.now a.1.1.1.0.now r s.1.1.0.now s.1.1.1.0.now))
   run_tied κs a r s = (refl, refl)

@@ -1,4 +1,6 @@
 // A run of paper 01 on a sheet alone, with its answer in lent bytes. A refusal's number and item are those of the papers.
+#![tactic(auto)]
+
 ghost use Rattle.export_run.specs.Calls.{CallExported};
 
 use export_run::ending;

@@ -1,4 +1,6 @@
 // Every small sheet (paper 02, #114).
+#![tactic(auto)]
+
 ghost use Rattle.export_small.specs.Calls.{CallSmallBytes};
 
 use sheet_small::Answer;

@@ -1,6 +1,8 @@
 // The symmetry store (paper 02, #110): an owner is the paper's course, a key its hall. The answer has 12 bytes, three numbers of four bytes,
 // low byte first: 1, the number of bytes written to the room, 0. Each function answers 0; or a refusal, and then every buffer is as it
 // came; or, asked first, 255 times 256 where the answer has not 12 bytes or the store not STORE_BYTES.
+#![tactic(auto)]
+
 ghost use Rattle.std.specs.Prelude.{◌≡◌, length};
 ghost use Rattle.store.specs.Meaning.{means};
 ghost use Rattle.wire.specs.Outcomes.{outcome_code, outcome_answer};

@@ -1,4 +1,6 @@
 // Turns of the queue (paper 02, #113), as the other calls on it: crate export_desk.
+#![tactic(auto)]
+
 ghost use Rattle.desk.specs.Queue.{turn};
 ghost use Rattle.export_desk.specs.Told.{CallQueue, CallRounds};
 

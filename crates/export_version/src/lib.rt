@@ -1,4 +1,6 @@
 // The version that the planner tells.
+#![tactic(auto)]
+
 ghost use Rattle.std.specs.Prelude.{◌≡◌};
 
 // major * 65536 + minor * 256 + patch.

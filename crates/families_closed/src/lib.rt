@@ -1,4 +1,6 @@
 // Whether a run's exchanges are closed, or the first two that aren't (paper 02, #112): on the images of a compiled problem, and for callers.
+#![tactic(auto)]
+
 ghost use Rattle.std.specs.Prelude.{◌≡◌, ℕ, ◌+◌, ◌*◌, ◌≤◌, ◌<◌, length, List};
 ghost use Rattle.model.specs.Lists.{at};
 ghost use Rattle.model.specs.Problem.{Problem};
@@ -14,7 +16,7 @@ ghost use Rattle.families_closed.specs.Calls.{CallClosed};
 use arrays::{IMAGES, Images, NUMBERS, Numbers, SUPPORTS, VALUES, VARIABLES, WIDE, Wide};
 
 // The refusal of a run, that its exchanges are closed, or the first two, by number, whose product is missing.
-#[derive(Drop)]
+#[derive(Clone, Copy)]
 pub enum Answer {
     Closed,
     Missing { first: usize, second: usize },

@@ -1,5 +1,7 @@
 // The number of families on a sheet, or a dash (paper 02, #104): a run without symmetries lists all solutions, whose families are counted. The sheet is
 // compiled once, and the arrays serve every run on it and the count.
+#![tactic(auto)]
+
 ghost use Rattle.std.specs.Prelude.{◌≡◌, List, ℕ, length, replicate};
 ghost use Rattle.model.specs.Problem.{Problem};
 ghost use Rattle.arrays.specs.Inner.Places.{WIDE};
@@ -18,7 +20,7 @@ use arrays::{
 use run_tree::CountedPart;
 
 // The number of families, the dash, or the refusal of a run.
-#[derive(Drop)]
+#[derive(Clone, Copy)]
 pub enum Answer {
     Number(usize),
     Dash,
@@ -26,7 +28,7 @@ pub enum Answer {
 }
 
 // The run of a report, its figure, and the number of variables, 0 after a refusal.
-#[derive(Drop)]
+#[derive(Clone, Copy)]
 pub struct ReportRun {
     pub answer: run::Answer,
     pub figure: Answer,

@@ -9,7 +9,7 @@ ghost use Rattle.filter.specs.Inner.Scan.{Stepped, Changed};
 use model::ValueSet;
 
 // What one entry comes to.
-#[derive(Drop)]
+#[derive(Clone, Copy)]
 pub enum Step {
     // The next entry is due.
     Next,

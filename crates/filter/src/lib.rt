@@ -1,4 +1,6 @@
 // The exact filter for increasing nogoods (paper 01, "Nogood lists"), for callers with any lists and sets.
+#![tactic(auto)]
+
 pub mod entry; // entry.rt: one entry at a time, for whoever feeds them
 
 ghost use Rattle.std.specs.Prelude.{◌≡◌, ℕ, ◌≤◌, ◌<◌, ◌^◌, length, take, drop};
@@ -12,7 +14,7 @@ use entry::Step;
 use model::ValueSet;
 
 // The answer of the filter: `means` in specs/Meaning.antt gives the ending of paper 02, #102, or paper 01's number and item for each case.
-#[derive(Drop)]
+#[derive(Clone, Copy)]
 pub enum Answer {
     Failed,
     Entailed,
@@ -21,14 +23,14 @@ pub enum Answer {
 }
 
 // How the questions end.
-#[derive(Drop)]
+#[derive(Clone, Copy)]
 enum Verdict {
     Accepted,
     Refused { number: u8, item: usize },
 }
 
 // How the filter ends on sixteen sets.
-#[derive(Drop)]
+#[derive(Clone, Copy)]
 enum Ending {
     Failed,
     Entailed,
@@ -36,7 +38,7 @@ enum Ending {
 }
 
 // How far a pass over the entries came: to an empty set, to the end, or to an equality that some assignments keep and some break.
-#[derive(Drop)]
+#[derive(Clone, Copy)]
 enum Reached {
     Failed,
     End,
@@ -48,7 +50,7 @@ const MARK: u8 = 255;
 
 // What an entry of the three lists is, by its two marks (source document 001, section 3), with the value that is there: `kind_as` in
 // specs/Inner/Lists.antt has the case for each of model's.
-#[derive(Drop)]
+#[derive(Clone, Copy)]
 enum Kind {
     Equality(u8),
     Disequality(u8),

@@ -1,4 +1,6 @@
 // Plans stored by window (paper 02, #103): rows to columns and back. `means` in specs/Meaning.antt says what the answers mean.
+#![tactic(auto)]
+
 ghost use Rattle.std.specs.Prelude.{◌≡◌, ◌+◌, ◌*◌, ◌≤◌, ◌<◌, length};
 ghost use Rattle.model.specs.Lists.{flat};
 ghost use Rattle.model.specs.Run.{listed_plans};
@@ -12,7 +14,7 @@ ghost use Rattle.list_columns.specs.Calls.{CallColumns, CallRows};
 
 use model::wide;
 
-#[derive(Drop)]
+#[derive(Clone, Copy)]
 pub enum Answer {
     Written(usize),
     Refused { number: u8, item: usize },

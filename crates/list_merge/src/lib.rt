@@ -1,4 +1,6 @@
 // One list from two (paper 02, #106). `means` in specs/Meaning.antt says what the answers mean.
+#![tactic(auto)]
+
 ghost use Rattle.std.specs.Prelude.{◌≡◌, true, ℕ, ◌+◌, ◌≤◌, ◌<◌, ◌%◌, leb, ltb, length, take, drop, get_or};
 ghost use mathlib.Core.List.{Memᴰ};
 ghost use Rattle.model.specs.Lists.{choose, earlier};
@@ -14,7 +16,7 @@ ghost use Rattle.list_merge.specs.Inner.Inner.{taken_second, Walked};
 use model::wide;
 use wire::put;
 
-#[derive(Drop)]
+#[derive(Clone, Copy)]
 pub enum Answer {
     Written(usize),
     Refused { number: u8, item: usize },
@@ -28,7 +30,7 @@ fn refused(number: u8) -> Answer
 }
 
 // How a row stands to another.
-#[derive(Drop)]
+#[derive(Clone, Copy)]
 enum Way {
     Before,
     Same,

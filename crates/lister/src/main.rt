@@ -1,5 +1,6 @@
 // The lister (paper 01, "The report"): prints the report on the sheet that stands on standard input. The planner makes all of the text.
 // A program in Rattle has no exit status: what fails is said on standard error.
+#![tactic(auto)]
 
 ghost use Rattle.std.specs.Prelude.{◌≡◌, length};
 ghost use Rattle.io.specs.Counts.{IsPrefixLen};
@@ -7,7 +8,7 @@ ghost use Rattle.report.specs.Inner.Text.{room};
 ghost use Rattle.export_report.specs.Report.{length_told};
 
 // Standard input: how many bytes stand at the front of the buffer, and whether a read failed after them.
-#[derive(Drop)]
+#[derive(Clone, Copy)]
 struct Input {
     count: usize,
     failed: bool,

@@ -54,7 +54,7 @@ use types.Kit.{
   check,
   await,
   updating,
-  now as at_once,
+  as.now at_once,
   show,
   by,
   suffices,
@@ -88,10 +88,10 @@ use Rattle.loans.proofs.Reborrow as reborrow
 
 -- owning the reference at the value x, and the slice at the list ys; n is the count in the slice's machine value
 abbrev pub at_ref : (R : RattleType) → Lft → ℕ → ℕ → GName → R.Denot → Fml
-at_ref R κ b o γ x = (MutRef (named 0) κ R).own_val (record { ref_ptr = (b, o); ghost_name = γ; now = x }) (vptr b o ∷ [])
+at_ref R κ b o γ x = (MutRef (named 0) κ R).own_val (record { ref_ptr = (b, o); ghost_name = γ; =.now x }) (vptr b o ∷ [])
 
 abbrev pub at_sl : (S : RattleType) → Lft → ℕ → ℕ → ℕ → GName → List S.Denot → Fml
-at_sl S κ b o n γ ys = (MutSlice (named 0) κ S).own_val (record { ref_ptr = (b, o); ghost_name = γ; now = ys }) (slice_val (b, o) n ∷ [])
+at_sl S κ b o n γ ys = (MutSlice (named 0) κ S).own_val (record { ref_ptr = (b, o); ghost_name = γ; =.now ys }) (slice_val (b, o) n ∷ [])
 
 abbrev pub at_shr : (R : RattleType) → Lft → Bor R.Denot → Fml
 at_shr R κ x = (ShrRef (named 0) κ R).own_val x (vptr x.ptr.0 x.ptr.1 ∷ [])
@@ -174,7 +174,7 @@ module _ {M : Type 1} {𝓤 : Ura M} (𝓛 : Logic 𝓤) where
 
     -- the same lent as a `&T`: the borrow is open meanwhile
     abbrev own_look : ℕ × GName → Fml
-    own_look n = at_shr R (n.0 ∷ []) (record { ref_ptr = (b, o); ghost_name = n.1; now = x })
+    own_look n = at_shr R (n.0 ∷ []) (record { ref_ptr = (b, o); ghost_name = n.1; =.now x })
 
     abbrev kept_look : ℕ × GName → Fml
     kept_look n = fsep (flent (n.0 ∷ []) (part_at R full_share x b o)) (fsep (fobor κ q (Body (mem R) b o γ)) (fsep (fobs γ (R.coded.code x)) (fauth γ (R.coded.code x))))
@@ -250,7 +250,7 @@ module _ {M : Type 1} {𝓤 : Ura M} (𝓛 : Logic 𝓤) where
     }
 
     abbrev own_view : ℕ × GName → Fml
-    own_view n = at_shr R (n.0 ∷ []) (record { ref_ptr = (b, o); ghost_name = n.1; now = x })
+    own_view n = at_shr R (n.0 ∷ []) (record { ref_ptr = (b, o); ghost_name = n.1; =.now x })
 
     abbrev kept_view : ℕ × GName → Fml
     kept_view n = flent (n.0 ∷ []) (part_at R full_share x b o)
@@ -367,7 +367,7 @@ module _ {M : Type 1} {𝓤 : Ura M} (𝓛 : Logic 𝓤) where
     tok_none n = flft (n.0 ∷ []) full_share
 
     abbrev own_none : ℕ × GName → Fml
-    own_none n = (ShrSlice (named 0) (n.0 ∷ []) S).own_val (record { ref_ptr = (b, o); now = [] }) (slice_val (b, o) 0 ∷ [])
+    own_none n = (ShrSlice (named 0) (n.0 ∷ []) S).own_val (record { ref_ptr = (b, o); =.now [] }) (slice_val (b, o) 0 ∷ [])
 
     abbrev parts_none : Fml
     parts_none = (arr_parts (shares S) 0).part full_share [] b o

@@ -13,7 +13,7 @@ use base.Logic.{SProp, ent, sep, ex, guard, apply∗}
 use base.Fml.{Lft, GName, Share, Fml, fsep, fwand, flft, fdead, fres, flent}
 use types.Logic.{Logic, sem}
 use contract.BorrowLft.{meet_⊑_left}
-use types.Kit.{‵, given, some, later, ◌⊛◌, ◌$◌, ◌∵◌, !, qed, move, use1, use2, use3, split, join, pick, learn, check, await, updating, now as at_once, show, fsplit, fjoin, done}
+use types.Kit.{‵, given, some, later, ◌⊛◌, ◌$◌, ◌∵◌, !, qed, move, use1, use2, use3, split, join, pick, learn, check, await, updating, as.now at_once, show, fsplit, fjoin, done}
 use types.SemTy.{Body}
 use types.Tokens.{lft_new, lft_end}
 use denote.RattleType.{RattleType}

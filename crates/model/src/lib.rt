@@ -1,4 +1,6 @@
 // Sets of values (paper 01, "Words"): value v is a member where bit v is 1. A byte as a number.
+#![tactic(auto)]
+
 ghost use Rattle.std.specs.Prelude.{◌≡◌, ◌<◌, eqb};
 ghost use Rattle.model.specs.ValueSets.{has, full_mask, without_mask, only_mask, union_mask, common_mask, lowest_of};
 
@@ -15,7 +17,7 @@ pub fn long(x: u8) -> u64
     x as u64
 }
 
-#[derive(Drop)]
+#[derive(Clone, Copy)]
 pub struct ValueSet {
     pub bits: u16,
 }

@@ -1,4 +1,6 @@
 // The settling order (paper 02, request 108): from pairs "this place before that place", lent as bytes, the order of n places, or the refusal 28, 29 or 30.
+#![tactic(auto)]
+
 ghost use Rattle.std.specs.Prelude.{◌≡◌, List, ℕ, ◌/◌, ◌≤◌, ◌<◌, ltb, length};
 ghost use Rattle.model.specs.Lists.{all, at};
 ghost use Rattle.model.specs.ValueSets.{has, least};

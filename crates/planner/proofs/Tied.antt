@@ -1,6 +1,6 @@
 -- The contracts of the exported functions, as the checker states them, are the records that what is claimed of their callers supposes, and ask for nothing.
 -- Another `ensures` is refused here. Assumes nothing.
-use Rattle.model.specs.Kit.{◌≡◌, refl, SProp, emp, now}
+use Rattle.model.specs.Kit.{◌≡◌, refl, SProp, emp}
 use seplogic.Ra.Ura.{Ura}
 use prog.Memory.{Memory}
 use prog.Routine.{Routine}
@@ -27,37 +27,37 @@ use Rattle.planner.specs.contracts.planner_report as report
 module _ {M : Type 1} {𝓤 : Ura M} (𝓛 : Logic 𝓤) (mem : Memory → SProp 𝓤) (of : Routine → Fun 𝓤) where
   pub run_tied : (κs : Lfts 3) (a : Args run.signature κs) (r : Res run.signature κs) (s : AtExit run.ended κs) →
       ((run.clauses 𝓛 mem of κs a).requires tt ≡ emp 𝓤)
-      × ((run.clauses 𝓛 mem of κs a).ensures tt r s ≡ fact 𝓤 (CallExported (now a.0) a.1.0 (now a.1.1.0) (now a.1.1.1.0) r (now s.1.1.0) (now s.1.1.1.0)))
+      × ((run.clauses 𝓛 mem of κs a).ensures tt r s ≡ fact 𝓤 (CallExported a.0.now a.1.0 a.1.1.0.now a.1.1.1.0.now r s.1.1.0.now s.1.1.1.0.now))
   run_tied κs a r s = (refl, refl)
 
   pub filter_tied : (κs : Lfts 4) (a : Args filter.signature κs) (r : Res filter.signature κs) (s : AtExit filter.ended κs) →
       ((filter.clauses 𝓛 mem of κs a).requires tt ≡ emp 𝓤) × ((filter.clauses 𝓛 mem of κs a).ensures tt r s ≡ fact 𝓤
-      (CallBytes (now a.0) (now a.1.0) (now a.1.1.0) (now a.1.1.1.0) r (now s.0)))
+      (CallBytes a.0.now a.1.0.now a.1.1.0.now a.1.1.1.0.now r s.0.now))
   filter_tied κs a r s = (refl, refl)
 
   pub run_part_tied : (κs : Lfts 7) (a : Args run_part.signature κs) (r : Res run_part.signature κs) (s : AtExit run_part.ended κs) →
       ((run_part.clauses 𝓛 mem of κs a).requires tt ≡ emp 𝓤)
       × ((run_part.clauses 𝓛 mem of κs a).ensures tt r s
-      ≡ fact 𝓤 (CallPartBytes (now a.0) (now a.1.0) (now a.1.1.0) (now a.1.1.1.0) (now a.1.1.1.1.0) a.1.1.1.1.1.0 (now a.1.1.1.1.1.1.0)
-      (now a.1.1.1.1.1.1.1.0) r (now s.1.1.1.1.1.1.0) (now s.1.1.1.1.1.1.1.0)))
+      ≡ fact 𝓤 (CallPartBytes a.0.now a.1.0.now a.1.1.0.now a.1.1.1.0.now a.1.1.1.1.0.now a.1.1.1.1.1.0 a.1.1.1.1.1.1.0.now
+      a.1.1.1.1.1.1.1.0.now r s.1.1.1.1.1.1.0.now s.1.1.1.1.1.1.1.0.now))
   run_part_tied κs a r s = (refl, refl)
 
   pub join_tied : (κs : Lfts 2) (a : Args join.signature κs) (r : Res join.signature κs) (s : AtExit join.ended κs) →
-      ((join.clauses 𝓛 mem of κs a).requires tt ≡ emp 𝓤) × ((join.clauses 𝓛 mem of κs a).ensures tt r s ≡ fact 𝓤 (CallJoinBytes (now a.0) (now a.1.0) r (now s.1.0)))
+      ((join.clauses 𝓛 mem of κs a).requires tt ≡ emp 𝓤) × ((join.clauses 𝓛 mem of κs a).ensures tt r s ≡ fact 𝓤 (CallJoinBytes a.0.now a.1.0.now r s.1.0.now))
   join_tied κs a r s = (refl, refl)
 
   pub merge_tied : (κs : Lfts 4) (a : Args merge.signature κs) (r : Res merge.signature κs) (s : AtExit merge.ended κs) →
       ((merge.clauses 𝓛 mem of κs a).requires tt ≡ emp 𝓤)
       × ((merge.clauses 𝓛 mem of κs a).ensures tt r s
-      ≡ fact 𝓤 (CallMerged a.0 (now a.1.0) (now a.1.1.0) (now a.1.1.1.0) (now a.1.1.1.1.0) (now a.1.1.1.1.1.0) r (now s.1.1.1.1.0) (now s.1.1.1.1.1.0)))
+      ≡ fact 𝓤 (CallMerged a.0 a.1.0.now a.1.1.0.now a.1.1.1.0.now a.1.1.1.1.0.now a.1.1.1.1.1.0.now r s.1.1.1.1.0.now s.1.1.1.1.1.0.now))
   merge_tied κs a r s = (refl, refl)
 
   pub report_tied : (κs : Lfts 3) (a : Args report.signature κs) (r : Res report.signature κs) (s : AtExit report.ended κs) →
       ((report.clauses 𝓛 mem of κs a).requires tt ≡ emp 𝓤)
-      × ((report.clauses 𝓛 mem of κs a).ensures tt r s ≡ fact 𝓤 (CallReport (now a.0) (now a.1.0) (now a.1.1.0) r (now s.1.0) (now s.1.1.0)))
+      × ((report.clauses 𝓛 mem of κs a).ensures tt r s ≡ fact 𝓤 (CallReport a.0.now a.1.0.now a.1.1.0.now r s.1.0.now s.1.1.0.now))
   report_tied κs a r s = (refl, refl)
 
   pub families_tied : (κs : Lfts 4) (a : Args families.signature κs) (r : Res families.signature κs) (s : AtExit families.ended κs) →
       ((families.clauses 𝓛 mem of κs a).requires tt ≡ emp 𝓤)
-      × ((families.clauses 𝓛 mem of κs a).ensures tt r s ≡ fact 𝓤 (CallFigured (now a.0) (now a.1.0) (now a.1.1.0) a.1.1.1.0 (now a.1.1.1.1.0) r (now s.1.1.1.1.0)))
+      × ((families.clauses 𝓛 mem of κs a).ensures tt r s ≡ fact 𝓤 (CallFigured a.0.now a.1.0.now a.1.1.0.now a.1.1.1.0 a.1.1.1.1.0.now r s.1.1.1.1.0.now))
   families_tied κs a r s = (refl, refl)

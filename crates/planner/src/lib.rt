@@ -1,4 +1,6 @@
 // The planner for C and Rust: exported functions on numbers and byte slices. Each hands its call to the crate that proves it.
+#![tactic(auto)]
+
 mod desks;
 mod lists;
 mod parts;

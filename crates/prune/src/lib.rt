@@ -1,4 +1,6 @@
 // The sets at a prefix (paper 01, "The search"), from those at the prefix with one value less.
+#![tactic(auto)]
+
 ghost use Rattle.std.specs.Prelude.{◌≡◌, not, List, [], ℕ, ◌+◌, ◌%◌, ◌<◌, T, ltb, length, take};
 ghost use Rattle.model.specs.Lists.{both, at};
 ghost use Rattle.model.specs.ValueSets.{has, mask_of};

@@ -1,4 +1,6 @@
 // Pruning by single constraints (paper 01, "The search"), over the arrays of the compiled problem.
+#![tactic(auto)]
+
 ghost use Rattle.std.specs.Prelude.{◌≡◌, true, not, List, [], ◌∷◌, ℕ, ◌+◌, ◌*◌, ◌%◌, ◌≤◌, ◌<◌, eqb, length};
 ghost use Rattle.std.specs.Int.Bits.{bit_and};
 ghost use Rattle.model.specs.Lists.{at, choose};
@@ -26,13 +28,13 @@ const PAIRS: u64 = 844437815230467;
 
 const FOURS: u64 = 64424509455;
 
-#[derive(Drop)]
+#[derive(Clone, Copy)]
 struct Two {
     first: ValueSet,
     last: ValueSet,
 }
 
-#[derive(Drop)]
+#[derive(Clone, Copy)]
 struct Three {
     first: ValueSet,
     second: ValueSet,

@@ -1,4 +1,6 @@
 // Pruning by the constraints on two variables (paper 01, "The search"), by variable: a changed set cuts all other sets at once.
+#![tactic(auto)]
+
 ghost use Rattle.std.specs.Prelude.{◌≡◌, false, ◌+◌, ◌*◌, ◌≤◌, ◌<◌, length};
 ghost use Rattle.model.specs.Problem.{Problem};
 ghost use Rattle.model.specs.Inner.Pruning.{Sets};

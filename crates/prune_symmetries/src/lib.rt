@@ -1,5 +1,7 @@
 // The exact filter for the nogoods of one symmetry at a prefix (paper 01, "The search"), with no list built: a level at a time from the tables.
 // It resumes at a mark, and answers the next one.
+#![tactic(auto)]
+
 ghost use Rattle.std.specs.Prelude.{◌≡◌, ◌+◌, ◌*◌, ◌%◌, ◌≤◌, ◌<◌, ltb, length};
 ghost use Rattle.arrays.specs.Inner.Places.{ENTAILED, TABLES};
 ghost use Rattle.model.specs.Lists.{at};

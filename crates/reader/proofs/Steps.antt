@@ -4,7 +4,7 @@
 -- In a local of a body MIR erases the lifetime of the reader's type, so its value is shown to have the type at `erased`.
 -- Assumes nothing.
 use denote.Ref.{Bor}
-use Rattle.model.specs.Kit.{◌≡◌, refl, sym, ap, ◌∙◌, subst, ℕ, ◌+◌, ◌<◌, ◌^◌, List, [], ◌∷◌, T as Holds, length, SProp, ent, sep, RefT, now}
+use Rattle.model.specs.Kit.{◌≡◌, refl, sym, ap, ◌∙◌, subst, ℕ, ◌+◌, ◌<◌, ◌^◌, List, [], ◌∷◌, T as Holds, length, SProp, ent, sep, RefT}
 use Rattle.model.specs.Sheet.{«word» as word_of}
 use seplogic.Ra.Ura.{Ura}
 use mir.Syntax.{named, erased, w64, Place, Opd as Operand, Body, seq, call}
@@ -101,21 +101,21 @@ module _ {M : Type 1} {𝓤 : Ura M} (𝓛 : Logic 𝓤) (mem : Memory → SProp
   abbrev pub to_word : Reader → Val → (Word 𝓛 mem run).Ghost
   to_word m u = (((κ, tt), (q, tt), tt, (m, tt), (u ∷ [], tt)), tt)
 
-  goes_word : (m : Reader) (u : Val) → m.at + 1 < length (now m.sheet) → ent 𝓤 (⋆ 𝓛 (token ∷ ‵ (held m u) ∷ [])) (sep 𝓤 ((Word 𝓛 mem run).pre (to_word m u)) (sem 𝓛 (held m u)))
+  goes_word : (m : Reader) (u : Val) → m.at + 1 < length m.sheet.now → ent 𝓤 (⋆ 𝓛 (token ∷ ‵ (held m u) ∷ [])) (sep 𝓤 ((Word 𝓛 mem run).pre (to_word m u)) (sem 𝓛 (held m u)))
   goes_word m u l =
       qed 𝓛 (token ∷ ‵ (held m u) ∷ []) ∵ move ! (1 ∷ []) $
       use1 𝓛 (‵ (held m u) ⊛ ‵ (held m u)) ((LL.copy (T.the_type (named_lft 1 0 tt (κ, tt))) (T'.the_copy (named_lft 1 0 tt (κ, tt))) 𝓛).twice m (u ∷ [])) $ split ! $ nothing ! $ move !
       (1 ∷ 0 ∷ []) $ fjoin ! $ move ! (2 ∷ 0 ∷ []) $
       use2 𝓛 (raw ((Word 𝓛 mem run).pre (to_word m u))) (qed 𝓛 (token ∷ ‵ (owns (B (κ, tt) ∷ []) (m, tt) (u ∷ [], tt)) ∷ []) ∵ says ! l $ frame ! $ done !) $ frame ! $ done !
 
-  word_said : (m : Reader) (t : ℕ) → ent 𝓤 (ensured 𝓛 word.ended (word.clauses 𝓛 mem run) (κ, tt) (m, tt) tt t) (fact 𝓤 (t ≡ word_of (now m.sheet) m.at))
-  word_said m t = ex_e 𝓤 _ (λ ws. snd∗ 𝓤 (sem 𝓛 (lasts word.ended (κ, tt) (m, tt) ws)) (fact 𝓤 (t ≡ word_of (now m.sheet) m.at)))
+  word_said : (m : Reader) (t : ℕ) → ent 𝓤 (ensured 𝓛 word.ended (word.clauses 𝓛 mem run) (κ, tt) (m, tt) tt t) (fact 𝓤 (t ≡ word_of m.sheet.now m.at))
+  word_said m t = ex_e 𝓤 _ (λ ws. snd∗ 𝓤 (sem 𝓛 (lasts word.ended (κ, tt) (m, tt) ws)) (fact 𝓤 (t ≡ word_of m.sheet.now m.at)))
 
-  inside_at : (k : ℕ) (m : Reader) → At k m → k + 1 < length (now s) → m.at + 1 < length (now m.sheet)
-  inside_at k m e l = subst (λ (x : Bor (List ℕ)). m.at + 1 < length (now x)) (sym e.0) (subst (λ (j : ℕ). j + 1 < length (now s)) (sym e.1) l)
+  inside_at : (k : ℕ) (m : Reader) → At k m → k + 1 < length s.now → m.at + 1 < length m.sheet.now
+  inside_at k m e l = subst (λ (x : Bor (List ℕ)). m.at + 1 < length x.now) (sym e.0) (subst (λ (j : ℕ). j + 1 < length s.now) (sym e.1) l)
 
-  same_word : (k : ℕ) (m : Reader) (t : ℕ) → At k m → t ≡ word_of (now m.sheet) m.at → t ≡ word_of (now s) k
-  same_word k m t e g = g ∙ (ap (λ (x : Bor (List ℕ)). word_of (now x) m.at) e.0 ∙ ap (word_of (now s)) e.1)
+  same_word : (k : ℕ) (m : Reader) (t : ℕ) → At k m → t ≡ word_of m.sheet.now m.at → t ≡ word_of s.now k
+  same_word k m t e g = g ∙ (ap (λ (x : Bor (List ℕ)). word_of x.now m.at) e.0 ∙ ap (word_of s.now) e.1)
 
   -- ---- the call of `next`
   abbrev pub to_next : Reader → Val → (Next 𝓛 mem run).Ghost
@@ -142,15 +142,15 @@ module _ {M : Type 1} {𝓤 : Ura M} (𝓛 : Logic 𝓤) (mem : Memory → SProp
         peeks t (B (κ, tt)) (Is (B (κ, tt))) (shows 𝓛 (B (κ, tt))) m (u ∷ []) (λ is. move t (1 ∷ 0 ∷ []) $ then m u e (typed m u is)))))
 
     -- the number at the reader's offset is read
-    pub reading : K → FmC 𝓤 H 𝓛.laws C → Triple 𝓤 (C #reader·word) (Word 𝓛 mem run) → (k : ℕ) (m : Reader) (u : Val) → At k m → k + 1 < length (now s)
+    pub reading : K → FmC 𝓤 H 𝓛.laws C → Triple 𝓤 (C #reader·word) (Word 𝓛 mem run) → (k : ℕ) (m : Reader) (u : Val) → At k m → k + 1 < length s.now
         → Opds K 𝓛 (raw ((Word 𝓛 mem run).pre (to_word m u)) ∷ ‵ (held m u) ∷ Γ) E xs (u ∷ [])
-        → ((w : ℕ) → w ≡ word_of (now s) k → w < 2 ^ 64 → Seq K 𝓛 (token ∷ ‵ (held m u) ∷ Γ) (lands C Λ E d (vint w64 w) rest p))
+        → ((w : ℕ) → w ≡ word_of s.now k → w < 2 ^ 64 → Seq K 𝓛 (token ∷ ‵ (held m u) ∷ Γ) (lands C Λ E d (vint w64 w) rest p))
         → Seq K 𝓛 (token ∷ ‵ (held m u) ∷ Γ) (runs C Λ E (seq (call #reader·word xs d) rest) p)
     reading t fm known k m u e l os then =
         use2 𝓛 (raw ((Word 𝓛 mem run).pre (to_word m u)) ⊛ ‵ (held m u)) (goes_word m u (inside_at k m e l)) $ split t $
         calls_at t fm (Word 𝓛 mem run) known (to_word m u) os (λ x.
         use1 𝓛 (later (some (λ (w : ℕ). (token ⊛ ‵ (usize.own_val w (x ∷ []))) ⊛ raw (ensured 𝓛 word.ended (word.clauses 𝓛 mem run) (κ, tt) (m, tt) tt w)))) (id⊢ 𝓤 _) $ await t tt $ pick t (λ w.
-        split t $ move t (1 ∷ []) $ use1 𝓛 (raw (fact 𝓤 (w ≡ word_of (now m.sheet) m.at))) (word_said m w) $ heard t (w ≡ word_of (now m.sheet) m.at) (λ g. split t $ move t (1 ∷ []) $
+        split t $ move t (1 ∷ []) $ use1 𝓛 (raw (fact 𝓤 (w ≡ word_of m.sheet.now m.at))) (word_said m w) $ heard t (w ≡ word_of m.sheet.now m.at) (λ g. split t $ move t (1 ∷ []) $
         facts t usize (Is usize) (shows 𝓛 usize) w (x ∷ []) (λ is.
         subst (λ (y : Val). Seq K 𝓛 (token ∷ ‵ (held m u) ∷ Γ) (lands C Λ E d y rest p)) (sym (only x (vint w64 w) is.0)) (then w (same_word k m w e g) is.1)))))
       where

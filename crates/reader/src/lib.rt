@@ -1,5 +1,7 @@
 // Reading a sheet: the number at an offset of a slice, and a reader that holds the lent sheet and its present offset and moves along.
 // The functions over the reader are thin: each takes it apart, and the work is in functions on the slice and the number.
+#![tactic(auto)]
+
 ghost use Rattle.std.specs.Prelude.{◌≡◌, ◌+◌, ◌≤◌, ◌<◌, ◌^◌, length};
 ghost use Rattle.model.specs.Sheet.{«word» as word_of, header_of};
 ghost use Rattle.reader.specs.Inner.Read.{stated};
@@ -7,7 +9,7 @@ ghost use Rattle.reader.specs.Inner.Read.{stated};
 use model::wide;
 
 // The eight numbers of the header.
-#[derive(Drop)]
+#[derive(Clone, Copy)]
 pub struct Header {
     pub variables: usize,
     pub values: usize,
@@ -19,7 +21,7 @@ pub struct Header {
     pub size: usize,
 }
 
-#[derive(Drop)]
+#[derive(Clone, Copy)]
 struct Reader<'a> {
     sheet: &'a [u8],
     at: usize,

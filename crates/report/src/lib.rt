@@ -1,4 +1,6 @@
 // The text of the report, made in a lent buffer (paper 01, "The report").
+#![tactic(auto)]
+
 ghost use Rattle.std.specs.Prelude.{◌≡◌, [], ◌∷◌, ◌++◌, ◌+◌, ◌*◌, ◌≤◌, ◌<◌, min, length};
 ghost use Rattle.model.specs.Run.{finished, spent, full};
 ghost use Rattle.families_figure.specs.Figure.{number, dash};

@@ -1,4 +1,6 @@
 // The runs (paper 01, paper 02): the questions, the search, and the answer.
+#![tactic(auto)]
+
 ghost use Rattle.std.specs.Prelude.{◌≡◌};
 ghost use Rattle.run.specs.Meaning.{means, said_enough};
 ghost use Rattle.run.specs.Calls.{CallRun, CallWith, CallLent, CallCounted, CallEnough};
@@ -10,14 +12,14 @@ use arrays::{
 };
 use run_state::{Ending, Tally};
 
-#[derive(Drop)]
+#[derive(Clone, Copy)]
 pub enum Answer {
     Refused { number: u8, item: usize },
     Ended(Ending),
 }
 
 // Are there so many plans: yes, no, or spent before that is known; each carries the plans found and the nodes made.
-#[derive(Drop)]
+#[derive(Clone, Copy)]
 pub enum Enough {
     Refused { number: u8, item: usize },
     Yes(usize, usize),
@@ -26,7 +28,7 @@ pub enum Enough {
 }
 
 // A run's answer, and what it counted.
-#[derive(Drop)]
+#[derive(Clone, Copy)]
 pub struct CountedRun {
     pub answer: Answer,
     pub tally: Tally,

@@ -1,4 +1,6 @@
 // An entry of the memo: compared, taken from and put.
+#![tactic(auto)]
+
 ghost use Rattle.std.specs.Prelude.{◌≡◌, true, ℕ, ◌+◌, ◌-◌, ◌*◌, ◌≤◌, ◌<◌, length};
 ghost use Rattle.model.specs.Lists.{at};
 ghost use Rattle.arrays.specs.Inner.Places.{LIMIT, ROOM, PLANS, NODES, COUNTS, STACK, VARIABLES, WORK};

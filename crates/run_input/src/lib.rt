@@ -1,4 +1,6 @@
 // A run that is lent a sheet, pairs and a block (paper 02, #108 and #111): its questions, and the compiled problem whose tree the run walks.
+#![tactic(auto)]
+
 ghost use Rattle.std.specs.Prelude.{◌≡◌, length};
 ghost use Rattle.model.specs.Problem.{Problem};
 ghost use Rattle.arrays.specs.Inner.Places.{IMAGES, NUMBERS, SUPPORTS};

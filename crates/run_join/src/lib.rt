@@ -1,5 +1,7 @@
 // Parts of a run joined by their heads, which are lent one behind the other, in any order and with repeats: whether they go from the first to the last path,
 // with the sums of their figures, or the first range that is missing.
+#![tactic(auto)]
+
 mod heads;
 mod marks;
 mod paths;
@@ -19,7 +21,7 @@ use crate::ways::find_ways;
 
 // The number of a refusal; or the heads go from the first to the last path; or where one stands (0: at the empty path; k + 1: where head k reaches) and the
 // nearest beginning after it (0: the last path; k + 1: where head k begins).
-#[derive(Drop)]
+#[derive(Clone, Copy)]
 pub enum Answer {
     Refused(u8),
     Joined,
@@ -27,7 +29,7 @@ pub enum Answer {
 }
 
 // The answer, and the sums of the heads taken.
-#[derive(Drop)]
+#[derive(Clone, Copy)]
 pub struct Joining {
     pub answer: Answer,
     pub plans: u64,

@@ -8,7 +8,7 @@ use crate::paths::four_at;
 use crate::steps::step;
 
 // Where one stands (0: at the empty path; k + 1: where head k reaches), and the sums of the heads taken.
-#[derive(Drop)]
+#[derive(Clone, Copy)]
 pub struct Walked {
     pub stand: usize,
     pub plans: u64,

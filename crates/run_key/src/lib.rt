@@ -1,4 +1,6 @@
 // The key of a prefix: what is compared of two, so that the subtrees below them are alike.
+#![tactic(auto)]
+
 ghost use Rattle.std.specs.Prelude.{◌≡◌, true, ◌+◌, ◌*◌, ◌≤◌, ◌<◌, T, length};
 ghost use Rattle.model.specs.Lists.{at};
 ghost use Rattle.model.specs.ValueSets.{one_if};
@@ -46,7 +48,7 @@ fn lower(low: u64, mark: u64) -> u64
 }
 
 // What the marks of a depth say: up to which level the lists that are not obeyed for good say nothing more, and which lists are.
-#[derive(Drop)]
+#[derive(Clone, Copy)]
 pub struct Marks {
     pub low: u64,
     pub good: u64,

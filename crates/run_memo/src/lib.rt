@@ -1,5 +1,7 @@
 // The memo of a run (`work` from MEMO on): what is kept of the nodes below a prefix once they were all walked along. Where the same is left to do below
 // another prefix (run_alike), its nodes are not walked along: their figures are those that are kept, their plans stand in the list.
+#![tactic(auto)]
+
 ghost use Rattle.std.specs.Prelude.{◌≡◌, List, ℕ, ◌+◌, ◌^◌, ◌<◌, length};
 ghost use Rattle.model.specs.Problem.{Problem};
 ghost use Rattle.arrays.specs.Inner.Places.{WORK};

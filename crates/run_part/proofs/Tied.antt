@@ -1,5 +1,5 @@
 -- The contract of `run_part`, as the checker states it, is the record that its callers hold, and asks for nothing. Assumes nothing.
-use Rattle.model.specs.Kit.{◌≡◌, refl, SProp, emp, now}
+use Rattle.model.specs.Kit.{◌≡◌, refl, SProp, emp}
 use seplogic.Ra.Ura.{Ura}
 use prog.Memory.{Memory}
 use prog.Routine.{Routine}
@@ -15,8 +15,8 @@ module _ {M : Type 1} {𝓤 : Ura M} (𝓛 : Logic 𝓤) (mem : Memory → SProp
   pub run_part_tied : (κs : Lfts 6) (a : Args run_part.signature κs) (r : Res run_part.signature κs) (s : AtExit run_part.ended κs) →
       ((run_part.clauses 𝓛 mem of κs a).requires tt ≡ emp 𝓤)
       × ((run_part.clauses 𝓛 mem of κs a).ensures tt r s
-      ≡ fact 𝓤 (CallPart (now a.0) (now a.1.0) (now a.1.1.0) (now a.1.1.1.0) (now a.1.1.1.1.0) a.1.1.1.1.1.0 (now a.1.1.1.1.1.1.0) r
-      (now s.1.1.1.1.1.1.0)))
+      ≡ fact 𝓤 (CallPart a.0.now a.1.0.now a.1.1.0.now a.1.1.1.0.now a.1.1.1.1.0.now a.1.1.1.1.1.0 a.1.1.1.1.1.1.0.now r
+      s.1.1.1.1.1.1.0.now))
   run_part_tied κs a r s = (refl, refl)
 
   pub stated : run_part.spec 𝓛 mem of ≡ closing 𝓛 run_part.ended (run_part.clauses 𝓛 mem of)

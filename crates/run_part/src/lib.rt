@@ -1,5 +1,7 @@
 // A part of a run that is lent a sheet, pairs and a block: the nodes of its tree that come after one path and not after another, with a limit and a list of
 // its own. Parts that join are the run (crate run_ranges).
+#![tactic(auto)]
+
 ghost use Rattle.std.specs.Prelude.{◌≡◌, ℕ, ◌<◌, length};
 ghost use Rattle.model.specs.Lists.{at};
 ghost use Rattle.run_part.specs.Calls.{CallPart};
@@ -10,7 +12,7 @@ use run::Answer;
 use run_state::Tally;
 
 // What a part answers, what it counted, and where it stands: the last node that it made, else where it began, as many of the values as the length says.
-#[derive(Drop)]
+#[derive(Clone, Copy)]
 pub struct PartRun {
     pub answer: Answer,
     pub tally: Tally,

@@ -1,6 +1,8 @@
 // A run that goes on from its last node (paper 02, #113), on arrays that are lent: where it stands is put in `work`, the compiled problem is made again, and
 // the
 // nodes after the last one are walked along, with a tally from nothing.
+#![tactic(auto)]
+
 ghost use Rattle.std.specs.Prelude.{◌≡◌, ℕ, ◌≤◌, length};
 ghost use Rattle.model.specs.Problem.{Problem};
 ghost use Rattle.arrays.specs.Inner.Places.{WORK};

@@ -1,4 +1,6 @@
 // The run on arrays that are lent: what is made of a sheet, pairs and a block before the search, and the search.
+#![tactic(auto)]
+
 ghost use Rattle.std.specs.Prelude.{◌≡◌, List, ℕ, length};
 ghost use Rattle.model.specs.Problem.{Problem};
 ghost use Rattle.arrays.specs.Inner.Places.{DEEPER};

@@ -1,4 +1,6 @@
 // A run as a walk along the nodes of the tree (paper 01, "The search"): its tally, its list, and what it reads of the arrays.
+#![tactic(auto)]
+
 ghost use Rattle.std.specs.Prelude.{◌≡◌, ℕ, ◌+◌, ◌*◌, ◌^◌, ◌≤◌, ◌<◌, length};
 ghost use Rattle.model.specs.Written.{placed};
 ghost use Rattle.model.specs.Lists.{at};
@@ -16,7 +18,7 @@ use arrays::{ALL, DIAGONAL, FULL, LIMIT, Numbers, ORDER, PLANS, ROOM, Stack, VAR
 use model::ValueSet;
 
 // How a run ends; each ending carries the plans listed and the nodes made.
-#[derive(Drop)]
+#[derive(Clone, Copy)]
 pub enum Ending {
     Finished(usize, usize),
     Spent(usize, usize),
@@ -24,7 +26,7 @@ pub enum Ending {
 }
 
 // What a run counts (the paper's tally): the nodes made (its trials), and of these the nodes that settle each of twelve variables.
-#[derive(Drop)]
+#[derive(Clone, Copy)]
 pub struct Tally {
     pub nodes: u32,
     pub counts: [u32; 12],

@@ -1,4 +1,6 @@
 // The task of a run, and what is put among the numbers of the compiled problem before the search: limit, room, order, block.
+#![tactic(auto)]
+
 ghost use Rattle.std.specs.Prelude.{◌≡◌, ℕ, ◌+◌, ◌≤◌, ◌<◌, length, set};
 ghost use Rattle.model.specs.Lists.{at};
 ghost use Rattle.arrays.specs.Inner.Places.{LIMIT, ROOM, ORDER, BLOCK, WANTED};

@@ -1,4 +1,6 @@
 // The walk along the tree (paper 01): to settle a variable is to try its values; to try a value is to settle the next variable.
+#![tactic(auto)]
+
 ghost use Rattle.model.specs.Problem.{Problem};
 ghost use Rattle.model.specs.Run as Run;
 ghost use Rattle.run_state.specs.Inner.Pair.{AtValues, AtValue, Walked, Entered, tried, lowest_tried};
@@ -135,7 +137,7 @@ fn try_value(
 }
 
 // How a part of a run stopped, and what was counted by then.
-#[derive(Drop)]
+#[derive(Clone, Copy)]
 pub struct CountedPart {
     pub stop: u8,
     pub tally: Tally,

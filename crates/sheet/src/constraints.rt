@@ -12,7 +12,7 @@ use arrays::{Numbers, SCOPES, Supports};
 use reader::{Header, read_word};
 
 // The answer for one constraint: where the next stands, or the number of the first "no".
-#[derive(Drop)]
+#[derive(Clone, Copy)]
 pub enum Step {
     Next(usize),
     Refused(u8),

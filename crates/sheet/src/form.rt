@@ -10,7 +10,7 @@ use arrays::{CONSTRAINTS, Numbers, SYMMETRIES, Supports, VALUES, VARIABLES};
 use reader::{Header, read_header};
 
 // The answer to questions 1 to 14: the header as read, or the first "no".
-#[derive(Drop)]
+#[derive(Clone, Copy)]
 pub enum Form {
     Passed(Header),
     Refused { number: u8, item: usize },

@@ -1,4 +1,6 @@
 // Questions put to a sheet (paper 01), and the compiled problem of an accepted one.
+#![tactic(auto)]
+
 ghost use Rattle.std.specs.Prelude.{◌≡◌, length};
 ghost use Rattle.sheet.specs.Calls.{CallQuestion};
 ghost use Rattle.sheet.specs.Inner.Form.{Zeros, Compilation, Recompilation};
@@ -15,7 +17,7 @@ use arrays::{Images, NUMBERS, Numbers, SUPPORTS, Supports};
 use form::Form;
 
 // The first "no", with its number and item, or that there is none.
-#[derive(Drop)]
+#[derive(Clone, Copy)]
 pub enum Answer {
     Accepted,
     Refused { number: u8, item: usize },

@@ -1,4 +1,6 @@
 // Whether a forbidden set lies among pairs, and whether rows of a constraint on images come from rows.
+#![tactic(auto)]
+
 pub mod carried;
 pub mod forbidden;
 pub mod sure;

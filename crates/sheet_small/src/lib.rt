@@ -1,5 +1,7 @@
 // Every sheet of two variables and two values with one constraint on both and at most one symmetry (paper 02, #114), by its position.
 // The candidates are walked in their order, and `sheet::question` says of each whether it is a sheet.
+#![tactic(auto)]
+
 ghost use Rattle.std.specs.Prelude.{◌≡◌, ◌+◌, ◌*◌, ◌/◌, ◌≤◌, ◌<◌, length};
 ghost use Rattle.model.specs.Written.{Fronted};
 ghost use Rattle.sheet_small.specs.Small.{is_sheet};
@@ -10,7 +12,7 @@ ghost use Rattle.sheet_small.specs.Inner.Inner.{candidate, Drafts, At};
 // The room that every small sheet fits.
 const SHEET_ROOM: usize = 52;
 
-#[derive(Drop)]
+#[derive(Clone, Copy)]
 pub enum Answer {
     // The sheet's length.
     Written { bytes: usize },
@@ -18,14 +20,14 @@ pub enum Answer {
 }
 
 // A sheet: the first bytes, as many as its size.
-#[derive(Drop)]
+#[derive(Clone, Copy)]
 struct Draft {
     bytes: [u8; 52],
     size: usize,
 }
 
 // A table: the images of the four pair numbers.
-#[derive(Drop)]
+#[derive(Clone, Copy)]
 struct Images {
     a: usize,
     b: usize,

@@ -1,4 +1,6 @@
 // Questions 15 and 16 (paper 01), for one table of a sheet.
+#![tactic(auto)]
+
 mod walk;
 
 ghost use Rattle.std.specs.Prelude.{◌≡◌};

@@ -1,4 +1,6 @@
 // The pairs of a sheet, a table of them, and question 15 (paper 01) to it.
+#![tactic(auto)]
+
 pub mod moves;
 pub mod table;
 

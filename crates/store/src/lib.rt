@@ -1,5 +1,7 @@
 // The symmetry store (paper 02, #110) in lent bytes: tables under an owner (the paper's course) and a key (its hall). specs/Inner/Layout.antt says
 // what any bytes mean; zeros are the empty store.
+#![tactic(auto)]
+
 ghost use Rattle.std.specs.Prelude.{◌≡◌, ◌+◌, ◌≤◌, ◌<◌, min, length};
 ghost use Rattle.model.specs.ValueSets.{least};
 ghost use Rattle.model.specs.Sheet.{«word»};
@@ -13,7 +15,7 @@ use wire::place;
 // The store's size in bytes.
 pub const STORE_BYTES: usize = 32832;
 
-#[derive(Drop)]
+#[derive(Clone, Copy)]
 pub enum Answer {
     // The bytes written to the lent room: 0 for put and remove.
     Done { bytes: usize },

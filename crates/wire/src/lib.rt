@@ -1,4 +1,6 @@
 // Bytes and numbers, low byte first, put into lent bytes, and a refusal as one number: what the exported functions answer with.
+#![tactic(auto)]
+
 ghost use Rattle.std.specs.Prelude.{◌≡◌, ◌+◌, ◌*◌, ◌^◌, ◌≤◌, ◌<◌, length};
 ghost use Rattle.model.specs.Bytes.{four_bytes};
 ghost use Rattle.model.specs.Written.{Written, placed};

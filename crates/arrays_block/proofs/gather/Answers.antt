@@ -1,0 +1,27 @@
+use Rattle.model.specs.Kit.{sym, ap, ◌∙◌, subst, ⊎_elim, arith, rules}
+use Rattle.model.specs.{Lists.at, Inner.Filling.Gathered}
+use Rattle.model.proofs.Filling.{gathered_begin, gathered_end}
+use Rattle.block.specs.Block.{in_block}
+use Rattle.arrays_block.proofs.{Gathering.gather_one, Gathering.gather_none}
+use Rattle.arrays_block.proofs.gather.Goals as goal
+
+pub loop-i-init : goal.loop-i-init
+loop-i-init c = (omega arith, gathered_begin _)
+
+pub loop-i-preserved : goal.loop-i-preserved
+unfolding at
+loop-i-preserved c =
+    let e = sym (c.is_inside.ensures ∙ ap (in_block _ _) c.wide.ensures.0) in (
+      search rules,
+      ⊎_elim (λ w. subst (Gathered _ _) (sym w.1) (gather_one _ _ _ c.loop-i.invariant.1 (search rules) (e ∙ w.0.taken))) (λ w. subst (Gathered _ _) (sym w.1) (gather_none _ _ _ c.loop-i.invariant.1 (e ∙ w.0.left)))
+          c.if-is_inside.branch,
+    )
+
+pub returns : goal.returns
+returns c = gathered_end _ _ _ _ (search rules) c.loop-i.invariant.0 c.loop-i.invariant.1
+
+pub wide-requires : goal.wide-requires
+wide-requires c = tt
+
+pub loop-i-smaller : goal.loop-i-smaller
+loop-i-smaller c = omega arith

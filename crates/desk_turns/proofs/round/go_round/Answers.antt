@@ -1,0 +1,35 @@
+-- `go_round`: after i turns of the loop the first i slots of the round were given the turns due to them. Assumes nothing.
+use Rattle.model.specs.Kit.{sym, ◌∙◌, inl, inr, ⊎_elim, arith}
+use Rattle.model.specs.Lists.{at}
+use Rattle.desk_turns.proofs.{Rounding.round_begin, Rounding.round_more, Rounding.round_end}
+use Rattle.desk.specs.Inner.Places.{NEXT}
+use Rattle.desk_turns.proofs.round.go_round.Goals as goal
+
+pub loop-i-init : goal.loop-i-init
+unfolding at
+loop-i-init c = (omega arith, round_begin _ _ (c.requires, λ i. (c.slice_known-1.given i).fits))
+
+pub loop-i-preserved : goal.loop-i-preserved
+unfolding at
+loop-i-preserved c =
+    (
+      omega (arith, c.loop-i-test.true),
+      round_more _ _ c.loop-i.i c.loop-i-test.true _ _ _ c.loop-i.invariant.1 _ _ c.give-took.ensures _ _
+          (⊎_elim (λ q. inl (q.0.taken, q.1, q.2)) (λ q. inr (q.0.left, q.1, q.2)) c.if-best-took.branch),
+    )
+
+pub returns : goal.returns
+unfolding at
+returns c = round_end _ _ c.loop-i.i _ _ _ c.loop-i-test.false c.loop-i.invariant.0 c.loop-i.invariant.1
+
+pub overflow_cast-first : goal.overflow_cast-first
+overflow_cast-first c = omega (arith, c.slice_known-2-1.given NEXT)
+
+pub overflow_add-k : goal.overflow_add-k
+overflow_add-k c = omega (arith, c.slice_known-2-1.given NEXT)
+
+pub give-took-requires : goal.give-took-requires
+give-took-requires c = (c.loop-i.invariant.1.bytes.0, omega arith)
+
+pub shape_of-queue : goal.shape_of-queue
+shape_of-queue c = c.loop-i.invariant.1.bytes.0 ∙ sym c.requires

@@ -1,0 +1,24 @@
+-- `put_figures`: three numbers and twelve counts, one behind the other. Assumes nothing.
+use Rattle.model.specs.Kit.{arith}
+use Rattle.model.specs.Bytes.{four_bytes}
+use Rattle.export_parts.proofs.{Pieces.figures_put}
+use Rattle.export_parts.proofs.heads.put_figures.Goals as goal
+
+pub four-second-requires : goal.four-second-requires
+unfolding four_bytes
+four-second-requires c =
+    (omega (arith, c.four-first.ensures.ends, c.four-first.auto.out, c.requires.0), c.requires.2)
+
+pub four-third-requires : goal.four-third-requires
+unfolding four_bytes
+four-third-requires c =
+    (omega (arith, c.four-second.ensures.ends, c.four-second.auto.out, c.four-first.ensures.ends, c.four-first.auto.out, c.requires.0), c.requires.3)
+
+pub numbers-requires : goal.numbers-requires
+unfolding four_bytes
+numbers-requires c =
+    (omega (arith, c.four-third.ensures.ends, c.four-third.auto.out, c.four-second.ensures.ends, c.four-second.auto.out, c.four-first.ensures.ends, c.four-first.auto.out, c.requires.0), c.requires.4)
+
+pub returns : goal.returns
+returns c =
+    figures_put c.args.kind c.args.plans c.args.nodes c.args.counts c.requires.0 c.requires.4.long c.four-first.ensures c.four-second.ensures c.four-third.ensures c.numbers.ensures

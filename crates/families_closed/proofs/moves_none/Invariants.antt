@@ -1,0 +1,12 @@
+use Rattle.model.specs.Kit.{◌≡◌, ℕ, ◌-◌, ◌*◌, ◌≤◌, ◌<◌, length}
+use Rattle.model.specs.{Lists.at, Problem.Problem, Problem.symmetry_at}
+use Rattle.families_closed.specs.Inner.Held.{Held}
+use Rattle.families_closed.proofs.moves_none.Given as goal
+
+abbrev pub invariant-loop-q : goal.invariant-loop-q
+invariant-loop-q l =
+    (l.q ≤ l.size) × (l.size ≡ l.variables * l.values) × ((p : Problem) → Held p l.images l.variables l.values → l.a < length p.symmetries → l.b < length p.symmetries →
+    (k : ℕ) → k < l.q → at (symmetry_at p l.b) (at (symmetry_at p l.a) k) ≡ k)
+
+abbrev pub decreases-loop-q : goal.decreases-loop-q
+decreases-loop-q l = l.size - l.q

@@ -1,0 +1,130 @@
+-- The look-ups and the cuts by variable, the constraints that are due then, and the rest from there. Assumes nothing.
+use Rattle.model.specs.Kit.{refl, sym, subst, ⊎_elim, List, ℕ, ◌+◌, ◌-◌, ◌^◌, ◌<◌, arith, bit_and, bit_or, rules}
+use Rattle.model.specs.{Lists.at, Problem.Problem}
+use Rattle.arrays.specs.Inner.Places.{LINKED, LOOKS}
+use Rattle.prune_constraints.specs.Inner.LookUps.{LookUpsPending}
+use Rattle.prune_constraints.proofs.Touching.{touched_of}
+use Rattle.prune.specs.Inner.Steps.{ArraysHold, Blocked, AllConstrained, BeforeFixpoint}
+use Rattle.prune.proofs.FixpointLoop.{constrained_dead, constrained_done, looks_pending, looks_settled, looks_done, cuts_done, bare_end}
+use Rattle.prune.proofs.{Pending.pruned_none, Pending.nothing_due, Pending.arcs_pending, Starts.some_one}
+use Rattle.prune.proofs.fixpoint.Goals as goal
+
+pub look_ups-looked-requires : goal.look_ups-looked-requires
+unfolding at
+look_ups-looked-requires c =
+    let wide : c.args.todo < 2 ^ 64 = search rules in
+    let looks : (p : Problem) (gs : List (List ℕ)) → ArraysHold p c.args.supports.now c.args.tables.now c.args.numbers.now → Blocked p gs c.args.numbers.now → BeforeFixpoint p gs c.args.work.now c.args.numbers.now c.args.sets.now c.args.k c.args.todo c.args.dirty → LookUpsPending p c.args.numbers.now c.args.supports.now c.args.sets.now c.args.work.now c.args.todo (bit_and c.args.todo (at c.args.numbers.now (LOOKS + c.args.k))) c.args.v = λ p gs s b n. looks_pending s b n wide c.requires.5 in
+    (c.requires.0, _, looks c.requires.0 c.requires.1 c.requires.2 c.requires.3 c.requires.4)
+
+pub returns-then-looked-eq-DEAD : goal.returns-then-looked-eq-DEAD
+unfolding at
+returns-then-looked-eq-DEAD c =
+    let wide : c.args.todo < 2 ^ 64 = search rules in
+    let looks : (p : Problem) (gs : List (List ℕ)) → ArraysHold p c.args.supports.now c.args.tables.now c.args.numbers.now → Blocked p gs c.args.numbers.now → BeforeFixpoint p gs c.args.work.now c.args.numbers.now c.args.sets.now c.args.k c.args.todo c.args.dirty → LookUpsPending p c.args.numbers.now c.args.supports.now c.args.sets.now c.args.work.now c.args.todo (bit_and c.args.todo (at c.args.numbers.now (LOOKS + c.args.k))) c.args.v = λ p gs s b n. looks_pending s b n wide c.requires.5 in
+    λ p gs s b n. constrained_dead s b n _ ((c.look_ups-looked.ensures p _ (looks p gs s b n)).ended c.if-looked-eq-DEAD.true)
+
+pub arcs-cut-requires : goal.arcs-cut-requires
+unfolding at
+arcs-cut-requires c =
+    let wide : c.args.todo < 2 ^ 64 = search rules in
+    let looks : (p : Problem) (gs : List (List ℕ)) → ArraysHold p c.args.supports.now c.args.tables.now c.args.numbers.now → Blocked p gs c.args.numbers.now → BeforeFixpoint p gs c.args.work.now c.args.numbers.now c.args.sets.now c.args.k c.args.todo c.args.dirty → LookUpsPending p c.args.numbers.now c.args.supports.now c.args.sets.now c.args.work.now c.args.todo (bit_and c.args.todo (at c.args.numbers.now (LOOKS + c.args.k))) c.args.v = λ p gs s b n. looks_pending s b n wide c.requires.5 in
+    let looks_made : (p : Problem) (gs : List (List ℕ)) → ArraysHold p c.args.supports.now c.args.tables.now c.args.numbers.now → Blocked p gs c.args.numbers.now → BeforeFixpoint p gs c.args.work.now c.args.numbers.now c.args.sets.now c.args.k c.args.todo c.args.dirty → BeforeFixpoint p gs c.args.work.now c.args.numbers.now c.look_ups-looked.new.sets c.args.k (bit_or (bit_and c.args.todo ((2 ^ 64 - 1) - bit_and c.args.todo (at c.args.numbers.now (LOOKS + c.args.k)))) (touched_of c.args.numbers.now c.look_ups-looked.result)) (bit_or c.args.dirty (bit_and c.look_ups-looked.result (at c.args.numbers.now LINKED))) = λ p gs s b n. looks_done s b n (c.look_ups-looked.ensures p _ (looks p gs s b n)) c.if-looked-eq-DEAD.false in
+    (
+  looks_settled c.requires.2 c.requires.3 c.requires.4 c.requires.5
+      (c.look_ups-looked.ensures c.requires.0 _ (looks c.requires.0 c.requires.1 c.requires.2 c.requires.3 c.requires.4))
+      c.if-looked-eq-DEAD.false,
+  (c.requires.0, arcs_pending c.requires.2 (looks_made c.requires.0 c.requires.1 c.requires.2 c.requires.3 c.requires.4).startable.pending),
+)
+
+pub returns-then-cut-eq-DEAD : goal.returns-then-cut-eq-DEAD
+unfolding at
+returns-then-cut-eq-DEAD c =
+    let wide : c.args.todo < 2 ^ 64 = search rules in
+    let looks : (p : Problem) (gs : List (List ℕ)) → ArraysHold p c.args.supports.now c.args.tables.now c.args.numbers.now → Blocked p gs c.args.numbers.now → BeforeFixpoint p gs c.args.work.now c.args.numbers.now c.args.sets.now c.args.k c.args.todo c.args.dirty → LookUpsPending p c.args.numbers.now c.args.supports.now c.args.sets.now c.args.work.now c.args.todo (bit_and c.args.todo (at c.args.numbers.now (LOOKS + c.args.k))) c.args.v = λ p gs s b n. looks_pending s b n wide c.requires.5 in
+    let looks_made : (p : Problem) (gs : List (List ℕ)) → ArraysHold p c.args.supports.now c.args.tables.now c.args.numbers.now → Blocked p gs c.args.numbers.now → BeforeFixpoint p gs c.args.work.now c.args.numbers.now c.args.sets.now c.args.k c.args.todo c.args.dirty → BeforeFixpoint p gs c.args.work.now c.args.numbers.now c.look_ups-looked.new.sets c.args.k (bit_or (bit_and c.args.todo ((2 ^ 64 - 1) - bit_and c.args.todo (at c.args.numbers.now (LOOKS + c.args.k)))) (touched_of c.args.numbers.now c.look_ups-looked.result)) (bit_or c.args.dirty (bit_and c.look_ups-looked.result (at c.args.numbers.now LINKED))) = λ p gs s b n. looks_done s b n (c.look_ups-looked.ensures p _ (looks p gs s b n)) c.if-looked-eq-DEAD.false in
+    λ p gs s b n. let m = looks_made p gs s b n in constrained_dead s b m _
+    ((c.arcs-cut.ensures p (arcs_pending s m.startable.pending)).ended c.if-cut-eq-DEAD.true)
+
+pub constrain-requires : goal.constrain-requires
+unfolding at
+constrain-requires c =
+    let wide : c.args.todo < 2 ^ 64 = search rules in
+    let looks : (p : Problem) (gs : List (List ℕ)) → ArraysHold p c.args.supports.now c.args.tables.now c.args.numbers.now → Blocked p gs c.args.numbers.now → BeforeFixpoint p gs c.args.work.now c.args.numbers.now c.args.sets.now c.args.k c.args.todo c.args.dirty → LookUpsPending p c.args.numbers.now c.args.supports.now c.args.sets.now c.args.work.now c.args.todo (bit_and c.args.todo (at c.args.numbers.now (LOOKS + c.args.k))) c.args.v = λ p gs s b n. looks_pending s b n wide c.requires.5 in
+    let looks_made : (p : Problem) (gs : List (List ℕ)) → ArraysHold p c.args.supports.now c.args.tables.now c.args.numbers.now → Blocked p gs c.args.numbers.now → BeforeFixpoint p gs c.args.work.now c.args.numbers.now c.args.sets.now c.args.k c.args.todo c.args.dirty → BeforeFixpoint p gs c.args.work.now c.args.numbers.now c.look_ups-looked.new.sets c.args.k (bit_or (bit_and c.args.todo ((2 ^ 64 - 1) - bit_and c.args.todo (at c.args.numbers.now (LOOKS + c.args.k)))) (touched_of c.args.numbers.now c.look_ups-looked.result)) (bit_or c.args.dirty (bit_and c.look_ups-looked.result (at c.args.numbers.now LINKED))) = λ p gs s b n. looks_done s b n (c.look_ups-looked.ensures p _ (looks p gs s b n)) c.if-looked-eq-DEAD.false in
+    let cuts_made : (p : Problem) (gs : List (List ℕ)) → ArraysHold p c.args.supports.now c.args.tables.now c.args.numbers.now → Blocked p gs c.args.numbers.now → BeforeFixpoint p gs c.args.work.now c.args.numbers.now c.args.sets.now c.args.k c.args.todo c.args.dirty → BeforeFixpoint p gs c.args.work.now c.args.numbers.now c.arcs-cut.new.sets c.args.k (bit_or (bit_and c.args.todo ((2 ^ 64 - 1) - bit_and c.args.todo (at c.args.numbers.now (LOOKS + c.args.k)))) c.touched.result) 0 = λ p gs s b n. let m = looks_made p gs s b n in
+    cuts_done s b n wide (c.look_ups-looked.ensures p _ (looks p gs s b n)) c.if-looked-eq-DEAD.false
+    (c.arcs-cut.ensures p (arcs_pending s m.startable.pending)) c.if-cut-eq-DEAD.false (search rules) c.touched.ensures in
+    (c.requires.0, c.requires.2, (cuts_made c.requires.0 c.requires.1 c.requires.2 c.requires.3 c.requires.4).startable.pending)
+
+pub returns-then-constrain : goal.returns-then-constrain
+unfolding at
+returns-then-constrain c =
+    let wide : c.args.todo < 2 ^ 64 = search rules in
+    let looks : (p : Problem) (gs : List (List ℕ)) → ArraysHold p c.args.supports.now c.args.tables.now c.args.numbers.now → Blocked p gs c.args.numbers.now → BeforeFixpoint p gs c.args.work.now c.args.numbers.now c.args.sets.now c.args.k c.args.todo c.args.dirty → LookUpsPending p c.args.numbers.now c.args.supports.now c.args.sets.now c.args.work.now c.args.todo (bit_and c.args.todo (at c.args.numbers.now (LOOKS + c.args.k))) c.args.v = λ p gs s b n. looks_pending s b n wide c.requires.5 in
+    let looks_made : (p : Problem) (gs : List (List ℕ)) → ArraysHold p c.args.supports.now c.args.tables.now c.args.numbers.now → Blocked p gs c.args.numbers.now → BeforeFixpoint p gs c.args.work.now c.args.numbers.now c.args.sets.now c.args.k c.args.todo c.args.dirty → BeforeFixpoint p gs c.args.work.now c.args.numbers.now c.look_ups-looked.new.sets c.args.k (bit_or (bit_and c.args.todo ((2 ^ 64 - 1) - bit_and c.args.todo (at c.args.numbers.now (LOOKS + c.args.k)))) (touched_of c.args.numbers.now c.look_ups-looked.result)) (bit_or c.args.dirty (bit_and c.look_ups-looked.result (at c.args.numbers.now LINKED))) = λ p gs s b n. looks_done s b n (c.look_ups-looked.ensures p _ (looks p gs s b n)) c.if-looked-eq-DEAD.false in
+    let cuts_made : (p : Problem) (gs : List (List ℕ)) → ArraysHold p c.args.supports.now c.args.tables.now c.args.numbers.now → Blocked p gs c.args.numbers.now → BeforeFixpoint p gs c.args.work.now c.args.numbers.now c.args.sets.now c.args.k c.args.todo c.args.dirty → BeforeFixpoint p gs c.args.work.now c.args.numbers.now c.arcs-cut.new.sets c.args.k (bit_or (bit_and c.args.todo ((2 ^ 64 - 1) - bit_and c.args.todo (at c.args.numbers.now (LOOKS + c.args.k)))) c.touched.result) 0 = λ p gs s b n. let m = looks_made p gs s b n in
+    cuts_done s b n wide (c.look_ups-looked.ensures p _ (looks p gs s b n)) c.if-looked-eq-DEAD.false
+    (c.arcs-cut.ensures p (arcs_pending s m.startable.pending)) c.if-cut-eq-DEAD.false (search rules) c.touched.ensures in
+    λ p gs s b n. let m = cuts_made p gs s b n in constrained_dead s b m _
+    ((c.constrain.ensures p s m.startable.pending).ended c.if-constrain.true)
+
+pub returns-then-numbers-eq0 : goal.returns-then-numbers-eq0
+unfolding at
+returns-then-numbers-eq0 c =
+    let wide : c.args.todo < 2 ^ 64 = search rules in
+    let looks : (p : Problem) (gs : List (List ℕ)) → ArraysHold p c.args.supports.now c.args.tables.now c.args.numbers.now → Blocked p gs c.args.numbers.now → BeforeFixpoint p gs c.args.work.now c.args.numbers.now c.args.sets.now c.args.k c.args.todo c.args.dirty → LookUpsPending p c.args.numbers.now c.args.supports.now c.args.sets.now c.args.work.now c.args.todo (bit_and c.args.todo (at c.args.numbers.now (LOOKS + c.args.k))) c.args.v = λ p gs s b n. looks_pending s b n wide c.requires.5 in
+    let looks_made : (p : Problem) (gs : List (List ℕ)) → ArraysHold p c.args.supports.now c.args.tables.now c.args.numbers.now → Blocked p gs c.args.numbers.now → BeforeFixpoint p gs c.args.work.now c.args.numbers.now c.args.sets.now c.args.k c.args.todo c.args.dirty → BeforeFixpoint p gs c.args.work.now c.args.numbers.now c.look_ups-looked.new.sets c.args.k (bit_or (bit_and c.args.todo ((2 ^ 64 - 1) - bit_and c.args.todo (at c.args.numbers.now (LOOKS + c.args.k)))) (touched_of c.args.numbers.now c.look_ups-looked.result)) (bit_or c.args.dirty (bit_and c.look_ups-looked.result (at c.args.numbers.now LINKED))) = λ p gs s b n. looks_done s b n (c.look_ups-looked.ensures p _ (looks p gs s b n)) c.if-looked-eq-DEAD.false in
+    let cuts_made : (p : Problem) (gs : List (List ℕ)) → ArraysHold p c.args.supports.now c.args.tables.now c.args.numbers.now → Blocked p gs c.args.numbers.now → BeforeFixpoint p gs c.args.work.now c.args.numbers.now c.args.sets.now c.args.k c.args.todo c.args.dirty → BeforeFixpoint p gs c.args.work.now c.args.numbers.now c.arcs-cut.new.sets c.args.k (bit_or (bit_and c.args.todo ((2 ^ 64 - 1) - bit_and c.args.todo (at c.args.numbers.now (LOOKS + c.args.k)))) c.touched.result) 0 = λ p gs s b n. let m = looks_made p gs s b n in
+    cuts_done s b n wide (c.look_ups-looked.ensures p _ (looks p gs s b n)) c.if-looked-eq-DEAD.false
+    (c.arcs-cut.ensures p (arcs_pending s m.startable.pending)) c.if-cut-eq-DEAD.false (search rules) c.touched.ensures in
+    let rested : (p : Problem) (gs : List (List ℕ)) → ArraysHold p c.args.supports.now c.args.tables.now c.args.numbers.now → Blocked p gs c.args.numbers.now → BeforeFixpoint p gs c.args.work.now c.args.numbers.now c.args.sets.now c.args.k c.args.todo c.args.dirty → BeforeFixpoint p gs c.args.work.now c.args.numbers.now c.if-left-ne0.sets c.args.k 0 0 = λ p gs s b n. let m = cuts_made p gs s b n in
+    constrained_done s b m
+    (⊎_elim {C = AllConstrained p c.arcs-cut.new.sets c.if-left-ne0.sets}
+    (λ w. subst (AllConstrained p _) (sym w.4) ((w.2.ensures p s m.startable.pending).all_constrained w.3.left))
+    (λ w. subst (AllConstrained p _) (sym w.1) (nothing_due s (pruned_none p _) m.startable.pending w.0.left refl)) c.if-left-ne0.branch) in
+    λ p gs s b n. bare_end s b (rested p gs s b n) c.if-numbers-eq0.true
+
+pub alternate-requires : goal.alternate-requires
+unfolding at
+alternate-requires c =
+    let wide : c.args.todo < 2 ^ 64 = search rules in
+    let looks : (p : Problem) (gs : List (List ℕ)) → ArraysHold p c.args.supports.now c.args.tables.now c.args.numbers.now → Blocked p gs c.args.numbers.now → BeforeFixpoint p gs c.args.work.now c.args.numbers.now c.args.sets.now c.args.k c.args.todo c.args.dirty → LookUpsPending p c.args.numbers.now c.args.supports.now c.args.sets.now c.args.work.now c.args.todo (bit_and c.args.todo (at c.args.numbers.now (LOOKS + c.args.k))) c.args.v = λ p gs s b n. looks_pending s b n wide c.requires.5 in
+    let looks_made : (p : Problem) (gs : List (List ℕ)) → ArraysHold p c.args.supports.now c.args.tables.now c.args.numbers.now → Blocked p gs c.args.numbers.now → BeforeFixpoint p gs c.args.work.now c.args.numbers.now c.args.sets.now c.args.k c.args.todo c.args.dirty → BeforeFixpoint p gs c.args.work.now c.args.numbers.now c.look_ups-looked.new.sets c.args.k (bit_or (bit_and c.args.todo ((2 ^ 64 - 1) - bit_and c.args.todo (at c.args.numbers.now (LOOKS + c.args.k)))) (touched_of c.args.numbers.now c.look_ups-looked.result)) (bit_or c.args.dirty (bit_and c.look_ups-looked.result (at c.args.numbers.now LINKED))) = λ p gs s b n. looks_done s b n (c.look_ups-looked.ensures p _ (looks p gs s b n)) c.if-looked-eq-DEAD.false in
+    let cuts_made : (p : Problem) (gs : List (List ℕ)) → ArraysHold p c.args.supports.now c.args.tables.now c.args.numbers.now → Blocked p gs c.args.numbers.now → BeforeFixpoint p gs c.args.work.now c.args.numbers.now c.args.sets.now c.args.k c.args.todo c.args.dirty → BeforeFixpoint p gs c.args.work.now c.args.numbers.now c.arcs-cut.new.sets c.args.k (bit_or (bit_and c.args.todo ((2 ^ 64 - 1) - bit_and c.args.todo (at c.args.numbers.now (LOOKS + c.args.k)))) c.touched.result) 0 = λ p gs s b n. let m = looks_made p gs s b n in
+    cuts_done s b n wide (c.look_ups-looked.ensures p _ (looks p gs s b n)) c.if-looked-eq-DEAD.false
+    (c.arcs-cut.ensures p (arcs_pending s m.startable.pending)) c.if-cut-eq-DEAD.false (search rules) c.touched.ensures in
+    let rested : (p : Problem) (gs : List (List ℕ)) → ArraysHold p c.args.supports.now c.args.tables.now c.args.numbers.now → Blocked p gs c.args.numbers.now → BeforeFixpoint p gs c.args.work.now c.args.numbers.now c.args.sets.now c.args.k c.args.todo c.args.dirty → BeforeFixpoint p gs c.args.work.now c.args.numbers.now c.if-left-ne0.sets c.args.k 0 0 = λ p gs s b n. let m = cuts_made p gs s b n in
+    constrained_done s b m
+    (⊎_elim {C = AllConstrained p c.arcs-cut.new.sets c.if-left-ne0.sets}
+    (λ w. subst (AllConstrained p _) (sym w.4) ((w.2.ensures p s m.startable.pending).all_constrained w.3.left))
+    (λ w. subst (AllConstrained p _) (sym w.1) (nothing_due s (pruned_none p _) m.startable.pending w.0.left refl)) c.if-left-ne0.branch) in
+    (c.requires.0, c.requires.1, c.requires.2, c.requires.3, rested c.requires.0 c.requires.1 c.requires.2 c.requires.3 c.requires.4)
+
+pub returns : goal.returns
+unfolding at
+returns c =
+    let wide : c.args.todo < 2 ^ 64 = search rules in
+    let looks : (p : Problem) (gs : List (List ℕ)) → ArraysHold p c.args.supports.now c.args.tables.now c.args.numbers.now → Blocked p gs c.args.numbers.now → BeforeFixpoint p gs c.args.work.now c.args.numbers.now c.args.sets.now c.args.k c.args.todo c.args.dirty → LookUpsPending p c.args.numbers.now c.args.supports.now c.args.sets.now c.args.work.now c.args.todo (bit_and c.args.todo (at c.args.numbers.now (LOOKS + c.args.k))) c.args.v = λ p gs s b n. looks_pending s b n wide c.requires.5 in
+    let looks_made : (p : Problem) (gs : List (List ℕ)) → ArraysHold p c.args.supports.now c.args.tables.now c.args.numbers.now → Blocked p gs c.args.numbers.now → BeforeFixpoint p gs c.args.work.now c.args.numbers.now c.args.sets.now c.args.k c.args.todo c.args.dirty → BeforeFixpoint p gs c.args.work.now c.args.numbers.now c.look_ups-looked.new.sets c.args.k (bit_or (bit_and c.args.todo ((2 ^ 64 - 1) - bit_and c.args.todo (at c.args.numbers.now (LOOKS + c.args.k)))) (touched_of c.args.numbers.now c.look_ups-looked.result)) (bit_or c.args.dirty (bit_and c.look_ups-looked.result (at c.args.numbers.now LINKED))) = λ p gs s b n. looks_done s b n (c.look_ups-looked.ensures p _ (looks p gs s b n)) c.if-looked-eq-DEAD.false in
+    let cuts_made : (p : Problem) (gs : List (List ℕ)) → ArraysHold p c.args.supports.now c.args.tables.now c.args.numbers.now → Blocked p gs c.args.numbers.now → BeforeFixpoint p gs c.args.work.now c.args.numbers.now c.args.sets.now c.args.k c.args.todo c.args.dirty → BeforeFixpoint p gs c.args.work.now c.args.numbers.now c.arcs-cut.new.sets c.args.k (bit_or (bit_and c.args.todo ((2 ^ 64 - 1) - bit_and c.args.todo (at c.args.numbers.now (LOOKS + c.args.k)))) c.touched.result) 0 = λ p gs s b n. let m = looks_made p gs s b n in
+    cuts_done s b n wide (c.look_ups-looked.ensures p _ (looks p gs s b n)) c.if-looked-eq-DEAD.false
+    (c.arcs-cut.ensures p (arcs_pending s m.startable.pending)) c.if-cut-eq-DEAD.false (search rules) c.touched.ensures in
+    let rested : (p : Problem) (gs : List (List ℕ)) → ArraysHold p c.args.supports.now c.args.tables.now c.args.numbers.now → Blocked p gs c.args.numbers.now → BeforeFixpoint p gs c.args.work.now c.args.numbers.now c.args.sets.now c.args.k c.args.todo c.args.dirty → BeforeFixpoint p gs c.args.work.now c.args.numbers.now c.if-left-ne0.sets c.args.k 0 0 = λ p gs s b n. let m = cuts_made p gs s b n in
+    constrained_done s b m
+    (⊎_elim {C = AllConstrained p c.arcs-cut.new.sets c.if-left-ne0.sets}
+    (λ w. subst (AllConstrained p _) (sym w.4) ((w.2.ensures p s m.startable.pending).all_constrained w.3.left))
+    (λ w. subst (AllConstrained p _) (sym w.1) (nothing_due s (pruned_none p _) m.startable.pending w.0.left refl)) c.if-left-ne0.branch) in
+    λ p gs s b n. c.alternate.ensures p gs s b (rested p gs s b n)
+
+pub overflow_sub-k : goal.overflow_sub-k
+overflow_sub-k c = c.requires.5.some
+
+pub overflow_shl-k : goal.overflow_shl-k
+overflow_shl-k c =
+    let few : c.args.k < 64 = omega (arith, c.requires.4.startable.prefix_held.depth, c.requires.2.well_formed.few) in
+    few
+
+pub overflow_sub-k-then-left-ne0 : goal.overflow_sub-k-then-left-ne0
+overflow_sub-k-then-left-ne0 c =
+    let few : c.args.k < 64 = omega (arith, c.requires.4.startable.prefix_held.depth, c.requires.2.well_formed.few) in
+    some_one _ few

@@ -1,0 +1,35 @@
+-- `mark_back`: after k turns it is done for the first k heads. Assumes nothing.
+use Rattle.model.specs.Kit.{sym, ◌∙◌, subst, ◌+◌, arith, ⊎_elim}
+use Rattle.run_join.specs.Join.{path_at}
+use Rattle.run_join.proofs.{Leads.Back, Leads.back_none, Leads.back_all, Leads.back_yes, Leads.back_no}
+use Rattle.run_join.proofs.ways.mark_back.Goals as goal
+
+pub loop-k-init : goal.loop-k-init
+loop-k-init c = (omega arith, back_none _ _ _ c.requires.2)
+
+pub loop-k-preserved : goal.loop-k-preserved
+loop-k-preserved c =
+    let here = path_at c.args.here.now c.args.o in (
+      omega arith,
+      ⊎_elim
+          (λ w. subst (Back here c.args.l.now (c.loop-k.k + 1) c.args.marks.now) (sym w.3)
+          (back_yes here c.args.l.now c.loop-k.k c.args.marks.now c.loop-k.marks c.loop-k.invariant.1 _ (sym c.comes_to.ensures ∙ w.0.taken) w.2.ensures))
+          (λ w. subst (Back here c.args.l.now (c.loop-k.k + 1) c.args.marks.now) (sym w.1)
+          (back_no here c.args.l.now c.loop-k.k c.args.marks.now c.loop-k.marks c.loop-k.invariant.1 (sym c.comes_to.ensures ∙ w.0.left)))
+          c.if-comes_to.branch,
+    )
+
+pub returns : goal.returns
+returns c = back_all _ _ _ c.loop-k.k _ _ (omega arith) c.loop-k.invariant.1
+
+pub comes_to-requires : goal.comes_to-requires
+comes_to-requires c = record { path = c.requires.0; heads = c.requires.1; earlier = omega arith; inside = c.loop-k-test.true }
+
+pub mark-requires : goal.mark-requires
+mark-requires c = (c.loop-k.invariant.1.0, omega (arith, c.requires.1.few))
+
+pub overflow_add-k : goal.overflow_add-k
+overflow_add-k c = omega arith
+
+pub loop-k-smaller : goal.loop-k-smaller
+loop-k-smaller c = omega arith

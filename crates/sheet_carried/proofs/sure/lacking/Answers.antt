@@ -1,0 +1,62 @@
+use Rattle.model.specs.Kit.{sym, ap, ◌∙◌, subst, ⊎_elim, ℕ, ◌+◌, ◌*◌, ◌^◌, ◌<◌, arith, now, not-true, not-false}
+use Rattle.model.specs.{declared.ValueSet.ValueSet, ValueSets.only_mask, ValueSets.union_mask}
+use Rattle.model.proofs.Sets.{mask_lt}
+use Rattle.sheet_table.specs.Inner.Forbidden.{Lacking}
+use Rattle.sheet_carried.proofs.{Surely.lacking_place, Surely.lacking_none, Surely.lacking_same, Surely.lacking_more, Surely.lacking_all}
+use Rattle.arrays.specs.Inner.Places.{SUPPORTS}
+use Rattle.sheet_carried.proofs.sure.lacking.Goals as goal
+
+pub loop-v-init : goal.loop-v-init
+loop-v-init c = (omega arith, omega arith, lacking_none _ _ _ _)
+
+pub loop-v-preserved : goal.loop-v-preserved
+loop-v-preserved c =
+    let r = ⊎_elim {C = (c.if-not-contains.set.bits < 2 ^ 16) × Lacking (now c.args.supports) c.args.base
+    c.args.step c.args.w (c.loop-v.v + 1) c.if-not-contains.set.bits}
+    (λ u. let q = ap (λ (s : ValueSet). s.bits) u.4 ∙ u.3.ensures ∙ ap (union_mask c.loop-v.set.bits)
+    (u.2.ensures ∙ ap (λ (f : ℕ). only_mask f c.loop-v.v) u.1.ensures) in
+    (subst (λ (s : ℕ). s < 2 ^ 16) (sym q) (mask_lt 16 _), lacking_more _ _ _ _ _ _ _ c.loop-v.invariant.2 c.support.ensures _ c.loop-v.invariant.1 c.loop-v-test.true q (sym c.contains.ensures ∙ not-true _ u.0.taken)))
+    (λ u. subst (λ (s : ValueSet). (s.bits < 2 ^ 16) × Lacking (now c.args.supports) c.args.base
+    c.args.step c.args.w (c.loop-v.v + 1) s.bits) (sym u.1)
+    (c.loop-v.invariant.1, lacking_same _ _ _ _ _ _ _ c.loop-v.invariant.2 c.support.ensures (sym c.contains.ensures ∙ not-false _ u.0.left)))
+    c.if-not-contains.branch in
+    (omega arith, r.0, r.1)
+
+pub returns : goal.returns
+returns c = lacking_all _ _ _ _ _ _ c.loop-v-test.false c.loop-v.invariant.0 c.loop-v.invariant.2
+
+pub overflow_mul-step : goal.overflow_mul-step
+overflow_mul-step c =
+    let place : c.args.base + c.args.step * c.loop-v.v < SUPPORTS = lacking_place _ _ _ c.requires.0 c.loop-v-test.true in
+    omega (arith, place)
+
+pub overflow_add-base : goal.overflow_add-base
+overflow_add-base c =
+    let place : c.args.base + c.args.step * c.loop-v.v < SUPPORTS = lacking_place _ _ _ c.requires.0 c.loop-v-test.true in
+    omega (arith, place)
+
+pub support-requires : goal.support-requires
+support-requires c =
+    let place : c.args.base + c.args.step * c.loop-v.v < SUPPORTS = lacking_place _ _ _ c.requires.0 c.loop-v-test.true in
+    place
+
+pub contains-requires : goal.contains-requires
+contains-requires c = tt
+
+pub full-requires : goal.full-requires
+full-requires c = tt
+
+pub overflow_cast-v : goal.overflow_cast-v
+overflow_cast-v c = omega arith
+
+pub only-requires : goal.only-requires
+only-requires c = tt
+
+pub union-set-requires : goal.union-set-requires
+union-set-requires c = tt
+
+pub overflow_add-v : goal.overflow_add-v
+overflow_add-v c = omega arith
+
+pub loop-v-smaller : goal.loop-v-smaller
+loop-v-smaller c = omega arith

@@ -1,0 +1,18 @@
+use Rattle.model.specs.Kit.{sym, ◌∙◌, arith}
+use Rattle.sheet_carried.proofs.{Surely.sure_blocked}
+use Rattle.sheet_carried.proofs.sure.third_blocked.Goals as goal
+
+pub returns-then-contains : goal.returns-then-contains
+returns-then-contains c = λ p t e s. sure_blocked p _ _ _ _ s e (sym c.contains.ensures ∙ c.if-contains.true)
+
+pub returns : goal.returns
+returns c = λ p t e s. c.blocked.ensures p t
+
+pub overflow_cast-e : goal.overflow_cast-e
+overflow_cast-e c = omega arith
+
+pub contains-requires : goal.contains-requires
+contains-requires c = tt
+
+pub blocked-requires : goal.blocked-requires
+blocked-requires c = c.requires

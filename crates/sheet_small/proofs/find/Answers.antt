@@ -1,0 +1,27 @@
+-- `find`: before candidate n, what is left of the list once `seen` sheets are passed. Assumes nothing.
+use Rattle.model.specs.Kit.{refl, sym, ◌∙◌, subst, ⊎_elim, ℕ, ◌+◌, arith, rules}
+use Rattle.sheet_small.proofs.{Walk.Came, Walk.came_first, Walk.came_last, Walk.came_refused, Walk.came_accepted, Walk.found}
+use Rattle.sheet_small.proofs.find.Goals as goal
+
+pub loop-n-init : goal.loop-n-init
+loop-n-init c = (search rules, search rules, came_first)
+
+pub returns-then-seen-k : goal.returns-then-seen-k
+returns-then-seen-k c =
+    found c.args.k c.loop-n.seen c.loop-n.n c.numbered.result c.loop-n-test.true c.loop-n.invariant.2
+    c.numbered.ensures (sym c.passes.ensures ∙ c.if-passes.true) c.if-seen-k.true
+
+pub loop-n-preserved : goal.loop-n-preserved
+loop-n-preserved c =
+    let e = sym c.passes.ensures in
+    ⊎_elim
+    (λ w. (search rules, omega (arith, w.2, w.1.left, c.loop-n.invariant.1), subst (λ (s : ℕ). Came s (c.loop-n.n + 1)) (sym w.2) (came_accepted c.loop-n.seen c.loop-n.n c.loop-n-test.true c.loop-n.invariant.2 (e ∙ w.0.taken))))
+    (λ w. (search rules, omega (arith, w.1, c.loop-n.invariant.1), subst (λ (s : ℕ). Came s (c.loop-n.n + 1)) (sym w.1) (came_refused c.loop-n.seen c.loop-n.n c.loop-n-test.true c.loop-n.invariant.2 (e ∙ w.0.left))))
+    c.if-passes.branch
+
+pub returns : goal.returns
+returns c =
+    record {
+      past = λ z. omega (arith, came_last c.loop-n.seen c.loop-n.n c.loop-n-test.false c.loop-n.invariant.2, c.loop-n.invariant.1);
+      here = λ z. absurd (z refl);
+    }

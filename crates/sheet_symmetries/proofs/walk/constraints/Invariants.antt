@@ -1,0 +1,11 @@
+use Rattle.model.specs.Kit.{◌≡◌, ◌-◌, ◌≤◌, length, drop}
+use Rattle.model.specs.{Lists.all, Problem.Problem}
+use Rattle.sheet_table.specs.Inner.Forbidden.{Lent}
+use Rattle.sheet_symmetries.proofs.walk.constraints.Given as goal
+
+abbrev pub invariant-loop-k : goal.invariant-loop-k
+invariant-loop-k l = (p : Problem) → Lent p l.numbers l.supports l.codes l.moves → (l.k ≤ length p.constraints) ×
+    (all (kept p l.codes) (drop l.k p.constraints) ≡ all (kept p l.codes) p.constraints)
+
+abbrev pub decreases-loop-k : goal.decreases-loop-k
+decreases-loop-k l = l.c - l.k

@@ -1,0 +1,11 @@
+use Rattle.model.specs.Kit.{◌≡◌, ◌-◌, ◌≤◌}
+use Rattle.model.specs.{Lists.all, Lists.below, Lists.up_from, Problem.Problem}
+use Rattle.sheet_table.specs.Inner.Forbidden.{Lent}
+use Rattle.sheet_symmetries.proofs.walk.variables.Given as goal
+
+abbrev pub invariant-loop-x : goal.invariant-loop-x
+invariant-loop-x l = (p : Problem) → Lent p l.numbers l.supports l.codes l.moves → (l.x ≤ p.variables) ×
+    (all (kept p l.codes) (up_from l.x (p.variables - l.x)) ≡ all (kept p l.codes) (below p.variables))
+
+abbrev pub decreases-loop-x : goal.decreases-loop-x
+decreases-loop-x l = l.n - l.x
