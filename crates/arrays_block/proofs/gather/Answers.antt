@@ -1,9 +1,10 @@
-use Rattle.model.specs.Kit.{sym, ap, ◌∙◌, subst, ⊎_elim, arith, rules}
+use Rattle.model.specs.Kit.{sym, ap, ◌∙◌, subst, arith, rules}
 use Rattle.model.specs.{Lists.at, Inner.Filling.Gathered}
 use Rattle.model.proofs.Filling.{gathered_begin, gathered_end}
 use Rattle.block.specs.Block.{in_block}
 use Rattle.arrays_block.proofs.{Gathering.gather_one, Gathering.gather_none}
 use Rattle.arrays_block.proofs.gather.Goals as goal
+use Rattle.arrays_block.proofs.gather.Goals.{else-is_inside, then-is_inside}
 
 pub loop-i-init : goal.loop-i-init
 loop-i-init c = (omega arith, gathered_begin _)
@@ -13,8 +14,7 @@ unfolding at
 loop-i-preserved c =
     let e = sym (c.is_inside.ensures ∙ ap (in_block _ _) c.wide.ensures.0) in (
       search rules,
-      ⊎_elim (λ w. subst (Gathered _ _) (sym w.1) (gather_one _ _ _ c.loop-i.invariant.1 (search rules) (e ∙ w.0.taken))) (λ w. subst (Gathered _ _) (sym w.1) (gather_none _ _ _ c.loop-i.invariant.1 (e ∙ w.0.left)))
-          c.if-is_inside.branch,
+      (elim c.if-is_inside.branch [ then-is_inside w ↦ subst (Gathered _ _) (sym w.1) (gather_one _ _ _ c.loop-i.invariant.1 (search rules) (e ∙ w.if-is_inside.true)) | else-is_inside w ↦ subst (Gathered _ _) (sym w.1) (gather_none _ _ _ c.loop-i.invariant.1 (e ∙ w.0.left)) ]),
     )
 
 pub returns : goal.returns

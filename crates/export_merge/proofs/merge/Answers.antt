@@ -18,12 +18,12 @@ code-requires c =
 
 pub returns-in-Refused : goal.returns-in-Refused
 returns-in-Refused c =
-    right_answer c.args.variables c.args.pairs.now c.args.first.now c.args.second.now c.args.out.now c.args.answer.now (refusal c.in-Refused.number c.in-Refused.item) c.code.result c.merge-r.new.pairs.1.1.1.0
+    right_answer c.args.variables c.args.pairs.now c.args.first.now c.args.second.now c.args.out.now c.args.answer.now (refusal c.in-Refused.number c.in-Refused.item) c.code.result c.merge-r.new.room
     c.args.answer.now c.if-answer-ne12.false (sym (ap means c.in-Refused.is) ∙ c.merge-r.ensures.answers) c.code.ensures c.merge-r.ensures.leaves refl
 
 pub returns-in-Written : goal.returns-in-Written
 returns-in-Written c =
-    right_answer c.args.variables c.args.pairs.now c.args.first.now c.args.second.now c.args.out.now c.args.answer.now (wrote c.in-Written.count) 0 c.merge-r.new.pairs.1.1.1.0 c.three.new.out c.if-answer-ne12.false
+    right_answer c.args.variables c.args.pairs.now c.args.first.now c.args.second.now c.args.out.now c.args.answer.now (wrote c.in-Written.count) 0 c.merge-r.new.room c.three.new.out c.if-answer-ne12.false
     (sym (ap means c.in-Written.is) ∙ c.merge-r.ensures.answers) refl c.merge-r.ensures.leaves c.three.ensures
 
 pub three-requires : goal.three-requires

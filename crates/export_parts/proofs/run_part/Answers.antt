@@ -30,14 +30,14 @@ put_ending-requires c =
 
 pub returns-in-Refused : goal.returns-in-Refused
 returns-in-Refused c =
-    right_answer c.args.sheet.now c.args.pairs.now c.args.block.now c.args.from.now c.args.upto.now c.args.limit c.args.list.now c.args.answer.now c.code.result c.run_part-r.new.pairs.1.1.1.1.1.0
+    right_answer c.args.sheet.now c.args.pairs.now c.args.block.now c.args.from.now c.args.upto.now c.args.limit c.args.list.now c.args.answer.now c.code.result c.run_part-r.new.list
     c.args.answer.now (refusal c.in-Refused.number c.in-Refused.item) c.if-answer-ne115.false
     (sym c.run_part-r.ensures.answers ∙ ap means c.in-Refused.is) c.code.ensures c.run_part-r.ensures.leaves refl
 
 pub returns-in-Ended : goal.returns-in-Ended
 returns-in-Ended c =
     let so = sym c.run_part-r.ensures.answers ∙ ap means c.in-Ended.is in
-    right_answer c.args.sheet.now c.args.pairs.now c.args.block.now c.args.from.now c.args.upto.now c.args.limit c.args.list.now c.args.answer.now 0 c.run_part-r.new.pairs.1.1.1.1.1.0 c.put_paths.new.out
+    right_answer c.args.sheet.now c.args.pairs.now c.args.block.now c.args.from.now c.args.upto.now c.args.limit c.args.list.now c.args.answer.now 0 c.run_part-r.new.list c.put_paths.new.out
     (ended (ending_of c.in-Ended.e)) c.if-answer-ne115.false so refl c.run_part-r.ensures.leaves
     (pieces c.args.sheet.now c.args.pairs.now c.args.block.now c.args.from.now c.args.upto.now c.args.limit c.args.list.now c.args.answer.now c.put_ending.new.out c.put_name.new.out
     c.put_paths.new.out (ending_of c.in-Ended.e) c.run_part-r.result.tally.counts (take c.run_part-r.result.length c.run_part-r.result.last) c.if-answer-ne115.false

@@ -8,10 +8,10 @@ returns-then-answer-ne12 c = wrong_answer c.args.input.now c.args.out.now c.args
 
 pub returns-then-out-length : goal.returns-then-out-length
 returns-then-out-length c =
-    too_short c.args.input.now c.args.out.now c.args.answer.now c.if-answer-ne12.false c.input_report-length.new.out.0 c.input_report-length.result (whole_input _ _ _ _ c.input_report-length.ensures)
-    (omega (arith, c.if-out-length.true, c.input_report-length.auto.out.0))
+    too_short c.args.input.now c.args.out.now c.args.answer.now c.if-answer-ne12.false c.input_report-length.new.out c.input_report-length.result (whole_input _ _ _ _ c.input_report-length.ensures)
+    (omega (arith, c.if-out-length.true, c.input_report-length.auto.out))
 
 pub returns : goal.returns
 returns c =
-    reported c.args.input.now c.args.out.now c.args.answer.now c.if-answer-ne12.false c.input_report-length.new.out.0 c.input_report-length.result (whole_input _ _ _ _ c.input_report-length.ensures)
-    (omega (arith, c.if-out-length.false, c.input_report-length.auto.out.0)) c.three.new.out c.three.ensures
+    reported c.args.input.now c.args.out.now c.args.answer.now c.if-answer-ne12.false c.input_report-length.new.out c.input_report-length.result (whole_input _ _ _ _ c.input_report-length.ensures)
+    (omega (arith, c.if-out-length.false, c.input_report-length.auto.out)) c.three.new.out c.three.ensures

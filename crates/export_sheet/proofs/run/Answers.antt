@@ -25,10 +25,10 @@ ending-requires c =
 
 pub returns-in-Refused : goal.returns-in-Refused
 returns-in-Refused c =
-    right_answer c.args.sheet.now c.args.limit c.args.list.now c.args.answer.now c.code.result c.run-r.new.limit.1.0 c.args.answer.now (refusal c.in-Refused.number c.in-Refused.item)
+    right_answer c.args.sheet.now c.args.limit c.args.list.now c.args.answer.now c.code.result c.run-r.new.list c.args.answer.now (refusal c.in-Refused.number c.in-Refused.item)
     c.if-answer-ne12.false (sym c.run-r.ensures.answers ∙ ap means c.in-Refused.is) c.code.ensures c.run-r.ensures.leaves refl
 
 pub returns-in-Ended : goal.returns-in-Ended
 returns-in-Ended c =
-    right_answer c.args.sheet.now c.args.limit c.args.list.now c.args.answer.now 0 c.run-r.new.limit.1.0 c.ending.new.out (ended (ending_of c.in-Ended.e)) c.if-answer-ne12.false
+    right_answer c.args.sheet.now c.args.limit c.args.list.now c.args.answer.now 0 c.run-r.new.list c.ending.new.out (ended (ending_of c.in-Ended.e)) c.if-answer-ne12.false
     (sym c.run-r.ensures.answers ∙ ap means c.in-Ended.is) refl c.run-r.ensures.leaves c.ending.ensures

@@ -20,4 +20,4 @@ told-requires c =
 pub returns : goal.returns
 returns c =
     fetched c.args.store.now c.args.owner c.args.key c.args.room.now c.args.answer.now c.if-answer-ne12.false (means c.fetch-r.result) c.fetch-r.ensures.0
-    c.told.result c.told.new.answer c.told.ensures.value c.told.ensures.answer_after c.fetch-r.new.owner.1.1.0 c.fetch-r.ensures.1
+    c.told.result c.told.new.answer c.told.ensures.value c.told.ensures.answer_after c.fetch-r.new.room c.fetch-r.ensures.1

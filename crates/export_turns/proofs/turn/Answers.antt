@@ -1,5 +1,5 @@
 -- `turn`: the answer's length is asked first; then the call. Assumes nothing.
-use Rattle.model.specs.Kit.{sym, subst}
+use Rattle.model.specs.Kit.{sym, subst, []}
 use Rattle.model.specs.Lists.{at}
 use Rattle.desk.specs.{Queue.turn, Queue.QueueReply, Meaning.means}
 use Rattle.export_desk.specs.Inner.Fits.{ReplyFits}

@@ -1,8 +1,9 @@
 -- The loop: the images by the first k symmetries were looked at.
-use Rattle.model.specs.Kit.{⊎_elim, ◌<◌, arith, get_or}
+use Rattle.model.specs.Kit.{◌<◌, arith, get_or}
 use Rattle.model.specs.{Lists.at}
 use Rattle.families.proofs.Turns.{Turning, spread_head, turning_begin, turning_tail, turning_end, turning_numbering, turning_small, turning_room, turning_pushed, turning_stayed}
 use Rattle.families.proofs.spread.Goals as goal
+use Rattle.families.proofs.spread.Goals.{else-seen-j-eq0, then-seen-j-eq0}
 
 pub offset_bounds-queue-head : goal.offset_bounds-queue-head
 unfolding at
@@ -45,7 +46,7 @@ loop-k-preserved c =
       λ p starts count s.
           let t = c.loop-k.invariant.1 p starts count s in
           let e = c.image-j.ensures p (turning_numbering t c.loop-k-test.true) in
-          ⊎_elim (λ w. turning_pushed t c.loop-k-test.true e w.0.taken w.1 w.2 w.3) (λ w. turning_stayed t c.loop-k-test.true e w.0.left w.1 w.2 w.3) c.if-seen-j-eq0.branch,
+          (elim c.if-seen-j-eq0.branch [ then-seen-j-eq0 w ↦ turning_pushed t c.loop-k-test.true e w.if-seen-j-eq0.true w.1 w.2 w.3 | else-seen-j-eq0 w ↦ turning_stayed t c.loop-k-test.true e w.0.left w.1 w.2 w.3 ]),
     )
 
 pub returns : goal.returns

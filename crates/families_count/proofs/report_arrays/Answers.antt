@@ -44,4 +44,4 @@ returns c = λ b k.
     let g = c.run_arrays-part.ensures _ (report_runs _ c.args.limit _ _ _ k _ _ _ c.requires.1 _ l) in
     let s = report_listed _ c.args.limit _ _ _ k _ _ _ c.requires.1 _ l _ _ _ _ _ _ _ g in
     report_told_so _ c.args.limit _ _ _ k _ _ _ c.requires.1 _ l _ _ _ _ _ _ _ g _ refl _ c.answered-answer.ensures _
-    (c.report_figure-figure.ensures _ s) _ refl c.run_arrays-part.auto.work.1.1.1.1.1.1.0
+    (c.report_figure-figure.ensures _ s) _ refl c.run_arrays-part.auto.list

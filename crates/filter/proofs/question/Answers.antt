@@ -2,11 +2,11 @@
 use Rattle.model.specs.Kit.{⊎_elim, rules, not-true, ltb-true, eqb-false}
 use Rattle.filter.proofs.Questions.{no_set, many_sets, other_equals, other_others, long_lists, wrong_entry, all_right}
 use Rattle.filter.proofs.question.Goals as goal
+use Rattle.filter.proofs.question.Goals.{else-n-lt1, then-n-lt1}
 
 pub returns-then-n-lt1 : goal.returns-then-n-lt1
 returns-then-n-lt1 c =
-    ⊎_elim (λ w. no_set c.args.sets.now c.args.index.now c.args.equal.now c.args.not_equal.now w.taken)
-    (λ w. many_sets c.args.sets.now c.args.index.now c.args.equal.now c.args.not_equal.now (ltb-true _ _ w.1.taken)) c.if-n-lt1.branch
+    (elim c.if-n-lt1.branch [ then-n-lt1 w ↦ no_set c.args.sets.now c.args.index.now c.args.equal.now c.args.not_equal.now w.if-n-lt1.true | else-n-lt1 w ↦ many_sets c.args.sets.now c.args.index.now c.args.equal.now c.args.not_equal.now (ltb-true _ _ w.1.taken) ])
 
 pub returns-then-equal-m : goal.returns-then-equal-m
 returns-then-equal-m c =

@@ -1,10 +1,11 @@
 -- `ascend`: what is left ascends exactly if the whole does. Assumes nothing.
-use Rattle.model.specs.Kit.{◌≡◌, refl, sym, ap₂, ◌∙◌, subst, ⊎_elim, ℕ, ◌-◌, ◌<◌, length, take, drop}
+use Rattle.model.specs.Kit.{◌≡◌, refl, sym, ap₂, ◌∙◌, subst, ℕ, ◌-◌, ◌<◌, length, take, drop}
 use Rattle.order.specs.Reordered.{earlier_by}
 use Rattle.list_merge.specs.{Inner.Inner.way_of}
 use Rattle.list_merge.proofs.Turning.{part_is, front_a, front_after, whole_after, shorter, goes_on_lem, equal_rows, falls, last_row}
 use Rattle.list_merge.proofs.{Reading.plain_way}
 use Rattle.list_merge.proofs.ascend.Goals as goal
+use Rattle.list_merge.proofs.ascend.Goals.{else-plain, then-plain}
 
 pub loop-rest-init : goal.loop-rest-init
 loop-rest-init c = (c.requires.2, refl)
@@ -54,8 +55,8 @@ returns-in-Same c =
     let stood : c.if-plain.way ≡ way_of (earlier_by c.args.order.now (take c.args.n c.loop-rest.rest.now) (take c.args.n (take (length c.loop-rest.rest.now - c.args.n) (drop c.args.n c.loop-rest.rest.now)))) (earlier_by c.args.order.now (take c.args.n (take (length c.loop-rest.rest.now - c.args.n) (drop c.args.n c.loop-rest.rest.now))) (take c.args.n c.loop-rest.rest.now)) = let after = take (length c.loop-rest.rest.now - c.args.n) (drop c.args.n c.loop-rest.rest.now) in
     let ea = front_a c.args.n c.args.order.now c.loop-rest.rest.now after c.requires.0 c.loop-rest.invariant.0 c.loop-rest-test.true (part_is c.loop-rest.rest.now c.args.n) in
     let eb = front_after c.args.n c.args.order.now c.loop-rest.rest.now after c.requires.0 c.loop-rest.invariant.0 c.loop-rest-test.true (part_is c.loop-rest.rest.now c.args.n) in
-    ⊎_elim (λ w. let p = c.requires.3.words w.0.taken in w.4 ∙ w.3.ensures ∙ ap₂ way_of (plain_way c.args.n c.args.order.now p (take c.args.n c.loop-rest.rest.now) (take c.args.n after) ea eb)
-    (plain_way c.args.n c.args.order.now p (take c.args.n after) (take c.args.n c.loop-rest.rest.now) eb ea)) (λ w. w.4 ∙ w.3.ensures) c.if-plain.branch in
+    (elim c.if-plain.branch [ then-plain w ↦ let p = c.requires.3.words w.if-plain.true in w.4 ∙ w.3.ensures ∙ ap₂ way_of (plain_way c.args.n c.args.order.now p (take c.args.n c.loop-rest.rest.now) (take c.args.n after) ea eb)
+    (plain_way c.args.n c.args.order.now p (take c.args.n after) (take c.args.n c.loop-rest.rest.now) eb ea) | else-plain w ↦ w.4 ∙ w.3.ensures ]) in
     let after = take (length c.loop-rest.rest.now - c.args.n) (drop c.args.n c.loop-rest.rest.now) in
     sym (c.loop-rest.invariant.1 ∙ equal_rows c.args.n c.args.order.now c.loop-rest.rest.now after c.requires.0 c.loop-rest.invariant.0 c.loop-rest-test.true (part_is c.loop-rest.rest.now c.args.n) c.if-plain.way stood c.in-Same.is)
 
@@ -64,8 +65,8 @@ returns-in-After c =
     let stood : c.if-plain.way ≡ way_of (earlier_by c.args.order.now (take c.args.n c.loop-rest.rest.now) (take c.args.n (take (length c.loop-rest.rest.now - c.args.n) (drop c.args.n c.loop-rest.rest.now)))) (earlier_by c.args.order.now (take c.args.n (take (length c.loop-rest.rest.now - c.args.n) (drop c.args.n c.loop-rest.rest.now))) (take c.args.n c.loop-rest.rest.now)) = let after = take (length c.loop-rest.rest.now - c.args.n) (drop c.args.n c.loop-rest.rest.now) in
     let ea = front_a c.args.n c.args.order.now c.loop-rest.rest.now after c.requires.0 c.loop-rest.invariant.0 c.loop-rest-test.true (part_is c.loop-rest.rest.now c.args.n) in
     let eb = front_after c.args.n c.args.order.now c.loop-rest.rest.now after c.requires.0 c.loop-rest.invariant.0 c.loop-rest-test.true (part_is c.loop-rest.rest.now c.args.n) in
-    ⊎_elim (λ w. let p = c.requires.3.words w.0.taken in w.4 ∙ w.3.ensures ∙ ap₂ way_of (plain_way c.args.n c.args.order.now p (take c.args.n c.loop-rest.rest.now) (take c.args.n after) ea eb)
-    (plain_way c.args.n c.args.order.now p (take c.args.n after) (take c.args.n c.loop-rest.rest.now) eb ea)) (λ w. w.4 ∙ w.3.ensures) c.if-plain.branch in
+    (elim c.if-plain.branch [ then-plain w ↦ let p = c.requires.3.words w.if-plain.true in w.4 ∙ w.3.ensures ∙ ap₂ way_of (plain_way c.args.n c.args.order.now p (take c.args.n c.loop-rest.rest.now) (take c.args.n after) ea eb)
+    (plain_way c.args.n c.args.order.now p (take c.args.n after) (take c.args.n c.loop-rest.rest.now) eb ea) | else-plain w ↦ w.4 ∙ w.3.ensures ]) in
     let after = take (length c.loop-rest.rest.now - c.args.n) (drop c.args.n c.loop-rest.rest.now) in
     sym (c.loop-rest.invariant.1 ∙ falls c.args.n c.args.order.now c.loop-rest.rest.now after c.requires.0 c.loop-rest.invariant.0 c.loop-rest-test.true (part_is c.loop-rest.rest.now c.args.n) c.if-plain.way stood c.in-After.is)
 
@@ -79,8 +80,8 @@ loop-rest-preserved c =
     let stood : c.if-plain.way ≡ way_of (earlier_by c.args.order.now (take c.args.n c.loop-rest.rest.now) (take c.args.n (take (length c.loop-rest.rest.now - c.args.n) (drop c.args.n c.loop-rest.rest.now)))) (earlier_by c.args.order.now (take c.args.n (take (length c.loop-rest.rest.now - c.args.n) (drop c.args.n c.loop-rest.rest.now))) (take c.args.n c.loop-rest.rest.now)) = let after = take (length c.loop-rest.rest.now - c.args.n) (drop c.args.n c.loop-rest.rest.now) in
     let ea = front_a c.args.n c.args.order.now c.loop-rest.rest.now after c.requires.0 c.loop-rest.invariant.0 c.loop-rest-test.true (part_is c.loop-rest.rest.now c.args.n) in
     let eb = front_after c.args.n c.args.order.now c.loop-rest.rest.now after c.requires.0 c.loop-rest.invariant.0 c.loop-rest-test.true (part_is c.loop-rest.rest.now c.args.n) in
-    ⊎_elim (λ w. let p = c.requires.3.words w.0.taken in w.4 ∙ w.3.ensures ∙ ap₂ way_of (plain_way c.args.n c.args.order.now p (take c.args.n c.loop-rest.rest.now) (take c.args.n after) ea eb)
-    (plain_way c.args.n c.args.order.now p (take c.args.n after) (take c.args.n c.loop-rest.rest.now) eb ea)) (λ w. w.4 ∙ w.3.ensures) c.if-plain.branch in
+    (elim c.if-plain.branch [ then-plain w ↦ let p = c.requires.3.words w.if-plain.true in w.4 ∙ w.3.ensures ∙ ap₂ way_of (plain_way c.args.n c.args.order.now p (take c.args.n c.loop-rest.rest.now) (take c.args.n after) ea eb)
+    (plain_way c.args.n c.args.order.now p (take c.args.n after) (take c.args.n c.loop-rest.rest.now) eb ea) | else-plain w ↦ w.4 ∙ w.3.ensures ]) in
     let after = take (length c.loop-rest.rest.now - c.args.n) (drop c.args.n c.loop-rest.rest.now) in
     (
       whole_after c.args.n c.args.order.now c.loop-rest.rest.now after c.requires.0 c.loop-rest.invariant.0 c.loop-rest-test.true (part_is c.loop-rest.rest.now c.args.n),

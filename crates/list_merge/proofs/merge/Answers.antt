@@ -31,7 +31,7 @@ slice_bounds-order-end c =
 
 pub slice_bounds-merge_by-end : goal.slice_bounds-merge_by-end
 slice_bounds-merge_by-end c =
-    sym (length-take-le c.args.n c.settling_order-number.new.pairs.1.0 (omega (
+    sym (length-take-le c.args.n c.settling_order-number.new.order (omega (
       arith,
       c.settling_order-number.ensures.size,
       (whole_e c.args.n c.args.first.now c.args.second.now
@@ -43,7 +43,7 @@ merge_by-requires c =
     let yes = sym c.whole.ensures ∙ c.if-not-whole.false in
     let most = (whole_e c.args.n c.args.first.now c.args.second.now yes).most in (
       ready c.args.n c.args.pairs.now c.args.first.now c.args.second.now c.args.room.now yes c.settling_order-number.ensures c.if-number-ne0.false,
-      length-take-le c.args.n c.settling_order-number.new.pairs.1.0 (omega (arith, c.settling_order-number.ensures.size, most)),
+      length-take-le c.args.n c.settling_order-number.new.order (omega (arith, c.settling_order-number.ensures.size, most)),
       most,
     )
 

@@ -3,7 +3,7 @@ use Rattle.order.specs.{Order.can_follow, Inner.Settled.SetOf, Inner.Settled.Bef
 use Rattle.order.proofs.next.Given as goal
 
 abbrev pub invariant-loop-y : goal.invariant-loop-y
-invariant-loop-y at = (at.y ≤ at.n) × ((pairs l : List ℕ) → Befores pairs (length pairs / 2) at.befores → SetOf at.settled l → (j : ℕ) → j < at.y → can_follow pairs l j ≡ false)
+invariant-loop-y here = (here.y ≤ here.n) × ((pairs l : List ℕ) → Befores pairs (length pairs / 2) here.befores → SetOf here.settled l → (j : ℕ) → j < here.y → can_follow pairs l j ≡ false)
 
 abbrev pub decreases-loop-y : goal.decreases-loop-y
 decreases-loop-y l = l.n - l.y

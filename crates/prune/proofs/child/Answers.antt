@@ -1,6 +1,6 @@
 -- The sets and marks of depth k, with one value kept of variable k's set and the block's later variables cut, are on the way to those of the longer prefix.
 -- Assumes nothing.
-use Rattle.model.specs.Kit.{refl, arith}
+use Rattle.model.specs.Kit.{refl, [], arith}
 use Rattle.model.specs.Lists.{at}
 use Rattle.prune.proofs.Starts.{arrays_hold, blocked, value_small, child_startable, child_later, child_on_way, child_dead, child_live}
 use Rattle.prune.proofs.{ChildCut.whole_is, ChildCut.cut_dead, ChildCut.cut_sets_are, ChildCut.cut_before, ChildCut.cut_last}
@@ -9,7 +9,7 @@ use Rattle.prune.proofs.child.Goals as goal
 pub cut_later-changed-requires : goal.cut_later-changed-requires
 unfolding at
 cut_later-changed-requires c =
-    let s = (child_startable c.requires.2 _ c.copy_marks.ensures c.load.new.k.1.0 c.load.ensures _ _ _
+    let s = (child_startable c.requires.2 _ c.copy_marks.ensures c.load.new.sets c.load.ensures _ _ _
     c.only-one.ensures c.due-todo.ensures c.due-dirty.ensures) in
     (s.live.sixteen, omega (arith, c.requires.2.room, c.requires.2.ready.well_formed.few), omega arith, λ y t. omega (arith, c.requires.2.ready.block_few y t, c.requires.2.ready.well_formed.few))
 
@@ -18,13 +18,13 @@ unfolding at
 returns-then-changed-eq-DEAD c =
     λ p gs a.
     let s = (child_startable a _ c.copy_marks.ensures
-    c.load.new.k.1.0
+    c.load.new.sets
     c.load.ensures _ _ _ c.only-one.ensures
     c.due-todo.ensures c.due-dirty.ensures) in
     child_dead a _ c.copy_marks.ensures [] _ _
     (cut_dead (arrays_hold a.ready) (blocked a.ready) s.live _ _ c.cut_later-changed.ensures c.if-changed-eq-DEAD.true
     (child_on_way a _ c.copy_marks.ensures
-    c.load.new.k.1.0
+    c.load.new.sets
     c.load.ensures _ _ _ c.only-one.ensures
     c.due-todo.ensures c.due-dirty.ensures _ _ refl
     (whole_is (arrays_hold a.ready) (blocked a.ready) s.live _ _ c.cut_later-changed.ensures)).0 []) refl
@@ -33,11 +33,11 @@ pub fixpoint-dead-requires : goal.fixpoint-dead-requires
 unfolding at
 fixpoint-dead-requires c =
     let s = (child_startable c.requires.2 _ c.copy_marks.ensures
-    c.load.new.k.1.0
+    c.load.new.sets
     c.load.ensures _ _ _ c.only-one.ensures
     c.due-todo.ensures c.due-dirty.ensures) in
     let w = (child_on_way c.requires.2 _ c.copy_marks.ensures
-    c.load.new.k.1.0
+    c.load.new.sets
     c.load.ensures _ _ _ c.only-one.ensures
     c.due-todo.ensures c.due-dirty.ensures _ _ refl
     (cut_sets_are (arrays_hold c.requires.2.ready) (blocked c.requires.2.ready) s.live _ _ c.cut_later-changed.ensures
@@ -47,7 +47,7 @@ fixpoint-dead-requires c =
     let l = cut_last (arrays_hold c.requires.2.ready) (blocked c.requires.2.ready) s.live _ _ c.cut_later-changed.ensures c.if-changed-eq-DEAD.false s
     c.touched.ensures refl refl (value_small c.requires.2 _ c.copy_marks.ensures)
     (child_later c.requires.2 _ c.copy_marks.ensures
-    c.load.new.k.1.0
+    c.load.new.sets
     c.load.ensures _ _ _ c.only-one.ensures
     c.due-todo.ensures c.due-dirty.ensures) in
     (_, _, arrays_hold c.requires.2.ready, blocked c.requires.2.ready, n, l)
@@ -57,11 +57,11 @@ unfolding at
 returns-then-dead c =
     λ p gs a.
     let s = (child_startable a _ c.copy_marks.ensures
-    c.load.new.k.1.0
+    c.load.new.sets
     c.load.ensures _ _ _ c.only-one.ensures
     c.due-todo.ensures c.due-dirty.ensures) in
     let w = (child_on_way a _ c.copy_marks.ensures
-    c.load.new.k.1.0
+    c.load.new.sets
     c.load.ensures _ _ _ c.only-one.ensures
     c.due-todo.ensures c.due-dirty.ensures _ _ refl
     (cut_sets_are (arrays_hold a.ready) (blocked a.ready) s.live _ _ c.cut_later-changed.ensures
@@ -84,11 +84,11 @@ unfolding at
 returns c =
     λ p gs a.
     let s = (child_startable a _ c.copy_marks.ensures
-    c.load.new.k.1.0
+    c.load.new.sets
     c.load.ensures _ _ _ c.only-one.ensures
     c.due-todo.ensures c.due-dirty.ensures) in
     let w = (child_on_way a _ c.copy_marks.ensures
-    c.load.new.k.1.0
+    c.load.new.sets
     c.load.ensures _ _ _ c.only-one.ensures
     c.due-todo.ensures c.due-dirty.ensures _ _ refl
     (cut_sets_are (arrays_hold a.ready) (blocked a.ready) s.live _ _ c.cut_later-changed.ensures

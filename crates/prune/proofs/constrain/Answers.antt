@@ -57,4 +57,4 @@ loop-todo-preserved c = λ p s w.
     (pruned_turn s n k c.if-pruned-eq-DEAD.false refl _ (arcs_pruned s i.1 l c.if-cut-eq-DEAD.false _ i.0), pending_turn s n k c.if-pruned-eq-DEAD.false refl)
 
 pub arcs-cut-requires : goal.arcs-cut-requires
-arcs-cut-requires c = (none_settled _ _, (c.requires.0, arcs_pending c.requires.1 (c.loop-todo.invariant c.requires.0 c.requires.1 c.requires.2).1))
+arcs-cut-requires c = record { settled = none_settled _ _; arcs_pending = (c.requires.0, arcs_pending c.requires.1 (c.loop-todo.invariant c.requires.0 c.requires.1 c.requires.2).1) }

@@ -8,20 +8,20 @@ use Rattle.prune.proofs.descend.Goals as goal
 pub cut_later-requires : goal.cut_later-requires
 unfolding at
 cut_later-requires c =
-    (descent_sixteen c.requires.2 c.load.new.k.1.0 c.load.ensures c.only-one.ensures, omega (arith, c.requires.2.room, c.requires.2.ready.well_formed.few), omega arith, λ y t. omega (arith, c.requires.2.ready.block_few y t, c.requires.2.ready.well_formed.few))
+    (descent_sixteen c.requires.2 c.load.new.sets c.load.ensures c.only-one.ensures, omega (arith, c.requires.2.room, c.requires.2.ready.well_formed.few), omega arith, λ y t. omega (arith, c.requires.2.ready.block_few y t, c.requires.2.ready.well_formed.few))
 
 pub returns-then-cut_later-eq-DEAD : goal.returns-then-cut_later-eq-DEAD
 unfolding at
 returns-then-cut_later-eq-DEAD c = λ p gs a.
-    descent_dead a c.load.new.k.1.0 c.load.ensures c.only-one.ensures c.cut_later.ensures c.if-cut_later-eq-DEAD.true
+    descent_dead a c.load.new.sets c.load.ensures c.only-one.ensures c.cut_later.ensures c.if-cut_later-eq-DEAD.true
 
 pub prune_all-requires : goal.prune_all-requires
 unfolding at
 prune_all-requires c =
-    (c.requires.0, c.requires.1, c.requires.2.ready, descent_unpruned c.requires.2 c.load.new.k.1.0 c.load.ensures c.only-one.ensures c.cut_later.ensures c.if-cut_later-eq-DEAD.false)
+    (c.requires.0, c.requires.1, c.requires.2.ready, descent_unpruned c.requires.2 c.load.new.sets c.load.ensures c.only-one.ensures c.cut_later.ensures c.if-cut_later-eq-DEAD.false)
 
 pub returns : goal.returns
 unfolding at
 returns c = λ p gs a.
-    let n = descent_unpruned a c.load.new.k.1.0 c.load.ensures c.only-one.ensures c.cut_later.ensures c.if-cut_later-eq-DEAD.false in
+    let n = descent_unpruned a c.load.new.sets c.load.ensures c.only-one.ensures c.cut_later.ensures c.if-cut_later-eq-DEAD.false in
     descent_reached a (c.prune_all.ensures p gs a.ready n)

@@ -29,12 +29,9 @@ arcs-cut-requires c =
     let wide : c.args.todo < 2 ^ 64 = search rules in
     let looks : (p : Problem) (gs : List (List ℕ)) → ArraysHold p c.args.supports.now c.args.tables.now c.args.numbers.now → Blocked p gs c.args.numbers.now → BeforeFixpoint p gs c.args.work.now c.args.numbers.now c.args.sets.now c.args.k c.args.todo c.args.dirty → LookUpsPending p c.args.numbers.now c.args.supports.now c.args.sets.now c.args.work.now c.args.todo (bit_and c.args.todo (at c.args.numbers.now (LOOKS + c.args.k))) c.args.v = λ p gs s b n. looks_pending s b n wide c.requires.5 in
     let looks_made : (p : Problem) (gs : List (List ℕ)) → ArraysHold p c.args.supports.now c.args.tables.now c.args.numbers.now → Blocked p gs c.args.numbers.now → BeforeFixpoint p gs c.args.work.now c.args.numbers.now c.args.sets.now c.args.k c.args.todo c.args.dirty → BeforeFixpoint p gs c.args.work.now c.args.numbers.now c.look_ups-looked.new.sets c.args.k (bit_or (bit_and c.args.todo ((2 ^ 64 - 1) - bit_and c.args.todo (at c.args.numbers.now (LOOKS + c.args.k)))) (touched_of c.args.numbers.now c.look_ups-looked.result)) (bit_or c.args.dirty (bit_and c.look_ups-looked.result (at c.args.numbers.now LINKED))) = λ p gs s b n. looks_done s b n (c.look_ups-looked.ensures p _ (looks p gs s b n)) c.if-looked-eq-DEAD.false in
-    (
-  looks_settled c.requires.2 c.requires.3 c.requires.4 c.requires.5
+    record { settled = looks_settled c.requires.2 c.requires.3 c.requires.4 c.requires.5
       (c.look_ups-looked.ensures c.requires.0 _ (looks c.requires.0 c.requires.1 c.requires.2 c.requires.3 c.requires.4))
-      c.if-looked-eq-DEAD.false,
-  (c.requires.0, arcs_pending c.requires.2 (looks_made c.requires.0 c.requires.1 c.requires.2 c.requires.3 c.requires.4).startable.pending),
-)
+      c.if-looked-eq-DEAD.false; arcs_pending = (c.requires.0, arcs_pending c.requires.2 (looks_made c.requires.0 c.requires.1 c.requires.2 c.requires.3 c.requires.4).startable.pending) }
 
 pub returns-then-cut-eq-DEAD : goal.returns-then-cut-eq-DEAD
 unfolding at

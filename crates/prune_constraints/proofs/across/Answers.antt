@@ -10,19 +10,19 @@ pub in_lanes-by_second-requires : goal.in_lanes-by_second-requires
 unfolding at
 in_lanes-by_second-requires c =
     let spread : Spreads c.args.numbers.now = c.requires.by_index.1.spread _ c.requires.by_index.4.room c.requires.by_index.2 in
-    (omega (arith, c.requires.by_index.4.room), ((c.requires.x_bound.1, c.requires.x_bound.0, c.requires.x_bound.2), spread))
+    record { base_bound = omega (arith, c.requires.by_index.4.room); bits_bound = (c.requires.x_bound.1, c.requires.x_bound.0, c.requires.x_bound.2); spreads = spread }
 
 pub in_lanes-by_third-requires : goal.in_lanes-by_third-requires
 unfolding at
 in_lanes-by_third-requires c =
     let spread : Spreads c.args.numbers.now = c.requires.by_index.1.spread _ c.requires.by_index.4.room c.requires.by_index.2 in
-    (omega (arith, c.requires.by_index.4.room), ((c.requires.x_bound.2, c.requires.x_bound.0, c.requires.x_bound.1), spread))
+    record { base_bound = omega (arith, c.requires.by_index.4.room); bits_bound = (c.requires.x_bound.2, c.requires.x_bound.0, c.requires.x_bound.1); spreads = spread }
 
 pub fills-requires : goal.fills-requires
 unfolding at
 fills-requires c =
     let spread : Spreads c.args.numbers.now = c.requires.by_index.1.spread _ c.requires.by_index.4.room c.requires.by_index.2 in
-    (c.requires.x_bound.0, spread)
+    record { bits_bound = c.requires.x_bound.0; spreads = spread }
 
 pub returns-then-last-e : goal.returns-then-last-e
 unfolding at
@@ -38,7 +38,7 @@ pub leave-requires : goal.leave-requires
 unfolding at
 leave-requires c =
     let inside : (c.args.x < 16) × (c.args.y < 16) × (c.args.z < 16) = of_three refl c.requires.by_index.4.inside in
-    (c.requires.sets, inside)
+    record { sets = c.requires.sets; x_bound = inside }
 
 pub returns : goal.returns
 unfolding at

@@ -9,7 +9,7 @@ use Rattle.prune_constraints.proofs.along.Goals as goal
 
 pub in_lane-last-requires : goal.in_lane-last-requires
 unfolding at
-in_lane-last-requires c = (omega (arith, c.requires.by_index.4.room), (c.requires.x_bound.1, one_below c.requires.x_bound.0 c.requires.one_value c.lowest-u.ensures, c.requires.x_bound.2))
+in_lane-last-requires c = record { base_bound = omega (arith, c.requires.by_index.4.room); bits_bound = (c.requires.x_bound.1, one_below c.requires.x_bound.0 c.requires.one_value c.lowest-u.ensures, c.requires.x_bound.2) }
 
 pub returns-then-is_empty : goal.returns-then-is_empty
 unfolding at
@@ -22,7 +22,7 @@ returns-then-is_empty c =
 
 pub in_lane-second-requires : goal.in_lane-second-requires
 unfolding at
-in_lane-second-requires c = (omega (arith, c.requires.by_index.4.room), (c.requires.x_bound.2, one_below c.requires.x_bound.0 c.requires.one_value c.lowest-u.ensures, c.requires.x_bound.1))
+in_lane-second-requires c = record { base_bound = omega (arith, c.requires.by_index.4.room); bits_bound = (c.requires.x_bound.2, one_below c.requires.x_bound.0 c.requires.one_value c.lowest-u.ensures, c.requires.x_bound.1) }
 
 pub returns-then-second-b : goal.returns-then-second-b
 unfolding at

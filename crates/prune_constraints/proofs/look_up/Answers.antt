@@ -27,7 +27,7 @@ pub revise_one-requires : goal.revise_one-requires
 unfolding at
 revise_one-requires c =
     let place : (c.scope_at-x.result < 16) × (c.scope_at-z.result < 16) × (256 * c.args.k + 16 * at c.args.work.now c.scope_at-x.result + c.args.v < SUPPORTS) = look_place c.requires.constraints_held.1 c.requires.constraints_held.2 c.requires.sets c.scope_at-x.ensures c.scope_at-z.ensures in
-    let l = place in (c.requires.sets, (l.1, l.2))
+    let l = place in record { sets = c.requires.sets; x_bound = l.1; offset_bound = l.2 }
 
 pub returns : goal.returns
 unfolding at

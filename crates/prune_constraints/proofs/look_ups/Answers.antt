@@ -10,8 +10,7 @@ loop-left-init c = λ p todo w. looked_begin w (search rules)
 pub look_up-changed-requires : goal.look_up-changed-requires
 look_up-changed-requires c =
     let so_far : LookedSoFar c.requires.0 c.args.numbers.now c.args.supports.now c.args.sets.now c.loop-left.sets c.requires.1 c.args.some c.loop-left.left c.loop-left.all = c.loop-left.invariant c.requires.0 c.requires.1 c.requires.2 in
-    let t = so_far in
-    (t.so_far.sixteen, (_, t.so_far.held, look_next c.requires.2 t c.loop-left-test.true))
+    let t = so_far in record { sets = t.so_far.sixteen; constraints_held = (_, t.so_far.held, look_next c.requires.2 t c.loop-left-test.true) }
 
 pub returns-then-changed-eq-DEAD : goal.returns-then-changed-eq-DEAD
 returns-then-changed-eq-DEAD c = λ p todo w.

@@ -1,5 +1,5 @@
 -- One constraint on sets of values below 8, by its arity: a cut of the third set, along one number of lanes, or along two. Assumes nothing.
-use Rattle.model.specs.Kit.{◌≡◌, refl, sym, ◌∙◌, ◌∷◌, ◌+◌, ◌<◌, length}
+use Rattle.model.specs.Kit.{◌≡◌, refl, sym, ◌∙◌, [], ◌∷◌, ◌+◌, ◌<◌, length}
 use Rattle.model.specs.{Lists.at, Problem.Problem, Problem.constraint_at}
 use Rattle.arrays.specs.{Inner.Places.SCOPES, Inner.Layout.arity_in}
 use Rattle.prune_constraints.specs.Inner.Steps.{OneValue, ConstraintsHeld, Scoped}
@@ -8,8 +8,7 @@ use Rattle.prune_constraints.proofs.revise8.Goals as goal
 
 pub revise_two-requires : goal.revise_two-requires
 unfolding at
-revise_two-requires c =
-    (c.requires.sets, (_, read_2 c.requires.constraints_held.1 _ c.requires.constraints_held.2 _ c.scope_at.ensures _ c.scope_at-then-arity-eq2.ensures (sym c.arity-then-arity-ne3.ensures ∙ c.if-arity-eq2.true)))
+revise_two-requires c = record { sets = c.requires.sets; scoped = (_, read_2 c.requires.constraints_held.1 _ c.requires.constraints_held.2 _ c.scope_at.ensures _ c.scope_at-then-arity-eq2.ensures (sym c.arity-then-arity-ne3.ensures ∙ c.if-arity-eq2.true)) }
 
 pub returns-then-arity-eq2 : goal.returns-then-arity-eq2
 unfolding at
@@ -18,7 +17,7 @@ returns-then-arity-eq2 c =
 
 pub revise_any-requires : goal.revise_any-requires
 unfolding at
-revise_any-requires c = (c.requires.sets, (_, c.requires.constraints_held.1, c.requires.constraints_held.2))
+revise_any-requires c = record { sets = c.requires.sets; constraints_held = (_, c.requires.constraints_held.1, c.requires.constraints_held.2) }
 
 pub bounds-sets-x : goal.bounds-sets-x
 unfolding at
@@ -44,7 +43,7 @@ revise_last-requires c =
     let three : Scoped (constraint_at c.requires.constraints_held.0 c.args.k) c.args.supports.now c.args.k (c.scope_at-x.result ∷ c.scope_at-y.result ∷ c.scope_at-z.result ∷ []) = three_of c.requires.constraints_held.0 c.requires.constraints_held.1 c.requires.constraints_held.2 in
     let one : OneValue (at c.args.sets.now c.scope_at-x.result) = one_value _ _ _ (c.requires.sets.1 _) (of_three three.is c.requires.constraints_held.3).0 c.without_lowest.ensures c.is_empty.ensures c.if-is_empty.true in
     let one_y : OneValue (at c.args.sets.now c.scope_at-y.result) = one_value _ _ _ (c.requires.sets.1 _) (of_three three.is c.requires.constraints_held.3).1 c.without_lowest-then-is_empty.ensures c.is_empty-then-is_empty.ensures c.if-is_empty-2.true in
-    (c.requires.sets, ((one, one_y), (_, three)))
+    record { sets = c.requires.sets; one_value = (one, one_y); scoped = (_, three) }
 
 pub returns-then-is_empty-2 : goal.returns-then-is_empty-2
 unfolding at
@@ -60,8 +59,7 @@ along-requires c =
     let three_of : (p : Problem) → ConstraintsHeld p c.args.numbers.now c.args.supports.now → c.args.k < length p.constraints → Scoped (constraint_at p c.args.k) c.args.supports.now c.args.k (c.scope_at-x.result ∷ c.scope_at-y.result ∷ c.scope_at-z.result ∷ []) = λ p g h. read_3 g _ h _ c.scope_at-x.ensures _ c.scope_at-y.ensures _ c.scope_at-z.ensures is_three in
     let three : Scoped (constraint_at c.requires.constraints_held.0 c.args.k) c.args.supports.now c.args.k (c.scope_at-x.result ∷ c.scope_at-y.result ∷ c.scope_at-z.result ∷ []) = three_of c.requires.constraints_held.0 c.requires.constraints_held.1 c.requires.constraints_held.2 in
     let one : OneValue (at c.args.sets.now c.scope_at-x.result) = one_value _ _ _ (c.requires.sets.1 _) (of_three three.is c.requires.constraints_held.3).0 c.without_lowest.ensures c.is_empty.ensures c.if-is_empty.true in
-    let s = three in
-    (c.requires.sets, ((_, c.requires.constraints_held.1.worded c.requires.constraints_held.5, is_three, _, s), (one, of_three s.is c.requires.constraints_held.4)))
+    let s = three in record { sets = c.requires.sets; by_index = (_, c.requires.constraints_held.1.worded c.requires.constraints_held.5, is_three, _, s); one_value = one; x_bound = of_three s.is c.requires.constraints_held.4 }
 
 pub returns-then-is_empty : goal.returns-then-is_empty
 unfolding at
@@ -76,8 +74,7 @@ across-requires c =
     let is_three : arity_in (at c.args.numbers.now (SCOPES + c.args.k)) ≡ 3 = sym c.arity.ensures ∙ c.if-arity-ne3.false in
     let three_of : (p : Problem) → ConstraintsHeld p c.args.numbers.now c.args.supports.now → c.args.k < length p.constraints → Scoped (constraint_at p c.args.k) c.args.supports.now c.args.k (c.scope_at-x.result ∷ c.scope_at-y.result ∷ c.scope_at-z.result ∷ []) = λ p g h. read_3 g _ h _ c.scope_at-x.ensures _ c.scope_at-y.ensures _ c.scope_at-z.ensures is_three in
     let three : Scoped (constraint_at c.requires.constraints_held.0 c.args.k) c.args.supports.now c.args.k (c.scope_at-x.result ∷ c.scope_at-y.result ∷ c.scope_at-z.result ∷ []) = three_of c.requires.constraints_held.0 c.requires.constraints_held.1 c.requires.constraints_held.2 in
-    let s = three in
-    (c.requires.sets, ((_, c.requires.constraints_held.1.worded c.requires.constraints_held.5, is_three, _, s), ((of_three s.is c.requires.constraints_held.3).2, of_three s.is c.requires.constraints_held.4)))
+    let s = three in record { sets = c.requires.sets; by_index = (_, c.requires.constraints_held.1.worded c.requires.constraints_held.5, is_three, _, s); fact = (of_three s.is c.requires.constraints_held.3).2; x_bound = of_three s.is c.requires.constraints_held.4 }
 
 pub returns : goal.returns
 unfolding at

@@ -1,5 +1,5 @@
 -- One constraint, by its arity: on three variables all three sets are cut. Assumes nothing.
-use Rattle.model.specs.Kit.{◌≡◌, refl, sym, ◌∙◌, ◌∷◌, ◌+◌, ◌<◌, length}
+use Rattle.model.specs.Kit.{◌≡◌, refl, sym, ◌∙◌, [], ◌∷◌, ◌+◌, ◌<◌, length}
 use Rattle.model.specs.{Lists.at, Problem.Problem, Problem.constraint_at}
 use Rattle.arrays.specs.{Inner.Places.SCOPES, Inner.Layout.arity_in}
 use Rattle.prune_constraints.specs.Inner.Steps.{ConstraintsHeld, Scoped}
@@ -8,7 +8,7 @@ use Rattle.prune_constraints.proofs.revise_any.Goals as goal
 
 pub revise_few-requires : goal.revise_few-requires
 unfolding at
-revise_few-requires c = (c.requires.sets, ((λ e. c.if-arity-ne3.true (c.arity.ensures ∙ e)), (_, c.requires.constraints_held.1, c.requires.constraints_held.2)))
+revise_few-requires c = record { sets = c.requires.sets; fact = (λ e. c.if-arity-ne3.true (c.arity.ensures ∙ e)); constraints_held = (_, c.requires.constraints_held.1, c.requires.constraints_held.2) }
 
 pub bounds-sets-x : goal.bounds-sets-x
 unfolding at
@@ -40,7 +40,7 @@ leave-requires c =
     let is_three : arity_in (at c.args.numbers.now (SCOPES + c.args.k)) ≡ 3 = sym c.arity.ensures ∙ c.if-arity-ne3.false in
     let three_of : (p : Problem) → ConstraintsHeld p c.args.numbers.now c.args.supports.now → c.args.k < length p.constraints → Scoped (constraint_at p c.args.k) c.args.supports.now c.args.k (c.scope_at-x.result ∷ c.scope_at-y.result ∷ c.scope_at-z.result ∷ []) = λ p g h. read_3 g _ h _ c.scope_at-x.ensures _ c.scope_at-y.ensures _ c.scope_at-z.ensures is_three in
     let three : Scoped (constraint_at c.requires.constraints_held.0 c.args.k) c.args.supports.now c.args.k (c.scope_at-x.result ∷ c.scope_at-y.result ∷ c.scope_at-z.result ∷ []) = three_of c.requires.constraints_held.0 c.requires.constraints_held.1 c.requires.constraints_held.2 in
-    (c.requires.sets, of_three refl three.inside)
+    record { sets = c.requires.sets; x_bound = of_three refl three.inside }
 
 pub returns : goal.returns
 unfolding at

@@ -10,7 +10,7 @@ revise_one-requires c =
     let z_lt : c.args.z < 16 = c.requires.scoped.1.inside _ (Memᴰ-tail (Memᴰ-tail (Memᴰ-head refl))) in
     let u_lt : c.lowest-u.result < 16 = omega (arith, c.lowest-u.ensures, (u_has c.requires.scoped.1 c.args.sets.now c.requires.sets c.requires.one_value.0 c.requires.one_value.1).1) in
     let v_lt : c.lowest-v.result < 16 = omega (arith, c.lowest-v.ensures, (v_has c.requires.scoped.1 c.args.sets.now c.requires.sets c.requires.one_value.0 c.requires.one_value.1).1) in
-    (c.requires.sets, (z_lt, omega (arith, u_lt, v_lt, c.requires.scoped.1.room)))
+    record { sets = c.requires.sets; x_bound = z_lt; offset_bound = omega (arith, u_lt, v_lt, c.requires.scoped.1.room) }
 
 pub returns : goal.returns
 unfolding at

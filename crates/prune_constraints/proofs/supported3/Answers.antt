@@ -53,7 +53,7 @@ meet-some-requires c =
     let some : c.loop-masks.left.bits ≡ 0 → ⊥ = eqb-false _ 0 (sym c.is_empty.ensures ∙ c.loop-masks-test.true) in
     let left_rest : Rest 16 c.args.a.bits c.loop-masks.left.bits = (c.loop-masks.invariant _ c.masks-masks.ensures).rest in
     let low : c.lowest-u.result < 16 = (lowest_left _ _ _ left_rest some c.lowest-u.ensures).1 in
-    (omega (arith, low), (c.loop-masks.invariant _ c.masks-masks.ensures).size)
+    record { base_bound = omega (arith, low); all_len = (c.loop-masks.invariant _ c.masks-masks.ensures).size }
 
 pub one_if-requires : goal.one_if-requires
 one_if-requires c =

@@ -1,5 +1,5 @@
 -- `put_row`: after i turns the first i values are put. Assumes nothing.
-use Rattle.model.specs.Kit.{refl, ◌∙◌, List, ℕ, ◌+◌, arith, rules}
+use Rattle.model.specs.Kit.{refl, ◌∙◌, List, [], ℕ, ◌+◌, arith, rules}
 use Rattle.model.specs.{Lists.flat, Written.Written}
 use Rattle.report.specs.Inner.Text.{fields}
 use Rattle.model.proofs.Written.{written_none}

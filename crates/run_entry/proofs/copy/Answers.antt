@@ -12,7 +12,7 @@ overflow_add-work c = omega (arith, c.requires.fits, c.requires.room.small)
 
 pub returns-then-list-eq0 : goal.returns-then-list-eq0
 unfolding at
-returns-then-list-eq0 c = (copy_counted _ _ _ _ _ c.requires c.if-list-eq0.true, (refl, refl))
+returns-then-list-eq0 c = record { copied = copy_counted _ _ _ _ _ c.requires c.if-list-eq0.true; same_slice = (refl, refl) }
 
 pub loop-r-init : goal.loop-r-init
 unfolding at
@@ -31,11 +31,7 @@ load-requires c =
 
 pub list_plan-requires : goal.list_plan-requires
 unfolding at
-list_plan-requires c =
-    (
-      room_loaded _ _ _ _ _ c.requires c.loop-r.invariant.4 c.loop-r.r _ _ c.loop-r.invariant.6 c.loop-r-test.true _ c.load.ensures.loaded _ c.load.ensures.list_unchanged,
-      (c.requires.few, bytes_loaded _ _ _ _ _ c.requires c.loop-r.invariant.4 c.loop-r.r _ _ c.loop-r.invariant.6 c.loop-r-test.true _ c.load.ensures.loaded, c.load.ensures.loaded.long ∙ c.loop-r.invariant.6.long ∙ c.requires.long, c.requires.order),
-    )
+list_plan-requires c = record { list_room = room_loaded _ _ _ _ _ c.requires c.loop-r.invariant.4 c.loop-r.r _ _ c.loop-r.invariant.6 c.loop-r-test.true _ c.load.ensures.loaded _ c.load.ensures.list_unchanged; numbers_bound = (c.requires.few, bytes_loaded _ _ _ _ _ c.requires c.loop-r.invariant.4 c.loop-r.r _ _ c.loop-r.invariant.6 c.loop-r-test.true _ c.load.ensures.loaded, c.load.ensures.loaded.long ∙ c.loop-r.invariant.6.long ∙ c.requires.long, c.requires.order) }
 
 pub loop-r-preserved : goal.loop-r-preserved
 unfolding at
@@ -46,14 +42,13 @@ loop-r-preserved c =
       c.loop-r.invariant.2,
       c.loop-r.invariant.3,
       c.loop-r.invariant.4,
-      (c.list_plan.ensures.same_slice.0 ∙ ap (λ (u : MutBor (List ℕ)). at_last u c.list_plan.new.numbers.1.0.now) c.loop-r.invariant.5.0, c.list_plan.ensures.same_slice.1 ∙ ap length c.load.ensures.list_unchanged ∙ c.loop-r.invariant.5.1),
+      (c.list_plan.ensures.same_slice.0 ∙ ap (λ (u : MutBor (List ℕ)). at_last u c.list_plan.new.list.now) c.loop-r.invariant.5.0, c.list_plan.ensures.same_slice.1 ∙ ap length c.load.ensures.list_unchanged ∙ c.loop-r.invariant.5.1),
       copy_turn _ _ _ _ _ c.requires c.loop-r.invariant.4 c.loop-r.r _ _ c.loop-r.invariant.6 c.loop-r-test.true _ c.load.ensures.loaded _ c.load.ensures.list_unchanged _ _ _ c.list_plan.ensures.listed,
     )
 
 pub returns : goal.returns
 unfolding at
-returns c =
-    (copy_all _ _ _ _ _ c.requires c.loop-r.invariant.4 c.loop-r.r _ _ c.loop-r.invariant.6 (omega (arith, c.loop-r.invariant.0, c.loop-r-test.false)), c.loop-r.invariant.5)
+returns c = record { copied = copy_all _ _ _ _ _ c.requires c.loop-r.invariant.4 c.loop-r.r _ _ c.loop-r.invariant.6 (omega (arith, c.loop-r.invariant.0, c.loop-r-test.false)); same_slice = c.loop-r.invariant.5 }
 
 pub slice_bounds-load-end : goal.slice_bounds-load-end
 slice_bounds-load-end c = refl

@@ -36,9 +36,7 @@ loop-i-preserved c =
     )
 
 pub returns : goal.returns
-returns c =
-    let e : c.loop-i.i ≡ c.args.n = omega arith in
-    (subst (λ (n : ℕ). Loaded c.args.numbers.now c.args.list.now c.args.k n (c.args.row * c.args.n) c.args.work.now c.loop-i.work) e c.loop-i.invariant.3, refl)
+returns c = let e : c.loop-i.i ≡ c.args.n = omega arith in record { loaded = subst (λ (n : ℕ). Loaded c.args.numbers.now c.args.list.now c.args.k n (c.args.row * c.args.n) c.args.work.now c.loop-i.work) e c.loop-i.invariant.3; list_unchanged = refl }
 
 pub overflow_mul-from : goal.overflow_mul-from
 overflow_mul-from c = omega (arith, c.well_formed_lem.1.1.0.0, c.requires.3)

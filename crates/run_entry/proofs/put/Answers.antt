@@ -9,4 +9,4 @@ pub returns : goal.returns
 unfolding at
 returns c =
     put_whole c.args.stack.now c.args.work.now (tally_in c.args.before) (tally_in c.args.after) c.args.k c.args.marks.low c.args.marks.good c.args.s c.requires.3 (omega (arith, c.requires.3.is))
-    c.put_figures.new.work.0 c.put_figures.ensures
+    c.put_figures.new.work c.put_figures.ensures

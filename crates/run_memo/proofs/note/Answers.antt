@@ -70,7 +70,7 @@ returns c = λ p s w u t l m g.
     c.charge.new.work c.charge.ensures
     (omega (arith, c.if-last-k.false))
     (λ z. omega (arith, c.if-after-before.false)) c.marks_at-marks.result.low c.marks_at-marks.result.good (c.args.place - VAIN) g.placed
-    (marks_own g.prefix _ _ _ c.marks_at-marks.ensures) c.put.new.work.0 c.put.ensures c.put_plans.new.work c.put_plans.ensures
+    (marks_own g.prefix _ _ _ c.marks_at-marks.ensures) c.put.new.work c.put.ensures c.put_plans.new.work c.put_plans.ensures
 
 pub overflow_sub-place : goal.overflow_sub-place
 overflow_sub-place c = c.requires.7.vain

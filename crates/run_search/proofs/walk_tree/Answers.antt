@@ -4,15 +4,15 @@ use Rattle.run_search.proofs.{Explored.ended_none, Explored.tree_asks, Explored.
 use Rattle.run_search.proofs.walk_tree.Goals as goal
 
 pub returns-then-step-ne-DEEPER : goal.returns-then-step-ne-DEEPER
-returns-then-step-ne-DEEPER c = ended_none _ _ _ _ _ _ _ c.if-step-ne-DEEPER.true _ c.before.no_nodes_lem.ensures
+returns-then-step-ne-DEEPER c = ended_none _ _ _ _ _ _ _ c.if-step-ne-DEEPER.true _ c.no_nodes-tally.ensures
 
 pub walk_counted-requires : goal.walk_counted-requires
 unfolding at
 walk_counted-requires c =
     let g = c.requires c.if-step-ne-DEEPER.false in
-    (_, tree_asks _ _ _ _ _ _ _ c.if-step-ne-DEEPER.false _ c.before.before.before.before.before.before.no_nodes_lem.ensures _ c.candidates-m.ensures _ g.1)
+    (_, tree_asks _ _ _ _ _ _ _ c.if-step-ne-DEEPER.false _ c.no_nodes-tally.ensures _ c.candidates-m.ensures _ g.1)
 
 pub returns : goal.returns
 unfolding at
 returns c =
-    ended_some _ _ _ _ _ _ _ c.if-step-ne-DEEPER.false _ c.before.before.before.before.before.before.before.before.before.no_nodes_lem.ensures _ c.candidates-m.ensures _ _ _ _ _ c.walk_counted.ensures
+    ended_some _ _ _ _ _ _ _ c.if-step-ne-DEEPER.false _ c.no_nodes-tally.ensures _ c.candidates-m.ensures _ _ _ _ _ c.walk_counted.ensures

@@ -31,4 +31,4 @@ pub returns : goal.returns
 returns c =
     let h = c.find-d.ensures.here c.if-size-eq0.false in
     sheet_written c.args.k c.args.room.now h.0 _ c.copy.result c.if-room-lt-SHEET_ROOM.false
-    (subst (λ (b : List ℕ). Fronted c.args.room.now b c.copy.new.room.0 c.copy.result) h.1.is c.copy.ensures)
+    (subst (λ (b : List ℕ). Fronted c.args.room.now b c.copy.new.room c.copy.result) h.1.is c.copy.ensures)

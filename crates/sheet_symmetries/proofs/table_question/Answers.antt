@@ -13,9 +13,9 @@ returns-then-not-variables c =
     let At : Problem → Type 0 = λ p. Asked p (now c.args.sheet) c.args.offset (now c.args.numbers) (now c.args.supports) in
     let table : Problem → List ℕ = λ p. table_of p (now c.args.sheet) c.args.offset in
     let permuted : (p : Problem) → At p → permutes_pairs p (table p) ≡ true = λ p a. sym (c.decode.ensures.drawn p (asked_table p _ _ _ _ a)).answers ∙ c.if-not-decode.false in
-    let decoded : (p : Problem) → At p → Decoded p (table p) c.decode.new.offset.1.1.0 = λ p a. (c.decode.ensures.drawn p (asked_table p _ _ _ _ a)).decoded c.if-not-decode.false in
+    let decoded : (p : Problem) → At p → Decoded p (table p) c.decode.new.codes = λ p a. (c.decode.ensures.drawn p (asked_table p _ _ _ _ a)).decoded c.if-not-decode.false in
     let Lends : Problem → List ℕ → List ℕ → Type 0 = λ p codes moves. Lent p (now c.args.numbers) (now c.args.supports) codes moves in
-    let lent : (p : Problem) → At p → Lends p c.decode.new.offset.1.1.0 c.targets.new.codes.1.0 = λ p a. let t = permuted p a in
+    let lent : (p : Problem) → At p → Lends p c.decode.new.codes c.targets.new.moves = λ p a. let t = permuted p a in
     let k = (c.decode.ensures.drawn p (asked_table p _ _ _ _ a)).back c.if-not-decode.false in
     asked_lent p _ _ _ _ a t _ (decoded p a) _ (c.targets.ensures p a.ready.framed (asked_coded p _ _ _ _ a t _ (decoded p a)) k) in
     λ p a. answer_16 p _ _ _ _ a (permuted p a) _ (decoded p a) _ (c.variables.ensures p (lent p a)) c.if-not-variables.true
@@ -25,9 +25,9 @@ constraints-requires c =
     let At : Problem → Type 0 = λ p. Asked p (now c.args.sheet) c.args.offset (now c.args.numbers) (now c.args.supports) in
     let table : Problem → List ℕ = λ p. table_of p (now c.args.sheet) c.args.offset in
     let permuted : (p : Problem) → At p → permutes_pairs p (table p) ≡ true = λ p a. sym (c.decode.ensures.drawn p (asked_table p _ _ _ _ a)).answers ∙ c.if-not-decode.false in
-    let decoded : (p : Problem) → At p → Decoded p (table p) c.decode.new.offset.1.1.0 = λ p a. (c.decode.ensures.drawn p (asked_table p _ _ _ _ a)).decoded c.if-not-decode.false in
+    let decoded : (p : Problem) → At p → Decoded p (table p) c.decode.new.codes = λ p a. (c.decode.ensures.drawn p (asked_table p _ _ _ _ a)).decoded c.if-not-decode.false in
     let Lends : Problem → List ℕ → List ℕ → Type 0 = λ p codes moves. Lent p (now c.args.numbers) (now c.args.supports) codes moves in
-    let lent : (p : Problem) → At p → Lends p c.decode.new.offset.1.1.0 c.targets.new.codes.1.0 = λ p a. let t = permuted p a in
+    let lent : (p : Problem) → At p → Lends p c.decode.new.codes c.targets.new.moves = λ p a. let t = permuted p a in
     let k = (c.decode.ensures.drawn p (asked_table p _ _ _ _ a)).back c.if-not-decode.false in
     asked_lent p _ _ _ _ a t _ (decoded p a) _ (c.targets.ensures p a.ready.framed (asked_coded p _ _ _ _ a t _ (decoded p a)) k) in
     (c.requires.0, lent c.requires.0 c.requires.1)
@@ -37,9 +37,9 @@ returns-then-not-constraints c =
     let At : Problem → Type 0 = λ p. Asked p (now c.args.sheet) c.args.offset (now c.args.numbers) (now c.args.supports) in
     let table : Problem → List ℕ = λ p. table_of p (now c.args.sheet) c.args.offset in
     let permuted : (p : Problem) → At p → permutes_pairs p (table p) ≡ true = λ p a. sym (c.decode.ensures.drawn p (asked_table p _ _ _ _ a)).answers ∙ c.if-not-decode.false in
-    let decoded : (p : Problem) → At p → Decoded p (table p) c.decode.new.offset.1.1.0 = λ p a. (c.decode.ensures.drawn p (asked_table p _ _ _ _ a)).decoded c.if-not-decode.false in
+    let decoded : (p : Problem) → At p → Decoded p (table p) c.decode.new.codes = λ p a. (c.decode.ensures.drawn p (asked_table p _ _ _ _ a)).decoded c.if-not-decode.false in
     let Lends : Problem → List ℕ → List ℕ → Type 0 = λ p codes moves. Lent p (now c.args.numbers) (now c.args.supports) codes moves in
-    let lent : (p : Problem) → At p → Lends p c.decode.new.offset.1.1.0 c.targets.new.codes.1.0 = λ p a. let t = permuted p a in
+    let lent : (p : Problem) → At p → Lends p c.decode.new.codes c.targets.new.moves = λ p a. let t = permuted p a in
     let k = (c.decode.ensures.drawn p (asked_table p _ _ _ _ a)).back c.if-not-decode.false in
     asked_lent p _ _ _ _ a t _ (decoded p a) _ (c.targets.ensures p a.ready.framed (asked_coded p _ _ _ _ a t _ (decoded p a)) k) in
     λ p a.
@@ -51,9 +51,9 @@ returns c =
     let At : Problem → Type 0 = λ p. Asked p (now c.args.sheet) c.args.offset (now c.args.numbers) (now c.args.supports) in
     let table : Problem → List ℕ = λ p. table_of p (now c.args.sheet) c.args.offset in
     let permuted : (p : Problem) → At p → permutes_pairs p (table p) ≡ true = λ p a. sym (c.decode.ensures.drawn p (asked_table p _ _ _ _ a)).answers ∙ c.if-not-decode.false in
-    let decoded : (p : Problem) → At p → Decoded p (table p) c.decode.new.offset.1.1.0 = λ p a. (c.decode.ensures.drawn p (asked_table p _ _ _ _ a)).decoded c.if-not-decode.false in
+    let decoded : (p : Problem) → At p → Decoded p (table p) c.decode.new.codes = λ p a. (c.decode.ensures.drawn p (asked_table p _ _ _ _ a)).decoded c.if-not-decode.false in
     let Lends : Problem → List ℕ → List ℕ → Type 0 = λ p codes moves. Lent p (now c.args.numbers) (now c.args.supports) codes moves in
-    let lent : (p : Problem) → At p → Lends p c.decode.new.offset.1.1.0 c.targets.new.codes.1.0 = λ p a. let t = permuted p a in
+    let lent : (p : Problem) → At p → Lends p c.decode.new.codes c.targets.new.moves = λ p a. let t = permuted p a in
     let k = (c.decode.ensures.drawn p (asked_table p _ _ _ _ a)).back c.if-not-decode.false in
     asked_lent p _ _ _ _ a t _ (decoded p a) _ (c.targets.ensures p a.ready.framed (asked_coded p _ _ _ _ a t _ (decoded p a)) k) in
     λ p a.
@@ -68,9 +68,9 @@ variables-requires c =
     let At : Problem → Type 0 = λ p. Asked p (now c.args.sheet) c.args.offset (now c.args.numbers) (now c.args.supports) in
     let table : Problem → List ℕ = λ p. table_of p (now c.args.sheet) c.args.offset in
     let permuted : (p : Problem) → At p → permutes_pairs p (table p) ≡ true = λ p a. sym (c.decode.ensures.drawn p (asked_table p _ _ _ _ a)).answers ∙ c.if-not-decode.false in
-    let decoded : (p : Problem) → At p → Decoded p (table p) c.decode.new.offset.1.1.0 = λ p a. (c.decode.ensures.drawn p (asked_table p _ _ _ _ a)).decoded c.if-not-decode.false in
+    let decoded : (p : Problem) → At p → Decoded p (table p) c.decode.new.codes = λ p a. (c.decode.ensures.drawn p (asked_table p _ _ _ _ a)).decoded c.if-not-decode.false in
     let Lends : Problem → List ℕ → List ℕ → Type 0 = λ p codes moves. Lent p (now c.args.numbers) (now c.args.supports) codes moves in
-    let lent : (p : Problem) → At p → Lends p c.decode.new.offset.1.1.0 c.targets.new.codes.1.0 = λ p a. let t = permuted p a in
+    let lent : (p : Problem) → At p → Lends p c.decode.new.codes c.targets.new.moves = λ p a. let t = permuted p a in
     let k = (c.decode.ensures.drawn p (asked_table p _ _ _ _ a)).back c.if-not-decode.false in
     asked_lent p _ _ _ _ a t _ (decoded p a) _ (c.targets.ensures p a.ready.framed (asked_coded p _ _ _ _ a t _ (decoded p a)) k) in
     (c.requires.0, lent c.requires.0 c.requires.1)

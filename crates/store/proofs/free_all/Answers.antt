@@ -1,9 +1,10 @@
 -- `free_all`: after i turns the first i slots are freed. Assumes nothing.
-use Rattle.model.specs.Kit.{refl, sym, ap, ◌∙◌, ⊎_elim, length, length-set, rules}
+use Rattle.model.specs.Kit.{refl, sym, ap, ◌∙◌, length, length-set, rules}
 use native.Mathlib.Nat.{le_antisymm}
 use Rattle.store.specs.Inner.Layout.{freed}
 use Rattle.store.proofs.{Slots.freed_taken, Slots.freed_left}
 use Rattle.store.proofs.free_all.Goals as goal
+use Rattle.store.proofs.free_all.Goals.{else-holds, then-holds}
 
 pub loop-i-init : goal.loop-i-init
 unfolding freed
@@ -11,15 +12,12 @@ loop-i-init c = (search rules, refl, refl)
 
 pub loop-i-preserved : goal.loop-i-preserved
 loop-i-preserved c =
-    ⊎_elim
-    (λ w. (
+    (elim c.if-holds.branch [ then-holds w ↦ (
       search rules,
-      w.1 ∙ freed_taken c.args.store.now c.args.owner c.args.key c.loop-i.store c.loop-i.i c.slot_at-p.result c.loop-i.invariant.1 c.slot_at-p.ensures (sym c.holds.ensures ∙ w.0.taken),
+      w.1 ∙ freed_taken c.args.store.now c.args.owner c.args.key c.loop-i.store c.loop-i.i c.slot_at-p.result c.loop-i.invariant.1 c.slot_at-p.ensures (sym c.holds.ensures ∙ w.if-holds.true),
       ap length w.1
           ∙ length-set c.loop-i.store c.slot_at-p.result 0 ∙ c.loop-i.invariant.2,
-    ))
-    (λ w. (search rules, w.1 ∙ freed_left c.args.store.now c.args.owner c.args.key c.loop-i.store c.loop-i.i c.slot_at-p.result c.loop-i.invariant.1 c.slot_at-p.ensures (sym c.holds.ensures ∙ w.0.left), ap length w.1 ∙ c.loop-i.invariant.2))
-    c.if-holds.branch
+    ) | else-holds w ↦ (search rules, w.1 ∙ freed_left c.args.store.now c.args.owner c.args.key c.loop-i.store c.loop-i.i c.slot_at-p.result c.loop-i.invariant.1 c.slot_at-p.ensures (sym c.holds.ensures ∙ w.0.left), ap length w.1 ∙ c.loop-i.invariant.2) ])
 
 pub returns : goal.returns
 returns c = c.loop-i.invariant.1 ∙ ap (freed _ _ _) (le_antisymm c.loop-i.invariant.0 c.loop-i-test.false)

@@ -13,4 +13,4 @@ pub returns : goal.returns
 returns c = filled_end _ _ _ _ _ _ (search rules) (search rules) c.loop-n.invariant.1
 
 pub word-requires : goal.word-requires
-word-requires c = (search rules, λ l v h. c.loop-n.invariant.1.here v (omega arith))
+word-requires c = record { k_bound = search rules; word = λ l v h. c.loop-n.invariant.1.here v (omega arith) }

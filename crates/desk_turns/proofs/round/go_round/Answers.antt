@@ -1,9 +1,10 @@
 -- `go_round`: after i turns of the loop the first i slots of the round were given the turns due to them. Assumes nothing.
-use Rattle.model.specs.Kit.{sym, ◌∙◌, inl, inr, ⊎_elim, arith}
+use Rattle.model.specs.Kit.{sym, ◌∙◌, inl, inr, arith}
 use Rattle.model.specs.Lists.{at}
 use Rattle.desk_turns.proofs.{Rounding.round_begin, Rounding.round_more, Rounding.round_end}
 use Rattle.desk.specs.Inner.Places.{NEXT}
 use Rattle.desk_turns.proofs.round.go_round.Goals as goal
+use Rattle.desk_turns.proofs.round.go_round.Goals.{else-best-took, then-best-took}
 
 pub loop-i-init : goal.loop-i-init
 unfolding at
@@ -15,7 +16,7 @@ loop-i-preserved c =
     (
       omega (arith, c.loop-i-test.true),
       round_more _ _ c.loop-i.i c.loop-i-test.true _ _ _ c.loop-i.invariant.1 _ _ c.give-took.ensures _ _
-          (⊎_elim (λ q. inl (q.0.taken, q.1, q.2)) (λ q. inr (q.0.left, q.1, q.2)) c.if-best-took.branch),
+          ((elim c.if-best-took.branch [ then-best-took q ↦ inl (q.if-best-took.true, q.1, q.2) | else-best-took q ↦ inr (q.0.left, q.1, q.2) ])),
     )
 
 pub returns : goal.returns

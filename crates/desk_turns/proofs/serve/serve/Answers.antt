@@ -57,6 +57,6 @@ returns c =
     c.standing_after-standing.ensures in
     done c.args.queue.now c.args.k d c.requires.1 c.requires.2 c.args.turns c.requires.3 _ _ _ c.read_long-limit.ensures
     c.nodes_at-made.ensures c.share-more.ensures _ _ _ _ c.go_on-part.ensures _
-    c.standing_after-standing.ensures _ _ _ _ _ _ (c.before.before.before.before.before.before.before.before.before.before.before.run_bytes_lem.ensures _ shown)
+    c.standing_after-standing.ensures _ _ _ _ _ _ (c.run_bytes-bytes.ensures _ shown)
     c.place.ensures c.counts_at-before.ensures c.put_counts.ensures refl
     c.turns_for.ensures

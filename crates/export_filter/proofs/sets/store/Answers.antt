@@ -1,5 +1,5 @@
 -- `store`: after i turns the first i words are written. Assumes nothing.
-use Rattle.model.specs.Kit.{◌≡◌, refl, sym, ◌∙◌, subst, List, ℕ, ◌*◌, ◌≤◌, arith, length, take, take_all}
+use Rattle.model.specs.Kit.{◌≡◌, refl, sym, ◌∙◌, subst, List, [], ℕ, ◌*◌, ◌≤◌, arith, length, take, take_all}
 use Rattle.model.specs.Written.{Written}
 use Rattle.model.proofs.Written.{written_none}
 use Rattle.export_filter.specs.Filter.{bytes_of}

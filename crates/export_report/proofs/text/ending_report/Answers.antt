@@ -10,7 +10,7 @@ use Rattle.export_report.proofs.text.ending_report.Goals as goal
 pub returns-in_default : goal.returns-in_default
 returns-in_default c = λ f t k.
     let n = k (stopped c.args.e c.in-Finished.keys2) in
-    subst (λ (g : Figure). Fitted c.args.out.now (ended_text (ending_of c.args.e) g c.args.n c.args.list.now) c.stop_report.new.list.1.1.0 c.stop_report.result) (sym n) c.stop_report.ensures
+    subst (λ (g : Figure). Fitted c.args.out.now (ended_text (ending_of c.args.e) g c.args.n c.args.list.now) c.stop_report.new.out c.stop_report.result) (sym n) c.stop_report.ensures
 
 pub finished_report-requires : goal.finished_report-requires
 finished_report-requires c =
@@ -18,5 +18,5 @@ finished_report-requires c =
 
 pub returns : goal.returns
 returns c = λ f t k.
-    subst (λ (x : Ending). Fitted c.args.out.now (ended_text (ending_of x) f c.args.n c.args.list.now) c.finished_report.new.plans.1.1.1.1.0 c.finished_report.result)
+    subst (λ (x : Ending). Fitted c.args.out.now (ended_text (ending_of x) f c.args.n c.args.list.now) c.finished_report.new.out c.finished_report.result)
     (sym c.in-Finished.is) (c.finished_report.ensures f t)

@@ -1,5 +1,5 @@
 -- `finished_report`: the figure is a number or the dash. Assumes nothing.
-use Rattle.model.specs.Kit.{◌≡◌, sym, ap, ◌∙◌, subst, ⊎_elim, ◌∷◌, ℕ, arith}
+use Rattle.model.specs.Kit.{◌≡◌, sym, ap, ◌∙◌, subst, ⊎_elim, [], ◌∷◌, ℕ, arith}
 use Rattle.model.specs.Run.{finished}
 use types.Run.{OneOf}
 use denote.Enum.Declared.{tag_of}
@@ -26,10 +26,10 @@ dash_told (Refused n i) f t e = absurd (never_refused n i f e)
 pub returns-in_default : goal.returns-in_default
 returns-in_default c = λ f t.
     let e : dash ≡ f = dash_told c.args.figure f c.in-Number.keys2 t in
-    subst (λ (g : Figure). Fitted c.args.out.now (ended_text (finished c.args.plans c.args.nodes) g c.args.n c.args.list.now) c.uncounted.new.nodes.1.1.1.0 c.uncounted.result) e c.uncounted.ensures
+    subst (λ (g : Figure). Fitted c.args.out.now (ended_text (finished c.args.plans c.args.nodes) g c.args.n c.args.list.now) c.uncounted.new.out c.uncounted.result) e c.uncounted.ensures
 
 pub returns : goal.returns
 returns c = λ f t.
     let e : number c.in-Number.families ≡ f = figured _ _ (sym (ap means c.in-Number.is) ∙ t) in
-    subst (λ (h : Figure). Fitted c.args.out.now (ended_text (finished c.args.plans c.args.nodes) h c.args.n c.args.list.now) c.finished.new.nodes.1.1.1.1.0 c.finished.result) e
+    subst (λ (h : Figure). Fitted c.args.out.now (ended_text (finished c.args.plans c.args.nodes) h c.args.n c.args.list.now) c.finished.new.out c.finished.result) e
     c.finished.ensures

@@ -23,15 +23,15 @@ uncounted-requires c =
 
 pub returns-in-Spent : goal.returns-in-Spent
 returns-in-Spent c =
-    subst (λ (x : Ending). Fitted c.args.out.now (ended_text (ending_of x) dash c.args.n c.args.list.now) c.spent.new.nodes.1.1.1.0
+    subst (λ (x : Ending). Fitted c.args.out.now (ended_text (ending_of x) dash c.args.n c.args.list.now) c.spent.new.out
     c.spent.result) (sym c.in-Spent.is) c.spent.ensures
 
 pub returns-in-Full : goal.returns-in-Full
 returns-in-Full c =
-    subst (λ (x : Ending). Fitted c.args.out.now (ended_text (ending_of x) dash c.args.n c.args.list.now) c.full.new.nodes.1.1.1.0
+    subst (λ (x : Ending). Fitted c.args.out.now (ended_text (ending_of x) dash c.args.n c.args.list.now) c.full.new.out
     c.full.result) (sym c.in-Full.is) c.full.ensures
 
 pub returns-in-Finished : goal.returns-in-Finished
 returns-in-Finished c =
-    subst (λ (x : Ending). Fitted c.args.out.now (ended_text (ending_of x) dash c.args.n c.args.list.now) c.uncounted.new.nodes.1.1.1.0
+    subst (λ (x : Ending). Fitted c.args.out.now (ended_text (ending_of x) dash c.args.n c.args.list.now) c.uncounted.new.out
     c.uncounted.result) (sym c.in-Finished.is) c.uncounted.ensures

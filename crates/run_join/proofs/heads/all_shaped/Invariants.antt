@@ -3,7 +3,7 @@ use Rattle.run_join.specs.Join.{head_shaped}
 use Rattle.run_join.proofs.heads.all_shaped.Given as goal
 
 abbrev pub invariant-loop-k : goal.invariant-loop-k
-invariant-loop-k at = (at.k ≤ at.n) × ((j : ℕ) → j < at.k → head_shaped at.l j ≡ true)
+invariant-loop-k here = (here.k ≤ here.n) × ((j : ℕ) → j < here.k → head_shaped here.l j ≡ true)
 
 abbrev pub decreases-loop-k : goal.decreases-loop-k
 decreases-loop-k l = l.n - l.k

@@ -14,17 +14,17 @@ pub returns-then-not-path_shaped : goal.returns-then-not-path_shaped
 returns-then-not-path_shaped c =
     shape_paths c.args.l.now c.args.k c.four_at-kind.result false c.four_at-kind.ensures.0 c.if-kind-lt1.false c.if-kind-gt3.false
     (paths_first (path_shaped c.args.l.now (115 * c.args.k + 76)) (path_shaped c.args.l.now (115 * c.args.k + 89)) (path_shaped c.args.l.now (115 * c.args.k + 102))
-    (sym c.before.path_shaped_lem.ensures ∙ not-true c.before.path_shaped_lem.result c.if-not-path_shaped.true-raw))
+    (sym c.path_shaped.ensures ∙ not-true c.path_shaped.result c.if-not-path_shaped.true-raw))
 
 pub returns-then-not-path_shaped-2 : goal.returns-then-not-path_shaped-2
 returns-then-not-path_shaped-2 c =
     shape_paths c.args.l.now c.args.k c.four_at-kind.result false c.four_at-kind.ensures.0 c.if-kind-lt1.false c.if-kind-gt3.false
     (paths_second (path_shaped c.args.l.now (115 * c.args.k + 76)) (path_shaped c.args.l.now (115 * c.args.k + 89)) (path_shaped c.args.l.now (115 * c.args.k + 102))
-    (sym c.before.before.before.path_shaped_lem.ensures ∙ not-false c.before.before.before.path_shaped_lem.result c.if-not-path_shaped.false-raw) (sym c.path_shaped-2.ensures ∙ not-true c.path_shaped-2.result c.if-not-path_shaped-2.true-raw))
+    (sym c.path_shaped.ensures ∙ not-false c.path_shaped.result c.if-not-path_shaped.false-raw) (sym c.path_shaped-2.ensures ∙ not-true c.path_shaped-2.result c.if-not-path_shaped-2.true-raw))
 
 pub returns : goal.returns
 returns c =
     shape_paths c.args.l.now c.args.k c.four_at-kind.result c.path_shaped-3.result c.four_at-kind.ensures.0 c.if-kind-lt1.false c.if-kind-gt3.false
     (paths_third (path_shaped c.args.l.now (115 * c.args.k + 76)) (path_shaped c.args.l.now (115 * c.args.k + 89)) (path_shaped c.args.l.now (115 * c.args.k + 102)) c.path_shaped-3.result
-    (sym c.before.before.before.before.path_shaped_lem.ensures ∙ not-false c.before.before.before.before.path_shaped_lem.result c.if-not-path_shaped.false-raw) (sym c.path_shaped-2.ensures ∙ not-false c.path_shaped-2.result c.if-not-path_shaped-2.false-raw)
+    (sym c.path_shaped.ensures ∙ not-false c.path_shaped.result c.if-not-path_shaped.false-raw) (sym c.path_shaped-2.ensures ∙ not-false c.path_shaped-2.result c.if-not-path_shaped-2.false-raw)
     c.path_shaped-3.ensures)

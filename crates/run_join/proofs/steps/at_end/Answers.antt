@@ -1,5 +1,5 @@
 -- `at_end`: where one stands at no head, it is not. Assumes nothing.
-use Rattle.model.specs.Kit.{ap, ◌∙◌, ℕ, ◌-◌, arith, List, ◌∷◌}
+use Rattle.model.specs.Kit.{ap, ◌∙◌, ℕ, ◌-◌, arith, List, [], ◌∷◌}
 use Rattle.model.specs.Lists.{same}
 use Rattle.run_join.proofs.{Turns.reach_path, Turns.stand_none, Turns.stand_pred}
 use Rattle.run_join.proofs.steps.at_end.Goals as goal

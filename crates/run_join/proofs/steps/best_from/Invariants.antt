@@ -3,7 +3,7 @@ use Rattle.run_join.specs.{Join.path_at, Join.best_of}
 use Rattle.run_join.proofs.steps.best_from.Given as goal
 
 abbrev pub invariant-loop-k : goal.invariant-loop-k
-invariant-loop-k at = (at.k ≤ at.n) × (at.best ≡ best_of at.l (path_at at.here at.o) at.k) × (at.best ≤ at.k)
+invariant-loop-k here = (here.k ≤ here.n) × (here.best ≡ best_of here.l (path_at here.here here.o) here.k) × (here.best ≤ here.k)
 
 abbrev pub decreases-loop-k : goal.decreases-loop-k
 decreases-loop-k l = l.n - l.k

@@ -1,5 +1,5 @@
 -- `step`: the best from where one stands, if that is not the end. Assumes nothing.
-use Rattle.model.specs.Kit.{sym, ap, ◌∙◌, ◌-◌, arith}
+use Rattle.model.specs.Kit.{sym, ap, ◌∙◌, ◌-◌, arith, []}
 use Rattle.run_join.specs.Join.{stand_path}
 use Rattle.run_join.proofs.{Turns.start_path, Turns.start_best, Turns.reach_path, Turns.stand_pred, Turns.step_end, Turns.step_best}
 use Rattle.run_join.proofs.steps.step.Goals as goal

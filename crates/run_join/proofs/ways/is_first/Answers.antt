@@ -1,5 +1,5 @@
 -- `is_first`: two tests. Assumes nothing.
-use Rattle.model.specs.Kit.{sym, ap, ◌∙◌, Bool}
+use Rattle.model.specs.Kit.{sym, ap, ◌∙◌, Bool, []}
 use Rattle.model.specs.Lists.{at, both, same}
 use Rattle.run_join.specs.{Join.from_at, Inner.Inner.marked}
 use Rattle.run_join.proofs.{Leads.first_is}

@@ -1,8 +1,9 @@
 -- `mark_back`: after k turns it is done for the first k heads. Assumes nothing.
-use Rattle.model.specs.Kit.{sym, ◌∙◌, subst, ◌+◌, arith, ⊎_elim}
+use Rattle.model.specs.Kit.{sym, ◌∙◌, subst, ◌+◌, arith}
 use Rattle.run_join.specs.Join.{path_at}
 use Rattle.run_join.proofs.{Leads.Back, Leads.back_none, Leads.back_all, Leads.back_yes, Leads.back_no}
 use Rattle.run_join.proofs.ways.mark_back.Goals as goal
+use Rattle.run_join.proofs.ways.mark_back.Goals.{else-comes_to, then-comes_to}
 
 pub loop-k-init : goal.loop-k-init
 loop-k-init c = (omega arith, back_none _ _ _ c.requires.2)
@@ -11,12 +12,9 @@ pub loop-k-preserved : goal.loop-k-preserved
 loop-k-preserved c =
     let here = path_at c.args.here.now c.args.o in (
       omega arith,
-      ⊎_elim
-          (λ w. subst (Back here c.args.l.now (c.loop-k.k + 1) c.args.marks.now) (sym w.3)
-          (back_yes here c.args.l.now c.loop-k.k c.args.marks.now c.loop-k.marks c.loop-k.invariant.1 _ (sym c.comes_to.ensures ∙ w.0.taken) w.2.ensures))
-          (λ w. subst (Back here c.args.l.now (c.loop-k.k + 1) c.args.marks.now) (sym w.1)
-          (back_no here c.args.l.now c.loop-k.k c.args.marks.now c.loop-k.marks c.loop-k.invariant.1 (sym c.comes_to.ensures ∙ w.0.left)))
-          c.if-comes_to.branch,
+      (elim c.if-comes_to.branch [ then-comes_to w ↦ subst (Back here c.args.l.now (c.loop-k.k + 1) c.args.marks.now) (sym w.3)
+          (back_yes here c.args.l.now c.loop-k.k c.args.marks.now c.loop-k.marks c.loop-k.invariant.1 _ (sym c.comes_to.ensures ∙ w.if-comes_to.true) w.2.ensures) | else-comes_to w ↦ subst (Back here c.args.l.now (c.loop-k.k + 1) c.args.marks.now) (sym w.1)
+          (back_no here c.args.l.now c.loop-k.k c.args.marks.now c.loop-k.marks c.loop-k.invariant.1 (sym c.comes_to.ensures ∙ w.0.left)) ]),
     )
 
 pub returns : goal.returns

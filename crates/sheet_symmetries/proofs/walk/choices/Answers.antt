@@ -1,4 +1,4 @@
-use Rattle.model.specs.Kit.{◌∙◌, ap, not, ℕ, ◌+◌, ◌*◌, ◌<◌, arith}
+use Rattle.model.specs.Kit.{◌∙◌, ap, not, [], ℕ, ◌+◌, ◌*◌, ◌<◌, arith}
 use Rattle.model.specs.ValueSets.{has, mask_of}
 use Rattle.sheet_carried.proofs.Walks.{next_in, row_small, made_all, made_last}
 use Rattle.arrays.specs.Inner.Places.{SUPPORTS}

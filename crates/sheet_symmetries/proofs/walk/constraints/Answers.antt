@@ -1,4 +1,4 @@
-use Rattle.model.specs.Kit.{◌≡◌, refl, sym, ◌∙◌, Bool, List, ℕ, ◌<◌, arith, now, length}
+use Rattle.model.specs.Kit.{◌≡◌, refl, sym, ◌∙◌, Bool, List, [], ℕ, ◌<◌, arith, now, length}
 use Rattle.model.specs.{Problem.Problem, Problem.Constraint, Problem.constraint_at}
 use Rattle.sheet_table.specs.Inner.Forbidden.{Lent, Walking, keeps}
 use Rattle.sheet_table.proofs.{Codes.good, Laws.list_stop, Laws.list_rest, Laws.list_over}

@@ -26,7 +26,7 @@ returns-then-not-is_pair c =
       room = c.loop-q.invariant.0;
       drawn = λ p l. drawn_no p _ _ _
           (read_out p _ _ _ _ _ (c.loop-q.invariant.2 p l).1 (inside p l) c.read_word-y.ensures
-          (sym (c.before.before.before.is_pair_lem.ensures p l.framed) ∙ c.if-is_pair.true) (sym (c.is_pair-then-is_pair.ensures p l.framed) ∙ c.if-not-is_pair.true));
+          (sym (c.is_pair.ensures p l.framed) ∙ c.if-is_pair.true) (sym (c.is_pair-then-is_pair.ensures p l.framed) ∙ c.if-not-is_pair.true));
     }
 
 pub returns-then-seen-y-eq1 : goal.returns-then-seen-y-eq1
@@ -46,7 +46,7 @@ returns-then-y-q c =
       room = c.loop-q.invariant.0;
       drawn = λ p l. drawn_no p _ _ _
           (read_moved p _ _ _ _ _ (c.loop-q.invariant.2 p l).1 (inside p l) c.read_word-y.ensures
-          (sym (c.before.before.is_pair_lem.ensures p l.framed) ∙ c.if-is_pair.false) c.if-y-q.true);
+          (sym (c.is_pair.ensures p l.framed) ∙ c.if-is_pair.false) c.if-y-q.true);
     }
 
 pub loop-q-preserved : goal.loop-q-preserved
@@ -67,7 +67,7 @@ loop-q-preserved c =
       ap length w.8 ∙ simp length-set c.loop-q.invariant.1,
       λ p l. (
         omega (arith, inside p l),
-        read_more p _ _ _ _ _ (c.loop-q.invariant.2 p l).1 (inside p l) c.read_word-y.ensures _ w.8 (sym (c.before.is_pair_lem.ensures p l.framed) ∙ w.0.taken)
+        read_more p _ _ _ _ _ (c.loop-q.invariant.2 p l).1 (inside p l) c.read_word-y.ensures _ w.8 (sym (c.is_pair.ensures p l.framed) ∙ w.0.taken)
             (sym (w.1.ensures p l.framed) ∙ not-false _ w.2.left) (omega (arith, image_small t, c.loop-q.invariant.1)) w.3.left,
         read_drawn p l.framed.stated _ _ _ _ _ (c.loop-q.invariant.2 p l).1 (inside p l) c.read_word-y.ensures w.3.left _ _ c.loop-q.invariant.0 _ _ _ (values p l) w.5.ensures w.4.ensures _ _ w.6 w.7 (c.loop-q.invariant.2 p l).2,
       ),
@@ -75,7 +75,7 @@ loop-q-preserved c =
     (λ w. (
       blank_same _ _ _ _ c.loop-q.invariant.0 w.2 w.3,
       ap length w.4 ∙ c.loop-q.invariant.1,
-      λ p l. let e = sym (c.before.is_pair_lem.ensures p l.framed) ∙ w.0.left in (
+      λ p l. let e = sym (c.is_pair.ensures p l.framed) ∙ w.0.left in (
         omega (arith, inside p l),
         read_same p _ _ _ _ _ (c.loop-q.invariant.2 p l).1 (inside p l) c.read_word-y.ensures _ w.4 e w.1.left,
         drawn_same p l.framed.stated (table_of p (now c.args.sheet) c.args.offset) _ _ _ (c.loop-q.invariant.2 p l).2 e _ _ w.2 w.3,
