@@ -2,17 +2,17 @@
 use Rattle.model.specs.Kit.{⊎_elim, rules, not-true, ltb-true, eqb-false}
 use Rattle.filter.proofs.Questions.{no_set, many_sets, other_equals, other_others, long_lists, wrong_entry, all_right}
 use Rattle.filter.proofs.question.Goals as goal
-use Rattle.filter.proofs.question.Goals.{else-n-lt1, then-n-lt1}
 
 pub returns-then-n-lt1 : goal.returns-then-n-lt1
 returns-then-n-lt1 c =
-    (elim c.if-n-lt1.branch [ then-n-lt1 w ↦ no_set c.args.sets.now c.args.index.now c.args.equal.now c.args.not_equal.now w.if-n-lt1.true | else-n-lt1 w ↦ many_sets c.args.sets.now c.args.index.now c.args.equal.now c.args.not_equal.now (ltb-true _ _ w.1.taken) ])
+    ⊎_elim (λ w. no_set c.args.sets.now c.args.index.now c.args.equal.now c.args.not_equal.now w)
+    (λ w. many_sets c.args.sets.now c.args.index.now c.args.equal.now c.args.not_equal.now w.1) c.then-n-lt1.either
 
 pub returns-then-equal-m : goal.returns-then-equal-m
 returns-then-equal-m c =
-    ⊎_elim (λ w. other_equals c.args.sets.now c.args.index.now c.args.equal.now c.args.not_equal.now (search rules) (search rules) w.taken)
-    (⊎_elim (λ w. other_others c.args.sets.now c.args.index.now c.args.equal.now c.args.not_equal.now (search rules) (search rules) (eqb-false _ _ (not-true _ w.1.taken)))
-    (λ w. long_lists c.args.sets.now c.args.index.now c.args.equal.now c.args.not_equal.now (search rules) (search rules) (ltb-true _ _ w.2.taken))) c.if-equal-m.branch
+    ⊎_elim (λ w. other_equals c.args.sets.now c.args.index.now c.args.equal.now c.args.not_equal.now (search rules) (search rules) w)
+    (⊎_elim (λ w. other_others c.args.sets.now c.args.index.now c.args.equal.now c.args.not_equal.now (search rules) (search rules) w.1)
+    (λ w. long_lists c.args.sets.now c.args.index.now c.args.equal.now c.args.not_equal.now (search rules) (search rules) w.2)) c.then-equal-m.either
 
 pub returns-then-wrong-m : goal.returns-then-wrong-m
 returns-then-wrong-m c =

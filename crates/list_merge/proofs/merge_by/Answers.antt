@@ -20,19 +20,19 @@ returns-then-not-fits c =
     let first_ascends : ascends c.args.order.now (rows_in c.args.n c.args.first.now) ≡ true = sym c.ascend.ensures ∙ c.if-not-ascend.false in
     let second_ascends : ascends c.args.order.now (rows_in c.args.n c.args.second.now) ≡ true = sym c.ascend-2.ensures ∙ c.if-not-ascend-2.false in
     let r = no_27 c.args.n c.args.order.now c.args.first.now c.args.second.now c.args.room.now first_ascends
-    second_ascends (sym c.before.before.before.before.fits2.ensures.0 ∙ c.if-not-fits.true) in record { result_value = c.refused-then-not-fits.ensures ∙ r.0; room_after = c.before.before.before.before.fits2.ensures.1 ∙ r.1 }
+    second_ascends (sym c.fits.ensures.0 ∙ c.if-not-fits.true) in record { result_value = c.refused-then-not-fits.ensures ∙ r.0; room_after = c.fits.ensures.1 ∙ r.1 }
 
 pub walk-requires : goal.walk-requires
 walk-requires c =
     let first_ascends : ascends c.args.order.now (rows_in c.args.n c.args.first.now) ≡ true = sym c.ascend.ensures ∙ c.if-not-ascend.false in
     let second_ascends : ascends c.args.order.now (rows_in c.args.n c.args.second.now) ≡ true = sym c.ascend-2.ensures ∙ c.if-not-ascend-2.false in
     let sorted : Sorts c.args.n c.args.order.now c.args.first.now c.args.second.now = record { rests = c.requires.0; first = T_of _ first_ascends; second = T_of _ second_ascends } in
-    let fitting : leb (length (merged_by c.args.n c.args.order.now c.args.first.now c.args.second.now)) (length c.args.room.now) ≡ true = sym c.before.before.before.fits2.ensures.0 ∙ c.if-not-fits.false in
+    let fitting : leb (length (merged_by c.args.n c.args.order.now c.args.first.now c.args.second.now)) (length c.args.room.now) ≡ true = sym c.fits.ensures.0 ∙ c.if-not-fits.false in
     (
       sorted,
       c.by_place-plain.ensures,
       λ z. subst
-          (λ (o : List ℕ). length (merged_by c.args.n c.args.order.now c.args.first.now c.args.second.now) ≤ length o) (sym c.before.before.before.before.fits2.ensures.1)
+          (λ (o : List ℕ). length (merged_by c.args.n c.args.order.now c.args.first.now c.args.second.now) ≤ length o) (sym c.fits.ensures.1)
           (leb-true (length (merged_by c.args.n c.args.order.now c.args.first.now c.args.second.now)) (length c.args.room.now) fitting),
     )
 
@@ -40,10 +40,10 @@ pub returns : goal.returns
 returns c =
     let first_ascends : ascends c.args.order.now (rows_in c.args.n c.args.first.now) ≡ true = sym c.ascend.ensures ∙ c.if-not-ascend.false in
     let second_ascends : ascends c.args.order.now (rows_in c.args.n c.args.second.now) ≡ true = sym c.ascend-2.ensures ∙ c.if-not-ascend-2.false in
-    let fitting : leb (length (merged_by c.args.n c.args.order.now c.args.first.now c.args.second.now)) (length c.args.room.now) ≡ true = sym c.before.before.before.fits2.ensures.0 ∙ c.if-not-fits.false in
-    wrote_all c.args.n c.args.order.now c.args.first.now c.args.second.now c.args.room.now first_ascends
-    second_ascends fitting _ _ _
-    c.before.before.before.before.before.before.before.fits2.ensures.1 c.walk.ensures
+    let fitting : leb (length (merged_by c.args.n c.args.order.now c.args.first.now c.args.second.now)) (length c.args.room.now) ≡ true = sym c.fits.ensures.0 ∙ c.if-not-fits.false in
+    let r = wrote_all c.args.n c.args.order.now c.args.first.now c.args.second.now c.args.room.now first_ascends
+        second_ascends fitting _ _ _ c.fits.ensures.1 c.walk.ensures in
+    record { result_value = r.0; room_after = r.1 }
 
 pub fits-requires : goal.fits-requires
 fits-requires c =

@@ -5,6 +5,7 @@ use Rattle.list_merge.specs.{Merge.merged_by, Merge.next_row, Inner.Inner.taken,
 use Rattle.list_merge.proofs.Walking.{walking, Put, walked, has_room, width, lacks, on}
 use Rattle.list_merge.proofs.{Turning.part_is, Turning.first_taken, Turning.second_taken, Turning.left, Turning.right, Turning.fewer}
 use Rattle.list_merge.proofs.walk.Goals as goal
+use Rattle.list_merge.proofs.walk.Goals.{then-writes, else-writes+else-out-at}
 
 pub loop-a-init : goal.loop-a-init
 loop-a-init c = walking c.args.n c.args.order.now c.args.writes c.args.out.now c.args.first.now c.args.second.now c.requires.0
@@ -48,17 +49,13 @@ overflow_add-at c =
     ∙ second_taken c.args.n c.args.order.now c.loop-a.a.now c.loop-a.b.now c.loop-a.invariant.rests.rests c.stand-way.result
     c.stand-way.ensures c.next-row.result.now row_is
     c.if-row-eq0.false in
-    let put : Put c.args.n c.args.writes c.next-row.result.now c.loop-a.out c.loop-a.at c.if-writes.out = ⊎_elim {C = Put c.args.n
-    c.args.writes c.next-row.result.now c.loop-a.out
-    c.loop-a.at c.if-writes.out} (λ w. inl (
-      w.0.taken,
-      (
-        w.2.result,
-        subst
-            (λ (o : List ℕ). Written c.loop-a.out c.loop-a.at c.next-row.result.now o w.2.result) (sym w.5)
-            w.2.ensures,
-      ),
-    )) (λ w. inr (w.0.left, w.2, w.1.left)) c.if-writes.branch in
+    let put : Put c.args.n c.args.writes c.next-row.result.now c.loop-a.out c.loop-a.at c.if-writes.out = elim c.if-writes.branch [
+      then-writes w ↦ inl (
+        w.if-writes.true,
+        (w.put_row.result, subst (λ (o : List ℕ). Written c.loop-a.out c.loop-a.at c.next-row.result.now o w.put_row.result) (sym w.out-is) w.put_row.ensures),
+      )
+      | else-writes+else-out-at w ↦ inr (w.if-writes.false, w.out-is, w.if-out-at.false)
+    ] in
     omega (
       arith,
       (on c.args.n c.args.order.now c.args.writes c.args.out.now _ c.loop-a.a.now c.loop-a.b.now c.loop-a.out c.loop-a.at c.loop-a.invariant
@@ -89,17 +86,13 @@ loop-a-preserved c =
     ∙ second_taken c.args.n c.args.order.now c.loop-a.a.now c.loop-a.b.now c.loop-a.invariant.rests.rests c.stand-way.result
     c.stand-way.ensures c.next-row.result.now row_is
     c.if-row-eq0.false in
-    let put : Put c.args.n c.args.writes c.next-row.result.now c.loop-a.out c.loop-a.at c.if-writes.out = ⊎_elim {C = Put c.args.n
-    c.args.writes c.next-row.result.now c.loop-a.out
-    c.loop-a.at c.if-writes.out} (λ w. inl (
-      w.0.taken,
-      (
-        w.2.result,
-        subst
-            (λ (o : List ℕ). Written c.loop-a.out c.loop-a.at c.next-row.result.now o w.2.result) (sym w.5)
-            w.2.ensures,
-      ),
-    )) (λ w. inr (w.0.left, w.2, w.1.left)) c.if-writes.branch in
+    let put : Put c.args.n c.args.writes c.next-row.result.now c.loop-a.out c.loop-a.at c.if-writes.out = elim c.if-writes.branch [
+      then-writes w ↦ inl (
+        w.if-writes.true,
+        (w.put_row.result, subst (λ (o : List ℕ). Written c.loop-a.out c.loop-a.at c.next-row.result.now o w.put_row.result) (sym w.out-is) w.put_row.ensures),
+      )
+      | else-writes+else-out-at w ↦ inr (w.if-writes.false, w.out-is, w.if-out-at.false)
+    ] in
     (on c.args.n c.args.order.now c.args.writes c.args.out.now _ c.loop-a.a.now c.loop-a.b.now c.loop-a.out c.loop-a.at c.loop-a.invariant c.next-row.result.now
     row_is c.if-row-eq0.false c.past_first-i.result c.past_second-j.result of_first of_second (take (length c.loop-a.a.now - c.past_first-i.result) (drop c.past_first-i.result c.loop-a.a.now))
     (take (length c.loop-a.b.now - c.past_second-j.result) (drop c.past_second-j.result c.loop-a.b.now)) (part_is c.loop-a.a.now c.past_first-i.result) (part_is c.loop-a.b.now c.past_second-j.result) c.requires.2 c.if-writes.out put).1

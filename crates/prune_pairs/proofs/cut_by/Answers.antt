@@ -16,14 +16,14 @@ cut_row-requires c =
       search rules,
       search rules,
       row_spared c.requires.1 c.lowest.ensures (sym c.without_lowest.ensures ∙ eqb-true _ 0
-          (sym c.is_empty.ensures ∙ c.if-is_empty.true)) (part-cut-row-end c),
+          (sym c.is_empty.ensures ∙ c.if-is_empty.true)) (omega (arith, x_lt c.requires.1, low_lt c.requires.1 _ c.lowest.ensures)),
     )
 
 pub returns-then-is_empty : goal.returns-then-is_empty
 unfolding at
 returns-then-is_empty c =
     let e = eqb-true _ 0 (sym c.is_empty.ensures ∙ c.if-is_empty.true) in
-    λ p w. by_row w c.lowest.ensures (sym c.without_lowest.ensures ∙ e) (part-cut-row-end c) c.cut_row.ensures
+    λ p w. by_row w c.lowest.ensures (sym c.without_lowest.ensures ∙ e) (omega (arith, x_lt c.requires.1, low_lt c.requires.1 _ c.lowest.ensures)) c.cut_row.ensures
 
 pub returns-then-loose-x-eq1 : goal.returns-then-loose-x-eq1
 unfolding at

@@ -1,5 +1,5 @@
 -- `run::answered` meets its contract. Assumes nothing.
-use Rattle.model.specs.Kit.{◌≡◌, refl, sym, arith, now}
+use Rattle.model.specs.Kit.{◌≡◌, refl, sym, arith}
 use Rattle.model.specs.{Lists.at, Run.finished, Run.spent, Run.full}
 use Rattle.arrays.specs.Inner.Places.{PLANS}
 use Rattle.run.proofs.answered.Goals as goal
@@ -17,7 +17,7 @@ unfolding at
 returns-then-stop-eq-ALL c =
     record {
       refused = λ z. absurd (omega (arith, c.if-stop-eq-ALL.true));
-      ended = λ n. (finished (at (now c.args.work) PLANS) c.args.made, refl, refl, refl, sym c.if-stop-eq-ALL.true);
+      ended = λ n. (finished (at c.args.work.now PLANS) c.args.made, refl, refl, refl, sym c.if-stop-eq-ALL.true);
     }
 
 pub returns-then-stop-eq-SPENT : goal.returns-then-stop-eq-SPENT
@@ -25,7 +25,7 @@ unfolding at
 returns-then-stop-eq-SPENT c =
     record {
       refused = λ z. absurd (omega (arith, c.if-stop-eq-SPENT.true));
-      ended = λ n. (spent (at (now c.args.work) PLANS) c.args.made, refl, refl, refl, sym c.if-stop-eq-SPENT.true);
+      ended = λ n. (spent (at c.args.work.now PLANS) c.args.made, refl, refl, refl, sym c.if-stop-eq-SPENT.true);
     }
 
 pub returns : goal.returns
@@ -35,5 +35,5 @@ returns c =
       refused = λ z. absurd (c.if-stop-eq-REFUSED.false z);
       ended = λ n.
           let e : 2 ≡ c.args.stop = omega (arith, c.requires.known n, c.if-stop-eq-ALL.false, c.if-stop-eq-SPENT.false) in
-          (full (at (now c.args.work) PLANS) c.args.made, refl, refl, refl, e);
+          (full (at c.args.work.now PLANS) c.args.made, refl, refl, refl, e);
     }

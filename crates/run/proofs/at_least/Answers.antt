@@ -1,12 +1,12 @@
 -- `run::at_least` meets its contract: proofs/Tasks. Assumes nothing.
-use Rattle.model.specs.Kit.{sym, ap, ◌∙◌, now}
+use Rattle.model.specs.Kit.{sym, ap, ◌∙◌}
 use Rattle.run_enough.specs.Lent.{enough_lent}
 use Rattle.run.proofs.{Tasks.none_asked, Tasks.said_enough}
 use Rattle.run.proofs.at_least.Goals as goal
 
 pub returns-then-m-eq0 : goal.returns-then-m-eq0
 returns-then-m-eq0 c =
-    c.asked_for_none.ensures ∙ none_asked _ _ _ c.args.limit ∙ ap (enough_lent (now c.args.sheet) (now c.args.pairs) (now c.args.block) c.args.limit) (sym c.if-m-eq0.true)
+    c.asked_for_none.ensures ∙ none_asked _ _ _ c.args.limit ∙ ap (enough_lent c.args.sheet.now c.args.pairs.now c.args.block.now c.args.limit) (sym c.if-m-eq0.true)
 
 pub returns : goal.returns
 returns c = c.judged.ensures ∙ said_enough _ _ _ _ _ _ c.if-m-eq0.false c.run_wanted-answer.ensures

@@ -1,5 +1,5 @@
 -- `run_task::put_order` meets its contract: after k turns the first k numbers of the order are put. Assumes nothing.
-use Rattle.model.specs.Kit.{◌≡◌, refl, sym, ap, ap₂, ◌∙◌, List, ℕ, ◌+◌, add-one, arith, length, set, now}
+use Rattle.model.specs.Kit.{◌≡◌, refl, sym, ap, ap₂, ◌∙◌, List, ℕ, ◌+◌, add-one, arith, length, set}
 use Rattle.model.specs.Lists.{at}
 use Rattle.arrays.specs.Inner.Places.{ORDER}
 use Rattle.run_task.specs.Inner.Task.{ordered}
@@ -12,17 +12,17 @@ loop-k-init c = (omega arith, refl)
 
 pub bounds-numbers-k : goal.bounds-numbers-k
 bounds-numbers-k c = omega
-    (arith, ap length c.loop-k.invariant.1, length_ordered (now c.args.order) c.loop-k.k (now c.args.numbers))
+    (arith, ap length c.loop-k.invariant.1, length_ordered c.args.order.now c.loop-k.k c.args.numbers.now)
 
 pub loop-k-preserved : goal.loop-k-preserved
 unfolding ordered at
 loop-k-preserved c =
-    (omega arith, ap₂ (λ (s : List ℕ) (v : ℕ). set s (ORDER + c.loop-k.k) v) c.loop-k.invariant.1 c.long.ensures.0 ∙ ap (λ (k : ℕ). ordered (now c.args.order) k (now c.args.numbers)) (sym (add-one c.loop-k.k)))
+    (omega arith, ap₂ (λ (s : List ℕ) (v : ℕ). set s (ORDER + c.loop-k.k) v) c.loop-k.invariant.1 c.long.ensures.0 ∙ ap (λ (k : ℕ). ordered c.args.order.now k c.args.numbers.now) (sym (add-one c.loop-k.k)))
 
 pub returns : goal.returns
 returns c =
     let e : c.loop-k.k ≡ 12 = omega arith in
-    c.loop-k.invariant.1 ∙ ap (λ (k : ℕ). ordered (now c.args.order) k (now c.args.numbers)) e
+    c.loop-k.invariant.1 ∙ ap (λ (k : ℕ). ordered c.args.order.now k c.args.numbers.now) e
 
 pub bounds-order-k : goal.bounds-order-k
 bounds-order-k c = omega arith
@@ -40,4 +40,4 @@ pub loop-k-smaller : goal.loop-k-smaller
 loop-k-smaller c = omega arith
 
 pub shape_of-numbers : goal.shape_of-numbers
-shape_of-numbers c = ap length c.loop-k.invariant.1 ∙ length_ordered (now c.args.order) c.loop-k.k (now c.args.numbers)
+shape_of-numbers c = ap length c.loop-k.invariant.1 ∙ length_ordered c.args.order.now c.loop-k.k c.args.numbers.now

@@ -1,4 +1,4 @@
-use Rattle.model.specs.Kit.{sym, ap, ◌∙◌, subst, ⊎_elim, ℕ, ◌+◌, ◌*◌, ◌^◌, ◌<◌, arith, now, not-true, not-false}
+use Rattle.model.specs.Kit.{sym, ap, ◌∙◌, subst, ⊎_elim, ℕ, ◌+◌, ◌*◌, ◌^◌, ◌<◌, arith, not-true, not-false}
 use Rattle.model.specs.{declared.ValueSet.ValueSet, ValueSets.only_mask, ValueSets.union_mask}
 use Rattle.model.proofs.Sets.{mask_lt}
 use Rattle.sheet_table.specs.Inner.Forbidden.{Lacking}
@@ -11,12 +11,12 @@ loop-v-init c = (omega arith, omega arith, lacking_none _ _ _ _)
 
 pub loop-v-preserved : goal.loop-v-preserved
 loop-v-preserved c =
-    let r = ⊎_elim {C = (c.if-not-contains.set.bits < 2 ^ 16) × Lacking (now c.args.supports) c.args.base
+    let r = ⊎_elim {C = (c.if-not-contains.set.bits < 2 ^ 16) × Lacking c.args.supports.now c.args.base
     c.args.step c.args.w (c.loop-v.v + 1) c.if-not-contains.set.bits}
     (λ u. let q = ap (λ (s : ValueSet). s.bits) u.4 ∙ u.3.ensures ∙ ap (union_mask c.loop-v.set.bits)
     (u.2.ensures ∙ ap (λ (f : ℕ). only_mask f c.loop-v.v) u.1.ensures) in
     (subst (λ (s : ℕ). s < 2 ^ 16) (sym q) (mask_lt 16 _), lacking_more _ _ _ _ _ _ _ c.loop-v.invariant.2 c.support.ensures _ c.loop-v.invariant.1 c.loop-v-test.true q (sym c.contains.ensures ∙ not-true _ u.0.taken)))
-    (λ u. subst (λ (s : ValueSet). (s.bits < 2 ^ 16) × Lacking (now c.args.supports) c.args.base
+    (λ u. subst (λ (s : ValueSet). (s.bits < 2 ^ 16) × Lacking c.args.supports.now c.args.base
     c.args.step c.args.w (c.loop-v.v + 1) s.bits) (sym u.1)
     (c.loop-v.invariant.1, lacking_same _ _ _ _ _ _ _ c.loop-v.invariant.2 c.support.ensures (sym c.contains.ensures ∙ not-false _ u.0.left)))
     c.if-not-contains.branch in

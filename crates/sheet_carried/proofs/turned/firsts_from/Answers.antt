@@ -1,4 +1,4 @@
-use Rattle.model.specs.Kit.{◌≡◌, refl, sym, ◌∙◌, subst, ℕ, ◌+◌, ◌*◌, ◌<◌, arith, T, now}
+use Rattle.model.specs.Kit.{◌≡◌, refl, sym, ◌∙◌, subst, ℕ, ◌+◌, ◌*◌, ◌<◌, arith, T}
 use Rattle.model.specs.{Lists.at, ValueSets.has}
 use Rattle.model.proofs.{Lists.T_of, Lowest.some_left, Lowest.none_left}
 use Rattle.arrays.specs.Inner.Places.{SUPPORTS}
@@ -20,7 +20,7 @@ pub loop-rest-preserved : goal.loop-rest-preserved
 loop-rest-preserved c =
     let some : c.loop-rest.rest.bits ≡ 0 → ⊥ = some_left _ _ c.is_empty.ensures c.loop-rest-test.true-raw in
     swept_rest _ _ c.loop-rest.invariant some _ c.lowest-t.ensures _ c.without_lowest-rest.ensures
-    (subst (λ (v : ℕ). T (has (at (now c.args.supports) (c.args.from + 16 * v)) c.args.w)) c.place-v.ensures.0
+    (subst (λ (v : ℕ). T (has (at c.args.supports.now (c.args.from + 16 * v)) c.args.w)) c.place-v.ensures.0
     (subst (λ (r : ℕ). T (has r c.args.w)) c.support.ensures (T_of _ (sym c.contains.ensures ∙ c.if-not-contains.false))))
 
 pub returns : goal.returns

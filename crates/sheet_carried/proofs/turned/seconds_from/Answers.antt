@@ -1,4 +1,4 @@
-use Rattle.model.specs.Kit.{◌≡◌, sym, subst, ℕ, ◌+◌, ◌*◌, ◌<◌, arith, T, now}
+use Rattle.model.specs.Kit.{◌≡◌, sym, subst, ℕ, ◌+◌, ◌*◌, ◌<◌, arith, T}
 use Rattle.model.proofs.Lowest.{some_left, none_left}
 use Rattle.arrays.specs.Inner.Places.{SUPPORTS}
 use Rattle.sheet_table.specs.Inner.Forbidden.{ThirdsFrom}
@@ -22,7 +22,7 @@ loop-rest-preserved c =
     let some : c.loop-rest.rest.bits ≡ 0 → ⊥ = some_left _ _ c.is_empty.ensures c.loop-rest-test.true-raw in
     λ p h l.
     swept_rest _ _ (c.loop-rest.invariant p h l) some _ c.lowest-v.ensures _ c.without_lowest-rest.ensures
-    (subst (λ (n : ℕ). ThirdsFrom p (now c.args.supports) (now c.args.moves) (256 * c.args.k + n) (c.args.base + c.args.step * c.lowest-v.result) c.args.third c.args.x c.args.z)
+    (subst (λ (n : ℕ). ThirdsFrom p c.args.supports.now c.args.moves.now (256 * c.args.k + n) (c.args.base + c.args.step * c.lowest-v.result) c.args.third c.args.x c.args.z)
     c.place.ensures.0
     (c.thirds_from.ensures c.if-not-thirds_from.false p h))
 

@@ -1,4 +1,4 @@
-use Rattle.model.specs.Kit.{◌≡◌, sym, ap, ap₂, ◌∙◌, subst, List, ℕ, ◌+◌, ◌<◌, arith, now, bit_and, T}
+use Rattle.model.specs.Kit.{◌≡◌, sym, ap, ap₂, ◌∙◌, subst, List, ℕ, ◌+◌, ◌<◌, arith, bit_and, T}
 use Rattle.model.specs.{Lists.at, Problem.Problem, Problem.constraint_at}
 use Rattle.sheet_table.specs.Inner.Forbidden.{Three, Whole}
 use Rattle.sheet_carried.proofs.{Wholes.three_of, Wholes.three_in, Wholes.whole_in, Wholes.whole_kept}
@@ -15,9 +15,9 @@ returns-then-set-eq0 c = λ q. absurd (subst T (sym q) tt)
 
 pub rows_from-requires : goal.rows_from-requires
 rows_from-requires c =
-    let At : Problem → List ℕ → Type 0 = λ p codes. Whole p (now c.args.numbers) (now c.args.supports) codes (now c.args.moves) c.args.k in
-    let small : (i r : ℕ) → r ≡ at (now c.args.moves) i → r < 16 = λ i r e. omega (arith, c.requires.2.lent.moved.small i) in
-    let On : Problem → ℕ → ℕ → ℕ → ℕ → Type 0 = λ p m x y z. Three p (now c.args.numbers) (now c.args.supports) m x y z in
+    let At : Problem → List ℕ → Type 0 = λ p codes. Whole p c.args.numbers.now c.args.supports.now codes c.args.moves.now c.args.k in
+    let small : (i r : ℕ) → r ≡ at c.args.moves.now i → r < 16 = λ i r e. omega (arith, c.requires.2.lent.moved.small i) in
+    let On : Problem → ℕ → ℕ → ℕ → ℕ → Type 0 = λ p m x y z. Three p c.args.numbers.now c.args.supports.now m x y z in
     let to_0 : ℕ = c.place-x.result in
     let to_1 : ℕ = c.place-y.result in
     let to_2 : ℕ = c.place-z.result in
@@ -35,13 +35,13 @@ rows_from-requires c =
 
 pub returns : goal.returns
 returns c =
-    let At : Problem → List ℕ → Type 0 = λ p codes. Whole p (now c.args.numbers) (now c.args.supports) codes (now c.args.moves) c.args.k in
+    let At : Problem → List ℕ → Type 0 = λ p codes. Whole p c.args.numbers.now c.args.supports.now codes c.args.moves.now c.args.k in
     let scope : Problem → ℕ → ℕ = λ p i. at (constraint_at p c.args.k).scope i in
     let is_0 : (p : Problem) (codes : List ℕ) → At p codes → c.scope_at.result ≡ scope p 0 = λ p codes s. c.scope_at.ensures p s.lent.ready.framed s.inside (omega (arith, s.three)) in
     let is_1 : (p : Problem) (codes : List ℕ) → At p codes → c.scope_at-2.result ≡ scope p 1 = λ p codes s. c.scope_at-2.ensures p s.lent.ready.framed s.inside (omega (arith, s.three)) in
     let is_2 : (p : Problem) (codes : List ℕ) → At p codes → c.scope_at-3.result ≡ scope p 2 = λ p codes s. c.scope_at-3.ensures p s.lent.ready.framed s.inside (omega (arith, s.three)) in
-    let small : (i r : ℕ) → r ≡ at (now c.args.moves) i → r < 16 = λ i r e. omega (arith, c.requires.2.lent.moved.small i) in
-    let On : Problem → ℕ → ℕ → ℕ → ℕ → Type 0 = λ p m x y z. Three p (now c.args.numbers) (now c.args.supports) m x y z in
+    let small : (i r : ℕ) → r ≡ at c.args.moves.now i → r < 16 = λ i r e. omega (arith, c.requires.2.lent.moved.small i) in
+    let On : Problem → ℕ → ℕ → ℕ → ℕ → Type 0 = λ p m x y z. Three p c.args.numbers.now c.args.supports.now m x y z in
     let to_0 : ℕ = c.place-x.result in
     let to_1 : ℕ = c.place-y.result in
     let to_2 : ℕ = c.place-z.result in
@@ -50,7 +50,7 @@ returns c =
     (small _ _ c.place-z.ensures.0) _ _
     (ap₂ bit_and (ap₂ bit_and c.number.ensures c.number-2.ensures) c.number-3.ensures) c.pick.ensures in
     λ q p codes s.
-    let v = now c.args.moves in
+    let v = c.args.moves.now in
     let h = three p codes s in
     let k = start.args.k in
     let i = three_in p _ _ v _ k _ _ _ h c.if-x-y.false c.if-x-z.false in
@@ -61,7 +61,7 @@ returns c =
 
 pub overflow_add-scope_at : goal.overflow_add-scope_at
 overflow_add-scope_at c =
-    let At : Problem → List ℕ → Type 0 = λ p codes. Whole p (now c.args.numbers) (now c.args.supports) codes (now c.args.moves) c.args.k in
+    let At : Problem → List ℕ → Type 0 = λ p codes. Whole p c.args.numbers.now c.args.supports.now codes c.args.moves.now c.args.k in
     let scope : Problem → ℕ → ℕ = λ p i. at (constraint_at p c.args.k).scope i in
     let is_0 : (p : Problem) (codes : List ℕ) → At p codes → c.scope_at.result ≡ scope p 0 = λ p codes s. c.scope_at.ensures p s.lent.ready.framed s.inside (omega (arith, s.three)) in
     let few : (i x : ℕ) → i < 3 → ((p : Problem) (codes : List ℕ) → At p codes → x ≡ scope p i) → x < 12 = λ i x l e. omega (arith, e c.requires.0 c.requires.1 c.requires.2, whole_in c.requires.0 _ _ c.requires.1 _ _ c.requires.2 i l, c.requires.2.lent.ready.framed.stated.few) in
@@ -69,7 +69,7 @@ overflow_add-scope_at c =
 
 pub place-x-requires : goal.place-x-requires
 place-x-requires c =
-    let At : Problem → List ℕ → Type 0 = λ p codes. Whole p (now c.args.numbers) (now c.args.supports) codes (now c.args.moves) c.args.k in
+    let At : Problem → List ℕ → Type 0 = λ p codes. Whole p c.args.numbers.now c.args.supports.now codes c.args.moves.now c.args.k in
     let scope : Problem → ℕ → ℕ = λ p i. at (constraint_at p c.args.k).scope i in
     let is_0 : (p : Problem) (codes : List ℕ) → At p codes → c.scope_at.result ≡ scope p 0 = λ p codes s. c.scope_at.ensures p s.lent.ready.framed s.inside (omega (arith, s.three)) in
     let few : (i x : ℕ) → i < 3 → ((p : Problem) (codes : List ℕ) → At p codes → x ≡ scope p i) → x < 12 = λ i x l e. omega (arith, e c.requires.0 c.requires.1 c.requires.2, whole_in c.requires.0 _ _ c.requires.1 _ _ c.requires.2 i l, c.requires.2.lent.ready.framed.stated.few) in
@@ -77,7 +77,7 @@ place-x-requires c =
 
 pub overflow_add-scope_at-2 : goal.overflow_add-scope_at-2
 overflow_add-scope_at-2 c =
-    let At : Problem → List ℕ → Type 0 = λ p codes. Whole p (now c.args.numbers) (now c.args.supports) codes (now c.args.moves) c.args.k in
+    let At : Problem → List ℕ → Type 0 = λ p codes. Whole p c.args.numbers.now c.args.supports.now codes c.args.moves.now c.args.k in
     let scope : Problem → ℕ → ℕ = λ p i. at (constraint_at p c.args.k).scope i in
     let is_1 : (p : Problem) (codes : List ℕ) → At p codes → c.scope_at-2.result ≡ scope p 1 = λ p codes s. c.scope_at-2.ensures p s.lent.ready.framed s.inside (omega (arith, s.three)) in
     let few : (i x : ℕ) → i < 3 → ((p : Problem) (codes : List ℕ) → At p codes → x ≡ scope p i) → x < 12 = λ i x l e. omega (arith, e c.requires.0 c.requires.1 c.requires.2, whole_in c.requires.0 _ _ c.requires.1 _ _ c.requires.2 i l, c.requires.2.lent.ready.framed.stated.few) in
@@ -85,7 +85,7 @@ overflow_add-scope_at-2 c =
 
 pub place-y-requires : goal.place-y-requires
 place-y-requires c =
-    let At : Problem → List ℕ → Type 0 = λ p codes. Whole p (now c.args.numbers) (now c.args.supports) codes (now c.args.moves) c.args.k in
+    let At : Problem → List ℕ → Type 0 = λ p codes. Whole p c.args.numbers.now c.args.supports.now codes c.args.moves.now c.args.k in
     let scope : Problem → ℕ → ℕ = λ p i. at (constraint_at p c.args.k).scope i in
     let is_1 : (p : Problem) (codes : List ℕ) → At p codes → c.scope_at-2.result ≡ scope p 1 = λ p codes s. c.scope_at-2.ensures p s.lent.ready.framed s.inside (omega (arith, s.three)) in
     let few : (i x : ℕ) → i < 3 → ((p : Problem) (codes : List ℕ) → At p codes → x ≡ scope p i) → x < 12 = λ i x l e. omega (arith, e c.requires.0 c.requires.1 c.requires.2, whole_in c.requires.0 _ _ c.requires.1 _ _ c.requires.2 i l, c.requires.2.lent.ready.framed.stated.few) in
@@ -93,7 +93,7 @@ place-y-requires c =
 
 pub overflow_add-scope_at-3 : goal.overflow_add-scope_at-3
 overflow_add-scope_at-3 c =
-    let At : Problem → List ℕ → Type 0 = λ p codes. Whole p (now c.args.numbers) (now c.args.supports) codes (now c.args.moves) c.args.k in
+    let At : Problem → List ℕ → Type 0 = λ p codes. Whole p c.args.numbers.now c.args.supports.now codes c.args.moves.now c.args.k in
     let scope : Problem → ℕ → ℕ = λ p i. at (constraint_at p c.args.k).scope i in
     let is_2 : (p : Problem) (codes : List ℕ) → At p codes → c.scope_at-3.result ≡ scope p 2 = λ p codes s. c.scope_at-3.ensures p s.lent.ready.framed s.inside (omega (arith, s.three)) in
     let few : (i x : ℕ) → i < 3 → ((p : Problem) (codes : List ℕ) → At p codes → x ≡ scope p i) → x < 12 = λ i x l e. omega (arith, e c.requires.0 c.requires.1 c.requires.2, whole_in c.requires.0 _ _ c.requires.1 _ _ c.requires.2 i l, c.requires.2.lent.ready.framed.stated.few) in
@@ -101,7 +101,7 @@ overflow_add-scope_at-3 c =
 
 pub place-z-requires : goal.place-z-requires
 place-z-requires c =
-    let At : Problem → List ℕ → Type 0 = λ p codes. Whole p (now c.args.numbers) (now c.args.supports) codes (now c.args.moves) c.args.k in
+    let At : Problem → List ℕ → Type 0 = λ p codes. Whole p c.args.numbers.now c.args.supports.now codes c.args.moves.now c.args.k in
     let scope : Problem → ℕ → ℕ = λ p i. at (constraint_at p c.args.k).scope i in
     let is_2 : (p : Problem) (codes : List ℕ) → At p codes → c.scope_at-3.result ≡ scope p 2 = λ p codes s. c.scope_at-3.ensures p s.lent.ready.framed s.inside (omega (arith, s.three)) in
     let few : (i x : ℕ) → i < 3 → ((p : Problem) (codes : List ℕ) → At p codes → x ≡ scope p i) → x < 12 = λ i x l e. omega (arith, e c.requires.0 c.requires.1 c.requires.2, whole_in c.requires.0 _ _ c.requires.1 _ _ c.requires.2 i l, c.requires.2.lent.ready.framed.stated.few) in

@@ -1,4 +1,4 @@
-use Rattle.model.specs.Kit.{◌≡◌, sym, ap, ◌∙◌, subst, List, ℕ, ◌+◌, ◌-◌, arith, now, T, length, eqb-true}
+use Rattle.model.specs.Kit.{◌≡◌, sym, ap, ◌∙◌, subst, List, ℕ, ◌+◌, ◌-◌, arith, T, length, eqb-true}
 use Rattle.model.specs.{Lists.at, Problem.Problem, Problem.constraint_at}
 use Rattle.sheet_table.specs.{Inner.Table.Ready, Inner.Forbidden.Chosen}
 use Rattle.sheet_carried.proofs.Walks.{choices_over}
@@ -12,13 +12,13 @@ returns-then-ahead-ne1 c = λ q. absurd (subst T (sym q) tt)
 
 pub scope_at-x-requires : goal.scope_at-x-requires
 scope_at-x-requires c =
-    let At : Problem → List ℕ → Type 0 = λ p vs. Ready p (now c.args.numbers) (now c.args.supports) × Chosen p vs c.args.k c.args.ahead c.args.key in
+    let At : Problem → List ℕ → Type 0 = λ p vs. Ready p c.args.numbers.now c.args.supports.now × Chosen p vs c.args.k c.args.ahead c.args.key in
     let last : (p : Problem) (vs : List ℕ) → At p vs → c.arity.result ≡ length vs + 1 = λ p vs h. omega (arith, c.arity.ensures p h.0.framed h.1.inside, h.1.split, c.if-ahead-ne1.false) in
     (c.requires.0, c.requires.2.framed, c.requires.3.inside, omega (arith, last c.requires.0 c.requires.1 (c.requires.2, c.requires.3), c.arity.ensures c.requires.0 c.requires.2.framed c.requires.3.inside))
 
 pub returns : goal.returns
 returns c =
-    let At : Problem → List ℕ → Type 0 = λ p vs. Ready p (now c.args.numbers) (now c.args.supports) × Chosen p vs c.args.k c.args.ahead c.args.key in
+    let At : Problem → List ℕ → Type 0 = λ p vs. Ready p c.args.numbers.now c.args.supports.now × Chosen p vs c.args.k c.args.ahead c.args.key in
     let last : (p : Problem) (vs : List ℕ) → At p vs → c.arity.result ≡ length vs + 1 = λ p vs h. omega (arith, c.arity.ensures p h.0.framed h.1.inside, h.1.split, c.if-ahead-ne1.false) in
     let variable : (p : Problem) (vs : List ℕ) → At p vs → c.scope_at-x.result ≡ at (constraint_at p c.args.k).scope (length vs) = λ p vs h. let l = last p vs h in
     let e : c.arity.result - 1 ≡ length vs = omega arith in
@@ -30,13 +30,13 @@ returns c =
 
 pub overflow_sub-arity : goal.overflow_sub-arity
 overflow_sub-arity c =
-    let At : Problem → List ℕ → Type 0 = λ p vs. Ready p (now c.args.numbers) (now c.args.supports) × Chosen p vs c.args.k c.args.ahead c.args.key in
+    let At : Problem → List ℕ → Type 0 = λ p vs. Ready p c.args.numbers.now c.args.supports.now × Chosen p vs c.args.k c.args.ahead c.args.key in
     let last : (p : Problem) (vs : List ℕ) → At p vs → c.arity.result ≡ length vs + 1 = λ p vs h. omega (arith, c.arity.ensures p h.0.framed h.1.inside, h.1.split, c.if-ahead-ne1.false) in
     omega (arith, last c.requires.0 c.requires.1 (c.requires.2, c.requires.3))
 
 pub choices-requires : goal.choices-requires
 choices-requires c =
-    let At : Problem → List ℕ → Type 0 = λ p vs. Ready p (now c.args.numbers) (now c.args.supports) × Chosen p vs c.args.k c.args.ahead c.args.key in
+    let At : Problem → List ℕ → Type 0 = λ p vs. Ready p c.args.numbers.now c.args.supports.now × Chosen p vs c.args.k c.args.ahead c.args.key in
     let last : (p : Problem) (vs : List ℕ) → At p vs → c.arity.result ≡ length vs + 1 = λ p vs h. omega (arith, c.arity.ensures p h.0.framed h.1.inside, h.1.split, c.if-ahead-ne1.false) in
     let variable : (p : Problem) (vs : List ℕ) → At p vs → c.scope_at-x.result ≡ at (constraint_at p c.args.k).scope (length vs) = λ p vs h. let l = last p vs h in
     let e : c.arity.result - 1 ≡ length vs = omega arith in

@@ -1,4 +1,4 @@
-use Rattle.model.specs.Kit.{⊎_elim, ◌≡◌, refl, sym, ap, ◌∙◌, subst, ℕ, ◌+◌, ◌*◌, ◌%◌, ◌≤◌, ◌<◌, arith, not-false, now, length, length-set}
+use Rattle.model.specs.Kit.{⊎_elim, ◌≡◌, refl, sym, ap, ◌∙◌, subst, ℕ, ◌+◌, ◌*◌, ◌%◌, ◌≤◌, ◌<◌, arith, not-false, length, length-set}
 use Rattle.model.specs.{Lists.at, Problem.Problem}
 use native.Mathlib.Nat.{mod-lt}
 use Rattle.model.proofs.{Lists.T_of, Lists.at_replicate, Pairs.is_pair_lt}
@@ -19,9 +19,9 @@ loop-q-init c = (c.requires.1, refl, λ p l. (omega arith, seen_none p _ _ (at_r
 
 pub returns-then-not-is_pair : goal.returns-then-not-is_pair
 returns-then-not-is_pair c =
-    let At : Problem → Type 0 = λ p. TableAt p (now c.args.sheet) c.args.offset (now c.args.numbers) in
+    let At : Problem → Type 0 = λ p. TableAt p c.args.sheet.now c.args.offset c.args.numbers.now in
     let inside : (p : Problem) → At p → c.loop-q.q < p.variables * p.values = λ p l. subst (λ (n : ℕ). c.loop-q.q < n) (size_is p _ l.framed _ _ c.number.ensures c.number-d.ensures) c.loop-q-test.true in
-    let room : c.args.offset + 2 * c.loop-q.q + 2 ≤ length (now c.args.sheet) = omega (arith, inside c.requires.0.0 c.requires.0.1, c.requires.0.1.whole) in
+    let room : c.args.offset + 2 * c.loop-q.q + 2 ≤ length c.args.sheet.now = omega (arith, inside c.requires.0.0 c.requires.0.1, c.requires.0.1.whole) in
     record {
       room = c.loop-q.invariant.0;
       drawn = λ p l. drawn_no p _ _ _
@@ -32,16 +32,16 @@ returns-then-not-is_pair c =
 pub returns-then-seen-y-eq1 : goal.returns-then-seen-y-eq1
 unfolding at
 returns-then-seen-y-eq1 c =
-    let At : Problem → Type 0 = λ p. TableAt p (now c.args.sheet) c.args.offset (now c.args.numbers) in
+    let At : Problem → Type 0 = λ p. TableAt p c.args.sheet.now c.args.offset c.args.numbers.now in
     let inside : (p : Problem) → At p → c.loop-q.q < p.variables * p.values = λ p l. subst (λ (n : ℕ). c.loop-q.q < n) (size_is p _ l.framed _ _ c.number.ensures c.number-d.ensures) c.loop-q-test.true in
-    let room : c.args.offset + 2 * c.loop-q.q + 2 ≤ length (now c.args.sheet) = omega (arith, inside c.requires.0.0 c.requires.0.1, c.requires.0.1.whole) in
+    let room : c.args.offset + 2 * c.loop-q.q + 2 ≤ length c.args.sheet.now = omega (arith, inside c.requires.0.0 c.requires.0.1, c.requires.0.1.whole) in
     record { room = c.loop-q.invariant.0; drawn = λ p l. drawn_no p _ _ _ (read_twice p _ _ _ _ _ (c.loop-q.invariant.2 p l).1 (inside p l) c.read_word-y.ensures c.if-seen-y-eq1.true) }
 
 pub returns-then-y-q : goal.returns-then-y-q
 returns-then-y-q c =
-    let At : Problem → Type 0 = λ p. TableAt p (now c.args.sheet) c.args.offset (now c.args.numbers) in
+    let At : Problem → Type 0 = λ p. TableAt p c.args.sheet.now c.args.offset c.args.numbers.now in
     let inside : (p : Problem) → At p → c.loop-q.q < p.variables * p.values = λ p l. subst (λ (n : ℕ). c.loop-q.q < n) (size_is p _ l.framed _ _ c.number.ensures c.number-d.ensures) c.loop-q-test.true in
-    let room : c.args.offset + 2 * c.loop-q.q + 2 ≤ length (now c.args.sheet) = omega (arith, inside c.requires.0.0 c.requires.0.1, c.requires.0.1.whole) in
+    let room : c.args.offset + 2 * c.loop-q.q + 2 ≤ length c.args.sheet.now = omega (arith, inside c.requires.0.0 c.requires.0.1, c.requires.0.1.whole) in
     record {
       room = c.loop-q.invariant.0;
       drawn = λ p l. drawn_no p _ _ _
@@ -52,7 +52,7 @@ returns-then-y-q c =
 pub loop-q-preserved : goal.loop-q-preserved
 unfolding at
 loop-q-preserved c =
-    let At : Problem → Type 0 = λ p. TableAt p (now c.args.sheet) c.args.offset (now c.args.numbers) in
+    let At : Problem → Type 0 = λ p. TableAt p c.args.sheet.now c.args.offset c.args.numbers.now in
     let inside : (p : Problem) → At p → c.loop-q.q < p.variables * p.values = λ p l. subst (λ (n : ℕ). c.loop-q.q < n) (size_is p _ l.framed _ _ c.number.ensures c.number-d.ensures) c.loop-q-test.true in
     let values : (p : Problem) → At p → c.number-d.result ≡ p.values = λ p l. c.number-d.ensures ∙ l.framed.numbered.values in
     let value : (1 ≤ c.number-d.result) × (c.loop-q.q % c.number-d.result < 16) = let v = values c.requires.0.0 c.requires.0.1 in
@@ -78,16 +78,16 @@ loop-q-preserved c =
       λ p l. let e = sym (c.is_pair.ensures p l.framed) ∙ w.0.left in (
         omega (arith, inside p l),
         read_same p _ _ _ _ _ (c.loop-q.invariant.2 p l).1 (inside p l) c.read_word-y.ensures _ w.4 e w.1.left,
-        drawn_same p l.framed.stated (table_of p (now c.args.sheet) c.args.offset) _ _ _ (c.loop-q.invariant.2 p l).2 e _ _ w.2 w.3,
+        drawn_same p l.framed.stated (table_of p c.args.sheet.now c.args.offset) _ _ _ (c.loop-q.invariant.2 p l).2 e _ _ w.2 w.3,
       ),
     ))
     c.if-is_pair.branch
 
 pub returns : goal.returns
 returns c =
-    let At : Problem → Type 0 = λ p. TableAt p (now c.args.sheet) c.args.offset (now c.args.numbers) in
+    let At : Problem → Type 0 = λ p. TableAt p c.args.sheet.now c.args.offset c.args.numbers.now in
     let inside : (p : Problem) → At p → c.loop-q.q < p.variables * p.values = λ p l. subst (λ (n : ℕ). c.loop-q.q < n) (size_is p _ l.framed _ _ c.number.ensures c.number-d.ensures) c.loop-q-test.true in
-    let room : c.args.offset + 2 * c.loop-q.q + 2 ≤ length (now c.args.sheet) = omega (arith, inside c.requires.0.0 c.requires.0.1, c.requires.0.1.whole) in
+    let room : c.args.offset + 2 * c.loop-q.q + 2 ≤ length c.args.sheet.now = omega (arith, inside c.requires.0.0 c.requires.0.1, c.requires.0.1.whole) in
     let over : (p : Problem) → At p → c.loop-q.q ≡ p.variables * p.values = λ p l. omega (arith, size_is p _ l.framed _ _ c.number.ensures c.number-d.ensures, c.loop-q-test.false, (c.loop-q.invariant.2 p l).0) in
     record {
       room = c.loop-q.invariant.0;
@@ -100,23 +100,23 @@ overflow_mul-count c = omega (arith, size_lt c.requires.0.0 _ c.requires.0.1.fra
 
 pub overflow_mul-q : goal.overflow_mul-q
 overflow_mul-q c =
-    let At : Problem → Type 0 = λ p. TableAt p (now c.args.sheet) c.args.offset (now c.args.numbers) in
+    let At : Problem → Type 0 = λ p. TableAt p c.args.sheet.now c.args.offset c.args.numbers.now in
     let inside : (p : Problem) → At p → c.loop-q.q < p.variables * p.values = λ p l. subst (λ (n : ℕ). c.loop-q.q < n) (size_is p _ l.framed _ _ c.number.ensures c.number-d.ensures) c.loop-q-test.true in
     let small : c.loop-q.q < 192 = omega (arith, inside c.requires.0.0 c.requires.0.1, table_small c.requires.0.0 c.requires.0.1.framed.stated) in
     omega (arith, small)
 
 pub overflow_add-offset : goal.overflow_add-offset
 overflow_add-offset c =
-    let At : Problem → Type 0 = λ p. TableAt p (now c.args.sheet) c.args.offset (now c.args.numbers) in
+    let At : Problem → Type 0 = λ p. TableAt p c.args.sheet.now c.args.offset c.args.numbers.now in
     let inside : (p : Problem) → At p → c.loop-q.q < p.variables * p.values = λ p l. subst (λ (n : ℕ). c.loop-q.q < n) (size_is p _ l.framed _ _ c.number.ensures c.number-d.ensures) c.loop-q-test.true in
-    let room : c.args.offset + 2 * c.loop-q.q + 2 ≤ length (now c.args.sheet) = omega (arith, inside c.requires.0.0 c.requires.0.1, c.requires.0.1.whole) in
+    let room : c.args.offset + 2 * c.loop-q.q + 2 ≤ length c.args.sheet.now = omega (arith, inside c.requires.0.0 c.requires.0.1, c.requires.0.1.whole) in
     omega (arith, room)
 
 pub read_word-y-requires : goal.read_word-y-requires
 read_word-y-requires c =
-    let At : Problem → Type 0 = λ p. TableAt p (now c.args.sheet) c.args.offset (now c.args.numbers) in
+    let At : Problem → Type 0 = λ p. TableAt p c.args.sheet.now c.args.offset c.args.numbers.now in
     let inside : (p : Problem) → At p → c.loop-q.q < p.variables * p.values = λ p l. subst (λ (n : ℕ). c.loop-q.q < n) (size_is p _ l.framed _ _ c.number.ensures c.number-d.ensures) c.loop-q-test.true in
-    let room : c.args.offset + 2 * c.loop-q.q + 2 ≤ length (now c.args.sheet) = omega (arith, inside c.requires.0.0 c.requires.0.1, c.requires.0.1.whole) in
+    let room : c.args.offset + 2 * c.loop-q.q + 2 ≤ length c.args.sheet.now = omega (arith, inside c.requires.0.0 c.requires.0.1, c.requires.0.1.whole) in
     omega (arith, room)
 
 pub is_pair-requires : goal.is_pair-requires
@@ -127,21 +127,21 @@ is_pair-requires-then-is_pair c = (c.requires.0.0, c.requires.0.1.framed)
 
 pub bounds-seen-y : goal.bounds-seen-y
 bounds-seen-y c =
-    let At : Problem → Type 0 = λ p. TableAt p (now c.args.sheet) c.args.offset (now c.args.numbers) in
+    let At : Problem → Type 0 = λ p. TableAt p c.args.sheet.now c.args.offset c.args.numbers.now in
     let image_in : (p : Problem) → At p → c.read_word-y.result < p.variables * p.values = λ p l. is_pair_lt p _ (T_of _ (sym (c.is_pair-then-is_pair.ensures p l.framed) ∙ c.if-not-is_pair.false)) in
     let image_small : c.read_word-y.result < 192 = omega (arith, image_in c.requires.0.0 c.requires.0.1, table_small c.requires.0.0 c.requires.0.1.framed.stated) in
     image_small
 
 pub bounds-seen-y-then-is_pair : goal.bounds-seen-y-then-is_pair
 bounds-seen-y-then-is_pair c =
-    let At : Problem → Type 0 = λ p. TableAt p (now c.args.sheet) c.args.offset (now c.args.numbers) in
+    let At : Problem → Type 0 = λ p. TableAt p c.args.sheet.now c.args.offset c.args.numbers.now in
     let image_in : (p : Problem) → At p → c.read_word-y.result < p.variables * p.values = λ p l. is_pair_lt p _ (T_of _ (sym (c.is_pair-then-is_pair.ensures p l.framed) ∙ c.if-not-is_pair.false)) in
     let image_small : c.read_word-y.result < 192 = omega (arith, image_in c.requires.0.0 c.requires.0.1, table_small c.requires.0.0 c.requires.0.1.framed.stated) in
     image_small
 
 pub pair_code-e-requires : goal.pair_code-e-requires
 pair_code-e-requires c =
-    let At : Problem → Type 0 = λ p. TableAt p (now c.args.sheet) c.args.offset (now c.args.numbers) in
+    let At : Problem → Type 0 = λ p. TableAt p c.args.sheet.now c.args.offset c.args.numbers.now in
     let values : (p : Problem) → At p → c.number-d.result ≡ p.values = λ p l. c.number-d.ensures ∙ l.framed.numbered.values in
     let value : (1 ≤ c.number-d.result) × (c.loop-q.q % c.number-d.result < 16) = let v = values c.requires.0.0 c.requires.0.1 in
     let one : 1 ≤ c.number-d.result = omega (arith, c.requires.0.1.framed.stated.one) in
@@ -156,7 +156,7 @@ overflow_cast-codes c = omega (arith, c.pair_code-e.ensures.1)
 
 pub pair_code-requires : goal.pair_code-requires
 pair_code-requires c =
-    let At : Problem → Type 0 = λ p. TableAt p (now c.args.sheet) c.args.offset (now c.args.numbers) in
+    let At : Problem → Type 0 = λ p. TableAt p c.args.sheet.now c.args.offset c.args.numbers.now in
     let inside : (p : Problem) → At p → c.loop-q.q < p.variables * p.values = λ p l. subst (λ (n : ℕ). c.loop-q.q < n) (size_is p _ l.framed _ _ c.number.ensures c.number-d.ensures) c.loop-q-test.true in
     let values : (p : Problem) → At p → c.number-d.result ≡ p.values = λ p l. c.number-d.ensures ∙ l.framed.numbered.values in
     let value : (1 ≤ c.number-d.result) × (c.loop-q.q % c.number-d.result < 16) = let v = values c.requires.0.0 c.requires.0.1 in
@@ -171,7 +171,7 @@ bounds-codes-pair_code c = omega (arith, c.pair_code.ensures.1)
 
 pub nonzero_rem-moves : goal.nonzero_rem-moves
 nonzero_rem-moves c =
-    let At : Problem → Type 0 = λ p. TableAt p (now c.args.sheet) c.args.offset (now c.args.numbers) in
+    let At : Problem → Type 0 = λ p. TableAt p c.args.sheet.now c.args.offset c.args.numbers.now in
     let values : (p : Problem) → At p → c.number-d.result ≡ p.values = λ p l. c.number-d.ensures ∙ l.framed.numbered.values in
     let value : (1 ≤ c.number-d.result) × (c.loop-q.q % c.number-d.result < 16) = let v = values c.requires.0.0 c.requires.0.1 in
     let one : 1 ≤ c.number-d.result = omega (arith, c.requires.0.1.framed.stated.one) in
@@ -180,7 +180,7 @@ nonzero_rem-moves c =
 
 pub overflow_cast-moves : goal.overflow_cast-moves
 overflow_cast-moves c =
-    let At : Problem → Type 0 = λ p. TableAt p (now c.args.sheet) c.args.offset (now c.args.numbers) in
+    let At : Problem → Type 0 = λ p. TableAt p c.args.sheet.now c.args.offset c.args.numbers.now in
     let values : (p : Problem) → At p → c.number-d.result ≡ p.values = λ p l. c.number-d.ensures ∙ l.framed.numbered.values in
     let value : (1 ≤ c.number-d.result) × (c.loop-q.q % c.number-d.result < 16) = let v = values c.requires.0.0 c.requires.0.1 in
     let one : 1 ≤ c.number-d.result = omega (arith, c.requires.0.1.framed.stated.one) in
@@ -192,7 +192,7 @@ bounds-moves-e c = omega (arith, c.pair_code-e.ensures.1)
 
 pub overflow_add-q : goal.overflow_add-q
 overflow_add-q c =
-    let At : Problem → Type 0 = λ p. TableAt p (now c.args.sheet) c.args.offset (now c.args.numbers) in
+    let At : Problem → Type 0 = λ p. TableAt p c.args.sheet.now c.args.offset c.args.numbers.now in
     let inside : (p : Problem) → At p → c.loop-q.q < p.variables * p.values = λ p l. subst (λ (n : ℕ). c.loop-q.q < n) (size_is p _ l.framed _ _ c.number.ensures c.number-d.ensures) c.loop-q-test.true in
     let small : c.loop-q.q < 192 = omega (arith, inside c.requires.0.0 c.requires.0.1, table_small c.requires.0.0 c.requires.0.1.framed.stated) in
     omega (arith, small)
