@@ -1,2 +1,2 @@
-// Walks by hand that hold references, lend them and get them back, and the elements of an array: definitions (specs/) and laws (proofs/), no work.
+// What functions say of slices that they are lent by thin references: a definition (specs/), no work.
 #![tactic(auto)]
