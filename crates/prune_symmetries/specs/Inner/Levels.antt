@@ -91,8 +91,8 @@ unfoldable pub levels : Problem → List ℕ → ℕ → ℕ → ℕ → List En
 levels p work e j k = flat (map (λ i. level_of p e i (at work i)) (up_from j (k - j)))
 
 -- the image of the prefix's own pair of variable j
-abbrev pub field_own : Problem → List ℕ → ℕ → ℕ → ℕ
-field_own p work e j = image_of p e j (at work j)
+abbrev pub own_at : Problem → List ℕ → ℕ → ℕ → ℕ
+own_at p work e j = image_of p e j (at work j)
 
 -- ---- a first part of a list is passed, whatever comes after it
 -- its cuts are made, and it says nothing more
@@ -173,11 +173,11 @@ pub record AtSplit (p : Problem) (ss work tables : List ℕ) (e k j : ℕ) : Typ
   pub held : Held p ss
   pub prefix : Prefix p work k
   pub inside : j < k
-  pub split : step_of ss (keep_of (field_own p work e j)) ≡ step.Split
+  pub split : step_of ss (keep_of (own_at p work e j)) ≡ step.Split
 
 -- what is left there
 abbrev pub split_entries : Problem → List ℕ → ℕ → ℕ → ℕ → List Entry
-split_entries p work e k j = keep_of (field_own p work e j) ∷ levels p work e (j + 1) k
+split_entries p work e k j = keep_of (own_at p work e j) ∷ levels p work e (j + 1) k
 
 pub record SplitReached (p : Problem) (ss work tables : List ℕ) (e k start : ℕ) (rs : List ℕ) (j : ℕ) : Type 0 where
   pub at_split : AtSplit p rs work tables e k j
