@@ -4,6 +4,7 @@ use Rattle.model.specs.{Lists.at}
 use Rattle.arrays.specs.{Inner.Places.MARKS, Inner.Places.SYMMETRIES}
 use Rattle.prune.proofs.FilterLoop.{FilteredSoFar, filtered_begin, filtered_end, filtered_skip, filtered_turn, filtered_dead, levelled, e_few, k_few}
 use Rattle.prune.proofs.filters.Goals as goal
+use Rattle.prune.proofs.filters.Goals.{then-due+else-mark-eq-FAILED, else-due}
 
 pub loop-e-init : goal.loop-e-init
 unfolding at
@@ -33,13 +34,13 @@ loop-e-preserved c =
   λ p su s g l m.
       let r = c.loop-e.invariant.1 p su s g l m in
       let Next : List ℕ → List ℕ → Type 0 = λ work sets. FilteredSoFar p c.args.k c.args.work.now c.args.sets.now work sets (c.loop-e.e + 1) in
-      ⊎_elim {C = Next c.if-due.work c.if-due.sets}
-      (λ w. subst (λ (z : List ℕ). Next z c.if-due.sets) (sym w.6) (subst (λ (z : List ℕ). Next (set c.loop-e.work (16 * c.args.k + MARKS + c.loop-e.e) w.3.result) z)
-      (sym w.5) (filtered_turn s g c.args.sets.now turn r (sym c.due.ensures ∙ w.0.taken)
-      (w.3.ensures p (levelled s g c.args.sets.now turn r (sym c.due.ensures ∙ w.0.taken))) w.4.left)))
-      (λ w. subst (λ (z : List ℕ). Next z c.if-due.sets) (sym w.2) (subst (λ (z : List ℕ). Next c.loop-e.work z) (sym w.1)
-      (filtered_skip s g c.args.sets.now turn r (sym c.due.ensures ∙ w.0.left))))
-      c.if-due.branch,
+      (elim c.if-due.branch [
+        then-due+else-mark-eq-FAILED w ↦ subst (λ (z : List ℕ). Next z c.if-due.sets) (sym w.work-is) (subst (λ (z : List ℕ). Next (set c.loop-e.work (16 * c.args.k + MARKS + c.loop-e.e) w.filter-mark.result) z)
+        (sym w.sets-is) (filtered_turn s g c.args.sets.now turn r (sym c.due.ensures ∙ w.if-due.true)
+        (w.filter-mark.ensures p (levelled s g c.args.sets.now turn r (sym c.due.ensures ∙ w.if-due.true))) w.if-mark-eq-FAILED.false))
+        | else-due w ↦ subst (λ (z : List ℕ). Next z c.if-due.sets) (sym w.work-is) (subst (λ (z : List ℕ). Next c.loop-e.work z) (sym w.sets-is)
+        (filtered_skip s g c.args.sets.now turn r (sym c.due.ensures ∙ w.if-due.false)))
+      ]),
 )
 
 pub returns : goal.returns

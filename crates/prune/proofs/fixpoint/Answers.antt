@@ -8,6 +8,7 @@ use Rattle.prune.specs.Inner.Steps.{ArraysHold, Blocked, AllConstrained, BeforeF
 use Rattle.prune.proofs.FixpointLoop.{constrained_dead, constrained_done, looks_pending, looks_settled, looks_done, cuts_done, bare_end}
 use Rattle.prune.proofs.{Pending.pruned_none, Pending.nothing_due, Pending.arcs_pending, Starts.some_one}
 use Rattle.prune.proofs.fixpoint.Goals as goal
+use Rattle.prune.proofs.fixpoint.Goals.{then-left-ne0+else-constrain, else-left-ne0}
 
 pub look_ups-looked-requires : goal.look_ups-looked-requires
 unfolding at
@@ -76,9 +77,10 @@ returns-then-numbers-eq0 c =
     (c.arcs-cut.ensures p (arcs_pending s m.startable.pending)) c.if-cut-eq-DEAD.false (search rules) c.touched.ensures in
     let rested : (p : Problem) (gs : List (List ℕ)) → ArraysHold p c.args.supports.now c.args.tables.now c.args.numbers.now → Blocked p gs c.args.numbers.now → BeforeFixpoint p gs c.args.work.now c.args.numbers.now c.args.sets.now c.args.k c.args.todo c.args.dirty → BeforeFixpoint p gs c.args.work.now c.args.numbers.now c.if-left-ne0.sets c.args.k 0 0 = λ p gs s b n. let m = cuts_made p gs s b n in
     constrained_done s b m
-    (⊎_elim {C = AllConstrained p c.arcs-cut.new.sets c.if-left-ne0.sets}
-    (λ w. subst (AllConstrained p _) (sym w.4) ((w.2.ensures p s m.startable.pending).all_constrained w.3.left))
-    (λ w. subst (AllConstrained p _) (sym w.1) (nothing_due s (pruned_none p _) m.startable.pending w.0.left refl)) c.if-left-ne0.branch) in
+    (elim c.if-left-ne0.branch [
+      then-left-ne0+else-constrain w ↦ subst (AllConstrained p _) (sym w.sets-is) ((w.constrain.ensures p s m.startable.pending).all_constrained w.if-constrain.false)
+      | else-left-ne0 w ↦ subst (AllConstrained p _) (sym w.sets-is) (nothing_due s (pruned_none p _) m.startable.pending w.if-left-ne0.false refl)
+    ]) in
     λ p gs s b n. bare_end s b (rested p gs s b n) c.if-numbers-eq0.true
 
 pub alternate-requires : goal.alternate-requires
@@ -92,9 +94,10 @@ alternate-requires c =
     (c.arcs-cut.ensures p (arcs_pending s m.startable.pending)) c.if-cut-eq-DEAD.false (search rules) c.touched.ensures in
     let rested : (p : Problem) (gs : List (List ℕ)) → ArraysHold p c.args.supports.now c.args.tables.now c.args.numbers.now → Blocked p gs c.args.numbers.now → BeforeFixpoint p gs c.args.work.now c.args.numbers.now c.args.sets.now c.args.k c.args.todo c.args.dirty → BeforeFixpoint p gs c.args.work.now c.args.numbers.now c.if-left-ne0.sets c.args.k 0 0 = λ p gs s b n. let m = cuts_made p gs s b n in
     constrained_done s b m
-    (⊎_elim {C = AllConstrained p c.arcs-cut.new.sets c.if-left-ne0.sets}
-    (λ w. subst (AllConstrained p _) (sym w.4) ((w.2.ensures p s m.startable.pending).all_constrained w.3.left))
-    (λ w. subst (AllConstrained p _) (sym w.1) (nothing_due s (pruned_none p _) m.startable.pending w.0.left refl)) c.if-left-ne0.branch) in
+    (elim c.if-left-ne0.branch [
+      then-left-ne0+else-constrain w ↦ subst (AllConstrained p _) (sym w.sets-is) ((w.constrain.ensures p s m.startable.pending).all_constrained w.if-constrain.false)
+      | else-left-ne0 w ↦ subst (AllConstrained p _) (sym w.sets-is) (nothing_due s (pruned_none p _) m.startable.pending w.if-left-ne0.false refl)
+    ]) in
     (c.requires.0, c.requires.1, c.requires.2, c.requires.3, rested c.requires.0 c.requires.1 c.requires.2 c.requires.3 c.requires.4)
 
 pub returns : goal.returns
@@ -108,9 +111,10 @@ returns c =
     (c.arcs-cut.ensures p (arcs_pending s m.startable.pending)) c.if-cut-eq-DEAD.false (search rules) c.touched.ensures in
     let rested : (p : Problem) (gs : List (List ℕ)) → ArraysHold p c.args.supports.now c.args.tables.now c.args.numbers.now → Blocked p gs c.args.numbers.now → BeforeFixpoint p gs c.args.work.now c.args.numbers.now c.args.sets.now c.args.k c.args.todo c.args.dirty → BeforeFixpoint p gs c.args.work.now c.args.numbers.now c.if-left-ne0.sets c.args.k 0 0 = λ p gs s b n. let m = cuts_made p gs s b n in
     constrained_done s b m
-    (⊎_elim {C = AllConstrained p c.arcs-cut.new.sets c.if-left-ne0.sets}
-    (λ w. subst (AllConstrained p _) (sym w.4) ((w.2.ensures p s m.startable.pending).all_constrained w.3.left))
-    (λ w. subst (AllConstrained p _) (sym w.1) (nothing_due s (pruned_none p _) m.startable.pending w.0.left refl)) c.if-left-ne0.branch) in
+    (elim c.if-left-ne0.branch [
+      then-left-ne0+else-constrain w ↦ subst (AllConstrained p _) (sym w.sets-is) ((w.constrain.ensures p s m.startable.pending).all_constrained w.if-constrain.false)
+      | else-left-ne0 w ↦ subst (AllConstrained p _) (sym w.sets-is) (nothing_due s (pruned_none p _) m.startable.pending w.if-left-ne0.false refl)
+    ]) in
     λ p gs s b n. c.alternate.ensures p gs s b (rested p gs s b n)
 
 pub overflow_sub-k : goal.overflow_sub-k

@@ -5,7 +5,7 @@ use Rattle.export_join.proofs.{Wides.wides_start, Wides.wides_turn, Wides.wides_
 use Rattle.export_join.proofs.pieces.put_counts.Goals as goal
 
 pub loop-i-init : goal.loop-i-init
-loop-i-init c = (omega arith, refl, omega arith, wides_start c.args.out.now (at c.args.t2))
+loop-i-init c = (omega arith, refl, omega arith, wides_start c.args.out.now (at c.args.counts))
 
 pub loop-i-preserved : goal.loop-i-preserved
 unfolding at
@@ -14,7 +14,7 @@ loop-i-preserved c =
       omega arith,
       c.eight-place.auto.out ∙ c.loop-i.invariant.1,
       omega (arith, eight_ends _ c.eight-place.ensures, c.loop-i.invariant.2),
-      wides_turn c.loop-i.i (at c.args.t2) (omega (arith, c.loop-i.invariant.2, c.loop-i.invariant.0, c.requires)) c.loop-i.invariant.3 c.eight-place.ensures,
+      wides_turn c.loop-i.i (at c.args.counts) (omega (arith, c.loop-i.invariant.2, c.loop-i.invariant.0, c.requires)) c.loop-i.invariant.3 c.eight-place.ensures,
     )
 
 pub returns : goal.returns

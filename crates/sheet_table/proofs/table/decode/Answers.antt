@@ -7,12 +7,7 @@ use Rattle.sheet_table.proofs.Scans.{seen_none, seen_all, read_out, read_twice, 
 use Rattle.sheet_table.proofs.Scans.{drawn_no, drawn_yes}
 use Rattle.sheet_table.proofs.{Frames.size_lt, Frames.size_is, Targets.blank_same, Targets.blank_moves, Targets.blank_codes}
 use Rattle.sheet_table.proofs.table.decode.Goals as goal
-use Rattle.sheet_table.proofs.table.decode.Lts as Lts
-use Rattle.sheet_table.proofs.table.decode.Reads as Reads
-use Rattle.sheet_table.proofs.table.decode.Tie as Tie
-
-abbrev Else2 : Type 0
-Else2 = Lts.Else2 Tie.the-claims Reads.Pre Reads.Post goal.the-invariant-loop-q goal.the-decreases-loop-q Tie.handed_clauses
+use Rattle.sheet_table.proofs.table.decode.Goals.{then-is_pair+else-not-is_pair+else-seen-y-eq1, else-is_pair+else-y-q}
 
 pub loop-q-init : goal.loop-q-init
 loop-q-init c = (c.requires.1, refl, λ p l. (omega arith, seen_none p _ _ (at_replicate 192), drawn_none p _ _ _))
@@ -58,36 +53,34 @@ loop-q-preserved c =
     let value : (1 ≤ c.number-d.result) × (c.loop-q.q % c.number-d.result < 16) = let v = values c.requires.0.0 c.requires.0.1 in
     let one : 1 ≤ c.number-d.result = omega (arith, c.requires.0.1.framed.stated.one) in
     (one, omega (arith, mod-lt c.loop-q.q one, c.requires.0.1.framed.stated.sixteen)) in
-    let image_in : (p : Problem) → At p → c.read_word-y.result < p.variables * p.values = λ p l. is_pair_lt p _ (T_of _ (sym (c.is_pair-then-is_pair.ensures p l.framed) ∙ c.if-not-is_pair.false)) in
-    let image_small : c.read_word-y.result < 192 = omega (arith, image_in c.requires.0.0 c.requires.0.1, table_small c.requires.0.0 c.requires.0.1.framed.stated) in
-    ⊎_elim
-    (λ w.
-    let t : Else2 = record { before = record { before = record { before = c; if1 = w.0 }; is-pair2 = w.1 }; if2 = w.2 } in (
-      blank_same _ _ _ _ (blank_moves _ _ _ _ (omega (arith, w.4.ensures.1)) value.1 (blank_codes _ _ _ _ c.loop-q.invariant.0)) w.6 w.7,
-      ap length w.8 ∙ simp length-set c.loop-q.invariant.1,
-      λ p l. (
-        omega (arith, inside p l),
-        read_more p _ _ _ _ _ (c.loop-q.invariant.2 p l).1 (inside p l) c.read_word-y.ensures _ w.8 (sym (c.is_pair.ensures p l.framed) ∙ w.0.taken)
-            (sym (w.1.ensures p l.framed) ∙ not-false _ w.2.left) (omega (arith, image_small t, c.loop-q.invariant.1)) w.3.left,
-        read_drawn p l.framed.stated _ _ _ _ _ (c.loop-q.invariant.2 p l).1 (inside p l) c.read_word-y.ensures w.3.left _ _ c.loop-q.invariant.0 _ _ _ (values p l) w.5.ensures w.4.ensures _ _ w.6 w.7 (c.loop-q.invariant.2 p l).2,
-      ),
-    ))
-    (λ w. (
-      blank_same _ _ _ _ c.loop-q.invariant.0 w.2 w.3,
-      ap length w.4 ∙ c.loop-q.invariant.1,
-      λ p l. let e = sym (c.is_pair.ensures p l.framed) ∙ w.0.left in (
-        omega (arith, inside p l),
-        read_same p _ _ _ _ _ (c.loop-q.invariant.2 p l).1 (inside p l) c.read_word-y.ensures _ w.4 e w.1.left,
-        drawn_same p l.framed.stated (table_of p c.args.sheet.now c.args.offset) _ _ _ (c.loop-q.invariant.2 p l).2 e _ _ w.2 w.3,
-      ),
-    ))
-    c.if-is_pair.branch
+    elim c.if-is_pair.branch [
+      then-is_pair+else-not-is_pair+else-seen-y-eq1 w ↦
+          let image_in : c.read_word-y.result < c.requires.0.0.variables * c.requires.0.0.values =
+              is_pair_lt c.requires.0.0 _ (T_of _ (sym (w.is_pair-then-is_pair.ensures c.requires.0.0 c.requires.0.1.framed) ∙ w.if-not-is_pair.false)) in
+          let image_small : c.read_word-y.result < 192 = omega (arith, image_in, table_small c.requires.0.0 c.requires.0.1.framed.stated) in (
+        blank_same _ _ _ _ (blank_moves _ _ _ _ (omega (arith, w.pair_code-e.ensures.1)) value.1 (blank_codes _ _ _ _ c.loop-q.invariant.0)) w.codes-is w.moves-is,
+        ap length w.seen-is ∙ simp length-set c.loop-q.invariant.1,
+        λ p l. (
+          omega (arith, inside p l),
+          read_more p _ _ _ _ _ (c.loop-q.invariant.2 p l).1 (inside p l) c.read_word-y.ensures _ w.seen-is (sym (c.is_pair.ensures p l.framed) ∙ w.if-is_pair.true)
+              (sym (w.is_pair-then-is_pair.ensures p l.framed) ∙ w.if-not-is_pair.false) (omega (arith, image_small, c.loop-q.invariant.1)) w.if-seen-y-eq1.false,
+          read_drawn p l.framed.stated _ _ _ _ _ (c.loop-q.invariant.2 p l).1 (inside p l) c.read_word-y.ensures w.if-seen-y-eq1.false _ _ c.loop-q.invariant.0 _ _ _ (values p l) w.pair_code.ensures w.pair_code-e.ensures _ _ w.codes-is w.moves-is (c.loop-q.invariant.2 p l).2,
+        ),
+      )
+      | else-is_pair+else-y-q w ↦ (
+        blank_same _ _ _ _ c.loop-q.invariant.0 w.codes-is w.moves-is,
+        ap length w.seen-is ∙ c.loop-q.invariant.1,
+        λ p l. let e = sym (c.is_pair.ensures p l.framed) ∙ w.if-is_pair.false in (
+          omega (arith, inside p l),
+          read_same p _ _ _ _ _ (c.loop-q.invariant.2 p l).1 (inside p l) c.read_word-y.ensures _ w.seen-is e w.if-y-q.false,
+          drawn_same p l.framed.stated (table_of p c.args.sheet.now c.args.offset) _ _ _ (c.loop-q.invariant.2 p l).2 e _ _ w.codes-is w.moves-is,
+        ),
+      )
+    ]
 
 pub returns : goal.returns
 returns c =
     let At : Problem → Type 0 = λ p. TableAt p c.args.sheet.now c.args.offset c.args.numbers.now in
-    let inside : (p : Problem) → At p → c.loop-q.q < p.variables * p.values = λ p l. subst (λ (n : ℕ). c.loop-q.q < n) (size_is p _ l.framed _ _ c.number.ensures c.number-d.ensures) c.loop-q-test.true in
-    let room : c.args.offset + 2 * c.loop-q.q + 2 ≤ length c.args.sheet.now = omega (arith, inside c.requires.0.0 c.requires.0.1, c.requires.0.1.whole) in
     let over : (p : Problem) → At p → c.loop-q.q ≡ p.variables * p.values = λ p l. omega (arith, size_is p _ l.framed _ _ c.number.ensures c.number-d.ensures, c.loop-q-test.false, (c.loop-q.invariant.2 p l).0) in
     record {
       room = c.loop-q.invariant.0;
