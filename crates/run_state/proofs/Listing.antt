@@ -4,7 +4,7 @@ use Rattle.model.specs.Lists.{at}
 use Rattle.model.proofs.Lists.{at_set, at_set_other}
 use Rattle.order.specs.Reordered.{write}
 use Rattle.arrays.specs.Inner.Places.{PLANS, ALL, FULL, WORK}
-use Rattle.run_state.specs.{Inner.Walk.noted, Inner.Walk.listed, Inner.Pair.prefix_of, Inner.Pair.ListRoom, Inner.Pair.Listed}
+use Rattle.run_state.specs.{Inner.Walk.noted, Inner.Pair.prefix_of, Inner.Pair.ListRoom, Inner.Pair.Listed}
 use Rattle.run_state.proofs.Walk.{listed_full, listed_kept}
 
 module _ (n room : ℕ) (list : List ℕ) (plans : ℕ) (h : ListRoom n room list plans) (e : plans ≡ room → ⊥) where

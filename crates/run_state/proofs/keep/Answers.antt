@@ -15,7 +15,7 @@ overflow_cast-list c =
 pub overflow_add-list : goal.overflow_add-list
 unfolding at
 overflow_add-list c =
-    omega (arith, c.before.before.before.before.well_formed_lem.0.0, settling_inside c.args.numbers.now c.args.n c.loop-i.i c.requires.by_index.1 (omega arith))
+    omega (arith, c.well_formed.0.0, settling_inside c.args.numbers.now c.args.n c.loop-i.i c.requires.by_index.1 (omega arith))
 
 pub bounds-list-start : goal.bounds-list-start
 unfolding at

@@ -9,7 +9,7 @@ returns-then-list-eq0 c = sym (noted_none _ _ _ c.if-list-eq0.true)
 
 pub overflow_mul-plans : goal.overflow_mul-plans
 unfolding at
-overflow_mul-plans c = omega (arith, fits_bytes _ _ _ _ c.requires.list_room.0 c.requires.list_room.1 c.if-list-eq0.false, c.before.before.before.before.before.well_formed_lem.0.0)
+overflow_mul-plans c = omega (arith, fits_bytes _ _ _ _ c.requires.list_room.0 c.requires.list_room.1 c.if-list-eq0.false, c.well_formed.0.0)
 
 pub keep-requires : goal.keep-requires
 unfolding at
