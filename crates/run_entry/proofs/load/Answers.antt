@@ -13,7 +13,7 @@ loop-i-init c = (omega arith, c.requires.0, refl, loaded_none _ _ _ _ _)
 pub overflow_add-work : goal.overflow_add-work
 unfolding at
 overflow_add-work c =
-    omega (arith, c.before.before.before.well_formed_lem.1.1.0.0, c.requires.3, settling_inside c.args.numbers.now c.args.n c.loop-i.i c.requires.4 (omega arith))
+    omega (arith, c.well_formed.1.1.0.0, c.requires.3, settling_inside c.args.numbers.now c.args.n c.loop-i.i c.requires.4 (omega arith))
 
 pub bounds-list-from : goal.bounds-list-from
 unfolding at
@@ -39,4 +39,4 @@ pub returns : goal.returns
 returns c = let e : c.loop-i.i ≡ c.args.n = omega arith in record { loaded = subst (λ (n : ℕ). Loaded c.args.numbers.now c.args.list.now c.args.k n (c.args.row * c.args.n) c.args.work.now c.loop-i.work) e c.loop-i.invariant.3; list_unchanged = refl }
 
 pub overflow_mul-from : goal.overflow_mul-from
-overflow_mul-from c = omega (arith, c.well_formed_lem.1.1.0.0, c.requires.3)
+overflow_mul-from c = omega (arith, c.well_formed.1.1.0.0, c.requires.3)

@@ -16,7 +16,7 @@ overflow_add-from-2 c = omega (
   c.requires.4,
   c.requires.0.third,
   c.requires.3,
-  c.before.before.before.before.before.before.well_formed_lem,
+  c.well_formed,
 )
 
 pub overflow_mul-next : goal.overflow_mul-next
@@ -44,7 +44,7 @@ overflow_add-next c = omega (
   c.requires.4,
   c.requires.0.third,
   c.requires.3,
-  c.before.before.before.before.before.before.well_formed_lem,
+  c.well_formed,
 )
 
 pub returns-then-third-next : goal.returns-then-third-next

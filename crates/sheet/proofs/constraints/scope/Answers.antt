@@ -59,7 +59,7 @@ pub overflow_mul-i : goal.overflow_mul-i
 overflow_mul-i c = omega (arith, c.loop-i-test.true, c.requires.1)
 
 pub overflow_add-from : goal.overflow_add-from
-overflow_add-from c = omega (arith, c.loop-i-test.true, c.requires.4, c.before.before.before.well_formed_lem)
+overflow_add-from c = omega (arith, c.loop-i-test.true, c.requires.4, c.well_formed)
 
 pub read_word-x-requires : goal.read_word-x-requires
 read_word-x-requires c = omega (arith, c.loop-i-test.true, c.requires.4)

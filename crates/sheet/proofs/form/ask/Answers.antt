@@ -52,7 +52,7 @@ tables_fit-requires c =
       omega
           (arith, f.symmetries, ap (λ (x : Numbers). x.symmetries) c.requires.1),
       omega
-          (arith, f.third, ap (λ (x : Numbers). x.third) c.requires.1, c.before.before.before.before.before.before.before.before.before.before.before.before.before.well_formed_lem),
+          (arith, f.third, ap (λ (x : Numbers). x.third) c.requires.1, c.well_formed),
     )
 
 pub returns-then-not-tables_fit : goal.returns-then-not-tables_fit

@@ -19,7 +19,7 @@ overflow_add-at c = omega (
       c.args.a c.loop-i-test.true,
   c.loop-i.invariant.1.here,
   c.requires.4,
-  c.before.before.before.before.before.before.before.before.well_formed_lem,
+  c.well_formed,
 )
 
 pub loop-i-preserved : goal.loop-i-preserved

@@ -53,7 +53,7 @@ overflow_add-at c =
       same_size c.args.h.variables c.args.h.values _ _
           (ap (λ (x : Numbers). x.variables) c.requires.1)
           (ap (λ (x : Numbers). x.values) c.requires.1),
-      c.before.before.before.before.before.before.well_formed_lem,
+      c.well_formed,
     )
 
 pub overflow_add-e : goal.overflow_add-e

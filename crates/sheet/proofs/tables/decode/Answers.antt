@@ -25,10 +25,10 @@ pub returns : goal.returns
 returns c = decode_end _ _ _ _ _ _ _ _ c.loop-q-test.false c.loop-q.invariant.0 c.loop-q.invariant.1
 
 pub overflow_mul-q : goal.overflow_mul-q
-overflow_mul-q c = omega (arith, c.loop-q-test.true, c.requires.whole, c.before.before.before.well_formed_lem)
+overflow_mul-q c = omega (arith, c.loop-q-test.true, c.requires.whole, c.well_formed)
 
 pub overflow_add-from : goal.overflow_add-from
-overflow_add-from c = omega (arith, c.loop-q-test.true, c.requires.whole, c.before.before.before.well_formed_lem)
+overflow_add-from c = omega (arith, c.loop-q-test.true, c.requires.whole, c.well_formed)
 
 pub read_word-y-requires : goal.read_word-y-requires
 read_word-y-requires c = omega (arith, c.loop-q-test.true, c.requires.whole)

@@ -79,7 +79,7 @@ overflow_add-from c =
     let answered : c.permuted.result ≡ permuted_at c.args.sheet.now c.loop-e.e = c.permuted.ensures ∙ ap (permutes_pairs (problem_of c.args.sheet.now)) (table_is _ _ _ c.loop-e.invariant.1.here) in
     let passes : permuted_at c.args.sheet.now c.loop-e.e ≡ true = sym answered ∙ c.if-not-permuted.false in
     let ready : Decodable c.args.sheet.now c.loop-e.from (c.args.h.variables * c.args.h.values) c.args.h.values (192 * c.loop-e.e) c.loop-e.images = decodable _ known _ _ _ c.loop-e.invariant.1 inside _ _ values_are size_is passes in
-    omega (arith, ready.whole, c.before.before.before.before.before.before.before.before.well_formed_lem)
+    omega (arith, ready.whole, c.well_formed)
 
 pub overflow_add-e : goal.overflow_add-e
 overflow_add-e c =

@@ -74,7 +74,7 @@ returns c =
     goes_2 _ _
     (ap₂ bit_and (ap₂ bit_and c.number.ensures c.number-2.ensures) c.number-3.ensures) c.pick-m.ensures in
     λ q p vs codes z w s. carried_all p vs _ _ codes _ _ _ _ _ _ _ s c.if-ahead-ne2.false
-    (three (c) p vs codes z w s) _ _ _ (to_1 p vs codes z w s) (to_2 p vs codes z w s) (across p vs codes z w s)
+    (three p vs codes z w s) _ _ _ (to_1 p vs codes z w s) (to_2 p vs codes z w s) (across p vs codes z w s)
     (c.rows_from.ensures q p (across p vs codes z w s))
 
 pub turned-requires : goal.turned-requires

@@ -21,8 +21,7 @@ rows_from-requires c =
     let to_0 : ℕ = c.place-x.result in
     let to_1 : ℕ = c.place-y.result in
     let to_2 : ℕ = c.place-z.result in
-    let start : goal.Start = c in
-    let three : (p : Problem) (codes : List ℕ) → At start p codes → On start p c.pick.result to_0 to_1 to_2 = λ p codes s. three_of p _ _ s.lent.ready _ _ _ (small _ _ c.place-x.ensures.0) (small _ _ c.place-y.ensures.0)
+    let three : (p : Problem) (codes : List ℕ) → At p codes → On p c.pick.result to_0 to_1 to_2 = λ p codes s. three_of p _ _ s.lent.ready _ _ _ (small _ _ c.place-x.ensures.0) (small _ _ c.place-y.ensures.0)
     (small _ _ c.place-z.ensures.0) _ _
     (ap₂ bit_and (ap₂ bit_and c.number.ensures c.number-2.ensures) c.number-3.ensures) c.pick.ensures in
     (
@@ -45,14 +44,13 @@ returns c =
     let to_0 : ℕ = c.place-x.result in
     let to_1 : ℕ = c.place-y.result in
     let to_2 : ℕ = c.place-z.result in
-    let start : goal.Start = c in
-    let three : (p : Problem) (codes : List ℕ) → At start p codes → On start p c.pick.result to_0 to_1 to_2 = λ p codes s. three_of p _ _ s.lent.ready _ _ _ (small _ _ c.place-x.ensures.0) (small _ _ c.place-y.ensures.0)
+    let three : (p : Problem) (codes : List ℕ) → At p codes → On p c.pick.result to_0 to_1 to_2 = λ p codes s. three_of p _ _ s.lent.ready _ _ _ (small _ _ c.place-x.ensures.0) (small _ _ c.place-y.ensures.0)
     (small _ _ c.place-z.ensures.0) _ _
     (ap₂ bit_and (ap₂ bit_and c.number.ensures c.number-2.ensures) c.number-3.ensures) c.pick.ensures in
     λ q p codes s.
     let v = c.args.moves.now in
     let h = three p codes s in
-    let k = start.args.k in
+    let k = c.args.k in
     let i = three_in p _ _ v _ k _ _ _ h c.if-x-y.false c.if-x-z.false in
     whole_kept p _ _ codes _ _ s _ _ _ _ (c.place-x.ensures.0 ∙ ap (λ (n : ℕ). at v (192 + n)) (is_0 p codes s))
     (c.place-y.ensures.0 ∙ ap (λ (n : ℕ). at v (192 + n)) (is_1 p codes s))
