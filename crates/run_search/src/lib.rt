@@ -156,8 +156,17 @@ pub fn explore(
         return step;
     }
     let m = run_state::candidates(stack, 0);
-    let mut sink = &mut *list;
+    let mut held = (list,);
+    let sink = &mut held;
     run_tree::settle(
-        stack, work, supports, tables, numbers, &mut sink, tally, 0, m,
+        stack,
+        work,
+        supports,
+        tables,
+        numbers,
+        &mut sink.0,
+        tally,
+        0,
+        m,
     )
 }

@@ -161,10 +161,19 @@ pub fn walk_counted(
         work.old numbers.now list.old (tally_in before) k stack.new work.new list.new
         (tally_in result.tally) result.stop }
 {
-    let mut sink = &mut *list;
+    let mut held = (list,);
+    let sink = &mut held;
     let mut tally = before;
     let stop = settle(
-        stack, work, supports, tables, numbers, &mut sink, &mut tally, k, m,
+        stack,
+        work,
+        supports,
+        tables,
+        numbers,
+        &mut sink.0,
+        &mut tally,
+        k,
+        m,
     );
     CountedPart { stop, tally }
 }

@@ -15,12 +15,11 @@ positions-positions-requires c = few_variables _ _ _ _ _ _ _ _ c.compile-verdict
 
 pub begin-requires : goal.begin-requires
 unfolding at
-begin-requires c =
-    (
-      (_, _, _, laid _ _ _ _ _ _ _ _ c.compile-verdict.ensures c.in-Accepted.is c.args.limit _ _ c.put_bounds.ensures _ c.positions-positions.ensures),
-      record
-          { stack_length = c.requires.stack_length; work_length = c.requires.work_length; tables_length = c.requires.tables_length },
-    )
+begin-requires c = (
+  (_, _, _, laid _ _ _ _ _ _ _ _ c.compile-verdict.ensures c.in-Accepted.is c.args.limit _ _ c.put_bounds.ensures _ c.positions-positions.ensures),
+  record
+      { stack_length = c.requires.stack_length; work_length = c.requires.work_length; tables_length = c.requires.tables_length },
+)
 
 pub returns-in-Accepted : goal.returns-in-Accepted
 unfolding at
