@@ -1,36 +1,12 @@
--- The facts that the walks of `settle` and `try_value` need at each call, and what the tests of the code say of numbers. Assumes nothing.
-use denote.Ref.{MutBor}
-use Rattle.model.specs.Kit.{◌≡◌, sym, ap, ◌∙◌, subst, not, List, ℕ, ◌+◌, ◌-◌, ◌*◌, ◌^◌, ◌≤◌, ◌<◌, arith, T, T_not, eqb, ltb, ltb→lt, lt→ltb, eqb→eq, eqb_refl, dec_lt, length, RefT}
+-- The facts that `settle` and `try_value` need at each call. Assumes nothing.
+use Rattle.model.specs.Kit.{◌≡◌, sym, ap, ◌∙◌, subst, List, ℕ, ◌+◌, ◌-◌, ◌*◌, ◌^◌, ◌≤◌, ◌<◌, arith, length}
 use Rattle.model.specs.{Lists.at, ValueSets.without_mask, ValueSets.lowest_of, Problem.Problem, Search.nodes_below, Run.Tally}
-use denote.Ref.{at_last}
 use Rattle.arrays.specs.Inner.Places.{PLANS, ALL, DEEPER, WORK, DIAGONAL, ASKS, VAIN}
 use Rattle.run_state.specs.Inner.Walk.{with_node}
 use Rattle.run_state.specs.Inner.Pair.{prefix_of, settling, Countable, Counted, AtPrefix, AtValues, AtValue, Walked, Entered, tried, lowest_tried}
 use Rattle.run_memo.specs.Inner.Steps.{AtLook, grown_by, Looked, AtNote, Noted}
-use Rattle.loans.specs.Inner.Slices.{SameSlice}
 use Rattle.run_state.proofs.Written.{settling_inside}
 use Rattle.run_tree.proofs.Turns.{turn_asks, turn_goes, values_ask, tried_all, μ_settle, rest_falls}
-
--- ---- tests
-pub ne_of : (m n : ℕ) → T (not (eqb m n)) → m ≡ n → ⊥
-ne_of m n z e = T_not (eqb m n) z (subst (λ (k : ℕ). T (eqb m k)) e (eqb_refl m))
-
-pub eq_of : (m n : ℕ) → T (not (not (eqb m n))) → m ≡ n
-eq_of m n z = eqb→eq m n (not_not (eqb m n) z)
-  where
-    not_not : (b : mathlib.Core.Bool.Bool) → T (not (not b)) → T b
-    not_not mathlib.Core.Bool.true z = tt
-    not_not mathlib.Core.Bool.false z = absurd z
-
-pub lt_of : (m n : ℕ) → T (ltb m n) → m < n
-lt_of m n z = ltb→lt m n z
-
-pub ge_of : (m n : ℕ) → T (not (ltb m n)) → n ≤ m
-ge_of m n z = go (dec_lt m n)
-  where
-    go : Dec (m < n) → n ≤ m
-    go (yes l) = absurd (T_not (ltb m n) z (lt→ltb m n l))
-    go (no l) = omega arith
 
 -- ---- `settle`: the values but the lowest are j
 module _ (p : Problem) (stack work supports tables numbers list : List ℕ) (tally : Tally) (k m : ℕ) (h : AtValues p stack work supports tables numbers list tally k m) (some : 0 < m)
@@ -135,7 +111,3 @@ module _ (p : Problem) (stack work supports tables numbers list : List ℕ) (tal
                   (lowest_tried p work k m) stack work numbers list tally k stack₃ work₃ list₃ tally₃ stop
               note_goes v = next_goes stack₃ work₃ list₃ tally₃ stop (subst (λ (ts : List (List ℕ)). Walked p ts stack' work' numbers list' tally' (k + 1) stack₃ work₃ list₃ tally₃ stop)
                   (sym below_is) v)
-
--- a slice that stays the same slice twice
-pub same_on : (x y z : MutBor (List ℕ)) → SameSlice x y → SameSlice y z → SameSlice x z
-same_on x y z e f = (f.0 ∙ ap (λ (u : MutBor (List ℕ)). at_last u z.now) e.0, f.1 ∙ e.1)
