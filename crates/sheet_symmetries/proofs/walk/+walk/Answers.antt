@@ -3,7 +3,7 @@ use Rattle.model.specs.Kit.{◌≡◌, refl, ◌∙◌, ap, true, not, List, [],
 use Rattle.model.specs.{Lists.at, Problem.Problem, Problem.constraint_at}
 use Rattle.model.proofs.Lowest.{lowest_le, some_left, none_left}
 use Rattle.sheet_table.specs.Inner.Table.{Framed}
-use Rattle.sheet_table.specs.Inner.Forbidden.{Walking, Choices}
+use Rattle.sheet_table.specs.Inner.Forbidden.{Walking}
 use Rattle.sheet_carried.proofs.Walks.{last_beside, last_all, choices_over, next_place, next_less, next_spot, next_key, next_walk, walk_stop, walk_rest}
 use Rattle.sheet_symmetries.proofs.walk.+walk.Goals as goal
 

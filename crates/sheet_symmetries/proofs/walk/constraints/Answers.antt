@@ -3,10 +3,8 @@ use Rattle.model.specs.{Problem.Problem, Problem.Constraint, Problem.constraint_
 use Rattle.sheet_table.specs.Inner.Forbidden.{Lent, Walking, keeps}
 use Rattle.sheet_table.proofs.{Codes.good, Laws.list_stop, Laws.list_rest, Laws.list_over}
 use Rattle.sheet_carried.proofs.Walks.{walk_start}
+use Rattle.sheet_symmetries.proofs.walk.constraints.Invariants.{kept}
 use Rattle.sheet_symmetries.proofs.walk.constraints.Goals as goal
-
-abbrev kept : Problem → List ℕ → Constraint → Bool
-kept p codes c = keeps p codes c c.scope []
 
 abbrev none : Constraint
 none = record { scope = []; rows = [] }

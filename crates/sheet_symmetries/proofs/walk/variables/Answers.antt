@@ -2,10 +2,8 @@ use Rattle.model.specs.Kit.{◌≡◌, sym, ◌∙◌, Bool, List, ℕ, ◌<◌,
 use Rattle.model.specs.{Lists.at, ValueSets.members, Problem.Problem}
 use Rattle.sheet_table.specs.Inner.Forbidden.{Lent, doublings}
 use Rattle.sheet_table.proofs.Laws.{numbers_start, numbers_stop, numbers_rest, numbers_over}
+use Rattle.sheet_symmetries.proofs.walk.variables.Invariants.{kept}
 use Rattle.sheet_symmetries.proofs.walk.variables.Goals as goal
-
-abbrev kept : Problem → List ℕ → ℕ → Bool
-kept p codes x = doublings p codes x (members (at p.initial x))
 
 pub loop-x-init : goal.loop-x-init
 loop-x-init c = λ p l. (omega arith, numbers_start (kept p _) p.variables)
