@@ -51,11 +51,5 @@ pub returns : goal.returns
 returns c = constraints_end _ _ _ _ _ _ _ _ c.loop-k.invariant.1 c.loop-k-test.false c.loop-k.invariant.0
     (ap (λ (x : Numbers). x.constraints) c.requires.1) _ (ap (λ (x : Numbers). x.third) c.requires.1) c.if-o-h.false
 
-pub enum_known-step : goal.enum_known-step
-enum_known-step c = c.in-Refused.keys1
-
-pub enum_known-step-in-Next-1 : goal.enum_known-step-in-Next-1
-enum_known-step-in-Next-1 c = c.in-Refused.keys2
-
 pub loop-k-smaller : goal.loop-k-smaller
 loop-k-smaller c = omega (arith, c.loop-k-test.true)
