@@ -15,12 +15,12 @@ loop-i-preserved c =
       omega arith,
       c.four-at.auto.out ∙ c.loop-i.invariant.1,
       omega (arith, c.four-at.ensures.ends, c.loop-i.invariant.2),
-      numbers_turn c.args.start c.loop-i.i c.args.t3 (omega (arith, c.requires.1.long)) (omega (arith, c.loop-i.invariant.2, c.loop-i.invariant.0, c.requires.0)) c.loop-i.invariant.3 c.four-at.ensures,
+      numbers_turn c.args.start c.loop-i.i c.args.counts (omega (arith, c.requires.1.long)) (omega (arith, c.loop-i.invariant.2, c.loop-i.invariant.0, c.requires.0)) c.loop-i.invariant.3 c.four-at.ensures,
     )
 
 pub returns : goal.returns
 returns c =
-    numbers_all c.args.start c.loop-i.i c.args.t3 c.requires.1.long c.loop-i-test.false c.loop-i.invariant.0 c.loop-i.invariant.2 c.loop-i.invariant.3
+    numbers_all c.args.start c.loop-i.i c.args.counts c.requires.1.long c.loop-i-test.false c.loop-i.invariant.0 c.loop-i.invariant.2 c.loop-i.invariant.3
 
 pub four-at-requires : goal.four-at-requires
 four-at-requires c = (omega arith, c.requires.1.small c.loop-i.i)
