@@ -156,6 +156,7 @@ pub fn explore(
         return step;
     }
     let m = run_state::candidates(stack, 0);
+    // The list is lent as a field, since of a slice's reference that is a variable itself it isn't known what a callee leaves.
     let mut held = (list,);
     let sink = &mut held;
     run_tree::settle(

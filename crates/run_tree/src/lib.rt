@@ -161,6 +161,7 @@ pub fn walk_counted(
         work.old numbers.now list.old (tally_in before) k stack.new work.new list.new
         (tally_in result.tally) result.stop }
 {
+    // The list is lent as a field, since of a slice's reference that is a variable itself it isn't known what a callee leaves.
     let mut held = (list,);
     let sink = &mut held;
     let mut tally = before;
