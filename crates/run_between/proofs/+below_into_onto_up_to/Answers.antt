@@ -27,7 +27,7 @@ below-returns-then-b-a t c = λ p h.
 
 pub below-into-requires : goal.below-into-requires
 unfolding at
-below-into-requires t c = 
+below-into-requires t c =
     let p = c.requires.0 in
     let h = c.requires.1 in
     let some : 0 < length c.args.upto.now = omega arith in
@@ -44,7 +44,7 @@ below-returns-then-a-b t c = λ p h.
 
 pub below-into-part-requires : goal.below-into-part-requires
 unfolding at
-below-into-part-requires t c = 
+below-into-part-requires t c =
     let p = c.requires.0 in
     let h = c.requires.1 in
     let some : 0 < length c.args.upto.now = omega arith in
@@ -61,7 +61,7 @@ below-returns-then-part-ne-ALL t c = λ p h.
 
 pub below-up_to-requires-2 : goal.below-up_to-requires-2
 unfolding at
-below-up_to-requires-2 t c = 
+below-up_to-requires-2 t c =
     let p = c.requires.0 in
     let h = c.requires.1 in
     let some : 0 < length c.args.upto.now = omega arith in
@@ -84,7 +84,7 @@ into-returns-then-k-numbers t c = λ p h. into_last p _ _ _ _ _ _ _ _ _ h _ (c.i
 
 pub into-step-requires : goal.into-step-requires
 unfolding at
-into-step-requires t c = 
+into-step-requires t c =
     let p = c.requires.0 in
     let h = c.requires.1 in
     (p, _, _, (into_asks p _ _ _ _ _ _ _ _ _ h (λ z. c.if-k-numbers.false (z ∙ sym h.prefix.ready.indexed.numbered.variables))))
@@ -95,7 +95,7 @@ into-returns-then-not-step t c = λ p h. into_ends p _ _ _ _ _ _ _ _ _ h _ _ _ (
 
 pub into-below-requires : goal.into-below-requires
 unfolding at
-into-below-requires t c = 
+into-below-requires t c =
     let p = c.requires.0 in
     let h = c.requires.1 in
     let few = into_few p _ _ _ _ _ _ _ _ _ h in
@@ -115,7 +115,7 @@ onto-returns-then-tally-limit t c = λ p h. onto_spent p _ _ _ _ _ _ _ _ c.args.
 
 pub onto-with_node-next-requires : goal.onto-with_node-next-requires
 unfolding at
-onto-with_node-next-requires t c = 
+onto-with_node-next-requires t c =
     let p = c.requires.0 in
     let h = c.requires.1 in
     subst (λ (x : ℕ). Countable x (tally_in c.args.tally)) (sym c.variable_at-x.ensures)
@@ -123,7 +123,7 @@ onto-with_node-next-requires t c =
 
 pub onto-put_node-requires : goal.onto-put_node-requires
 unfolding at
-onto-put_node-requires t c = 
+onto-put_node-requires t c =
     let p = c.requires.0 in
     let h = c.requires.1 in
     (p, _, _, (onto_asks p _ _ _ _ _ _ _ _ c.args.v c.args.upto.now h (onto_there p _ _ _ _ _ _ _ _ c.args.v c.args.upto.now h _ _ c.wide.ensures.0 c.contains.ensures (ap not c.if-not-contains.false)) (λ z. c.if-tally-limit.false (z ∙ sym c.limit.ensures))))
@@ -135,12 +135,17 @@ onto-returns-then-not-put_node t c = λ p h. onto_dead p _ _ _ _ _ _ _ _ c.args.
 
 pub onto-below-requires : goal.onto-below-requires
 unfolding at
-onto-below-requires t c = 
+onto-below-requires t c =
     let p = c.requires.0 in
     let h = c.requires.1 in
-    let few = onto_few p _ _ _ _ _ _ _ _ c.args.v c.args.upto.now h in
-    (omega (arith, c.decreases, few), (p, onto_next p _ _ _ _ _ _ _ _ c.args.v c.args.upto.now h (onto_there p _ _ _ _ _ _ _ _ c.args.v c.args.upto.now h _ _ c.wide.ensures.0 c.contains.ensures (ap not c.if-not-contains.false)) (λ z. c.if-tally-limit.false (z ∙ sym c.limit.ensures)) _ _ _ (c.put_node.ensures p _ _ (onto_asks p _ _ _ _ _ _ _ _ c.args.v c.args.upto.now h (onto_there p _ _ _ _ _ _ _ _ c.args.v c.args.upto.now h _ _ c.wide.ensures.0 c.contains.ensures (ap not c.if-not-contains.false)) (λ z. c.if-tally-limit.false (z ∙ sym c.limit.ensures)))) _
-    (c.with_node-next.ensures.is ∙ ap (λ (x : ℕ). with_node x (tally_in c.args.tally)) c.variable_at-x.ensures) c.if-not-put_node.false))
+    let few = onto_few p _ _ _ _ _ _ _ _ c.args.v c.args.upto.now h in (
+      omega (arith, c.decreases, few),
+      (
+        p,
+        onto_next p _ _ _ _ _ _ _ _ c.args.v c.args.upto.now h (onto_there p _ _ _ _ _ _ _ _ c.args.v c.args.upto.now h _ _ c.wide.ensures.0 c.contains.ensures (ap not c.if-not-contains.false)) (λ z. c.if-tally-limit.false (z ∙ sym c.limit.ensures)) _ _ _ (c.put_node.ensures p _ _ (onto_asks p _ _ _ _ _ _ _ _ c.args.v c.args.upto.now h (onto_there p _ _ _ _ _ _ _ _ c.args.v c.args.upto.now h _ _ c.wide.ensures.0 c.contains.ensures (ap not c.if-not-contains.false)) (λ z. c.if-tally-limit.false (z ∙ sym c.limit.ensures)))) _
+            (c.with_node-next.ensures.is ∙ ap (λ (x : ℕ). with_node x (tally_in c.args.tally)) c.variable_at-x.ensures) c.if-not-put_node.false,
+      ),
+    )
 
 pub onto-returns : goal.onto-returns
 unfolding at
@@ -150,7 +155,7 @@ onto-returns t c = λ p h. onto_then p _ _ _ _ _ _ _ _ c.args.v c.args.upto.now 
 
 pub up_to-walk_counted-requires : goal.up_to-walk_counted-requires
 unfolding at
-up_to-walk_counted-requires t c = 
+up_to-walk_counted-requires t c =
     let p = c.requires.0 in
     let h = c.requires.1 in
     (p, (up_values p _ _ _ _ _ _ _ _ _ _ h _ _ c.values_within-all.ensures))
@@ -162,7 +167,7 @@ up_to-returns-then-k-numbers t c = λ p h. up_last p _ _ _ _ _ _ _ _ _ _ h _ _ c
 
 pub up_to-walk_counted-part-requires : goal.up_to-walk_counted-part-requires
 unfolding at
-up_to-walk_counted-part-requires t c = 
+up_to-walk_counted-part-requires t c =
     let p = c.requires.0 in
     let h = c.requires.1 in
     (p, (up_values p _ _ _ _ _ _ _ _ _ _ h _ _ c.values_within-m.ensures))
@@ -173,15 +178,19 @@ up_to-returns-then-part-ne-ALL t c = λ p h. up_stops p _ _ _ _ _ _ _ _ _ _ h _ 
 
 pub up_to-onto-requires : goal.up_to-onto-requires
 unfolding at
-up_to-onto-requires t c = 
+up_to-onto-requires t c =
     let p = c.requires.0 in
-    let h = c.requires.1 in
-    (omega (arith, c.decreases), (p, up_asks p _ _ _ _ _ _ _ _ _ _ h _ _ c.values_within-m.ensures _ _ _ _ _ (c.walk_counted-part.ensures p (up_values p _ _ _ _ _ _ _ _ _ _ h _ _ c.values_within-m.ensures)) c.wide-high.ensures.0
-    (λ z. c.if-k-numbers.false (z ∙ sym h.prefix.ready.indexed.numbered.variables))))
+    let h = c.requires.1 in (
+      omega (arith, c.decreases),
+      (
+        p,
+        up_asks p _ _ _ _ _ _ _ _ _ _ h _ _ c.values_within-m.ensures _ _ _ _ _ (c.walk_counted-part.ensures p (up_values p _ _ _ _ _ _ _ _ _ _ h _ _ c.values_within-m.ensures)) c.wide-high.ensures.0
+            (λ z. c.if-k-numbers.false (z ∙ sym h.prefix.ready.indexed.numbered.variables)),
+      ),
+    )
 
 pub up_to-returns : goal.up_to-returns
 unfolding at
 up_to-returns t c = λ p h. up_then p _ _ _ _ _ _ _ _ _ _ h _ _ c.values_within-m.ensures _ _ _ _ _ (c.walk_counted-part.ensures p (up_values p _ _ _ _ _ _ _ _ _ _ h _ _ c.values_within-m.ensures)) c.wide-high.ensures.0 c.if-part-ne-ALL.false _ refl _
     (part_to_end c.args.upto.now 1) _ _ _ _ _ (c.onto.ensures p (up_asks p _ _ _ _ _ _ _ _ _ _ h _ _ c.values_within-m.ensures _ _ _ _ _ (c.walk_counted-part.ensures p (up_values p _ _ _ _ _ _ _ _ _ _ h _ _ c.values_within-m.ensures)) c.wide-high.ensures.0
     (λ z. c.if-k-numbers.false (z ∙ sym h.prefix.ready.indexed.numbered.variables))))
-
