@@ -11,18 +11,16 @@ returns-then-load c =
     c.clear.ensures
 
 pub propagate-ending-requires : goal.propagate-ending-requires
-propagate-ending-requires c =
-    (
-      length c.args.sets.now,
-      load_ready c.args.sets.now (entries c.args.index.now c.args.equal.now c.args.not_equal.now) c.load.new.target c.load.result c.load.ensures
-          c.if-load.false c.requires.1,
-    )
+propagate-ending-requires c = (
+  length c.args.sets.now,
+  load_ready c.args.sets.now (entries c.args.index.now c.args.equal.now c.args.not_equal.now) c.load.new.target c.load.result c.load.ensures
+      c.if-load.false c.requires.1,
+)
 
 pub store-requires : goal.store-requires
 store-requires c =
     let scanned : ScanResult c.propagate-ending.result (length c.args.sets.now) c.load.new.target (entries c.args.index.now c.args.equal.now c.args.not_equal.now) c.propagate-ending.new.sets = c.propagate-ending.ensures (length c.args.sets.now) (load_ready c.args.sets.now (entries c.args.index.now c.args.equal.now c.args.not_equal.now) c.load.new.target c.load.result
-    c.load.ensures c.if-load.false c.requires.1) in
-    (
+    c.load.ensures c.if-load.false c.requires.1) in (
       search rules,
       entailed_sixteen c.args.sets.now (entries c.args.index.now c.args.equal.now c.args.not_equal.now) c.load.new.target c.load.result c.load.ensures
           c.if-load.false c.propagate-ending.new.sets c.propagate-ending.result scanned c.in-Entailed.is,
@@ -31,8 +29,7 @@ store-requires c =
 pub store-requires-in-Consistent : goal.store-requires-in-Consistent
 store-requires-in-Consistent c =
     let scanned : ScanResult c.propagate-ending.result (length c.args.sets.now) c.load.new.target (entries c.args.index.now c.args.equal.now c.args.not_equal.now) c.propagate-ending.new.sets = c.propagate-ending.ensures (length c.args.sets.now) (load_ready c.args.sets.now (entries c.args.index.now c.args.equal.now c.args.not_equal.now) c.load.new.target c.load.result
-    c.load.ensures c.if-load.false c.requires.1) in
-    (
+    c.load.ensures c.if-load.false c.requires.1) in (
       search rules,
       consistent_sixteen c.args.sets.now (entries c.args.index.now c.args.equal.now c.args.not_equal.now) c.load.new.target c.load.result c.load.ensures
           c.if-load.false c.propagate-ending.new.sets c.propagate-ending.result scanned c.in-Consistent.is,

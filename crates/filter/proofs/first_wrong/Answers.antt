@@ -15,12 +15,11 @@ returns-then-not-right c =
 
 pub loop-i-preserved : goal.loop-i-preserved
 unfolding at
-loop-i-preserved c =
-    (
-      search rules,
-      below_more (λ k. ok_at c.args.n c.args.index.now c.args.equal.now c.args.not_equal.now k ≡ true) c.loop-i.i c.loop-i.invariant.1
-          (sym c.right.ensures ∙ not-false c.right.result c.if-not-right.false-raw),
-    )
+loop-i-preserved c = (
+  search rules,
+  below_more (λ k. ok_at c.args.n c.args.index.now c.args.equal.now c.args.not_equal.now k ≡ true) c.loop-i.i c.loop-i.invariant.1
+      (sym c.right.ensures ∙ not-false c.right.result c.if-not-right.false-raw),
+)
 
 pub returns : goal.returns
 returns c =

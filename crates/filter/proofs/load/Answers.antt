@@ -15,12 +15,11 @@ returns-then-is_empty c =
 
 pub loop-i-preserved : goal.loop-i-preserved
 unfolding at
-loop-i-preserved c =
-    (
-      search rules,
-      front_more (Copied c.args.source.now) c.args.target.now c.loop-i.target c.loop-i.i _ c.loop-i.invariant.1 (search rules)
-          (refl, omega (arith, c.shared_slice_known-in-loop-i-1.given c.loop-i.i), eqb-false _ 0 (sym c.is_empty.ensures ∙ c.if-is_empty.false)),
-    )
+loop-i-preserved c = (
+  search rules,
+  front_more (Copied c.args.source.now) c.args.target.now c.loop-i.target c.loop-i.i _ c.loop-i.invariant.1 (search rules)
+      (refl, omega (arith, c.shared_slice_known-in-loop-i-1.given c.loop-i.i), eqb-false _ 0 (sym c.is_empty.ensures ∙ c.if-is_empty.false)),
+)
 
 pub returns : goal.returns
 returns c =

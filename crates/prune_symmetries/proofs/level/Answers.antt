@@ -6,9 +6,12 @@ pub returns-then-cut : goal.returns-then-cut
 returns-then-cut c = record { sixteen = c.cut.ensures.sixteen; entries = λ p w. level_failed w c.cut.new.sets c.cut.result c.if-cut.true (c.cut.ensures.entries p w) }
 
 pub returns : goal.returns
-returns c = record { sixteen = c.cut.ensures.sixteen; entries = λ p w. level_result w c.cut.new.sets c.cut.result
+returns c = record {
+  sixteen = c.cut.ensures.sixteen;
+  entries = λ p w. level_result w c.cut.new.sets c.cut.result
       c.if-cut.false (c.cut.ensures.entries p w) c.image-y.result c.image-y.ensures c.equality.result
-      c.equality.ensures }
+      c.equality.ensures;
+}
 
 pub image-y-requires : goal.image-y-requires
 image-y-requires c = first_lt c.requires.1

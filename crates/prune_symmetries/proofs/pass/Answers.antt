@@ -14,24 +14,33 @@ level-step-requires c = (c.requires.0, turn_asks c.requires.1 (c.loop-j.invarian
 
 pub returns-in-Failed : goal.returns-in-Failed
 unfolding at
-returns-in-Failed c = record { sixteen = c.level-step.ensures.sixteen ∙ c.loop-j.invariant.0; entries = λ p w. turn_failed w
+returns-in-Failed c = record {
+  sixteen = c.level-step.ensures.sixteen ∙ c.loop-j.invariant.0;
+  entries = λ p w. turn_failed w
       (c.loop-j.invariant.1 p w) c.loop-j-test.true c.level-step.new.sets
       c.level-step.result (c.level-step.ensures.entries p (turn_asks w (c.loop-j.invariant.1 p w)
-      c.loop-j-test.true)) c.in-Failed.is }
+      c.loop-j-test.true)) c.in-Failed.is;
+}
 
 pub returns-in-Obeyed : goal.returns-in-Obeyed
 unfolding at
-returns-in-Obeyed c = record { sixteen = c.level-step.ensures.sixteen ∙ c.loop-j.invariant.0; entries = λ p w. turn_obeyed w
+returns-in-Obeyed c = record {
+  sixteen = c.level-step.ensures.sixteen ∙ c.loop-j.invariant.0;
+  entries = λ p w. turn_obeyed w
       (c.loop-j.invariant.1 p w) c.loop-j-test.true c.level-step.new.sets
       c.level-step.result (c.level-step.ensures.entries p (turn_asks w (c.loop-j.invariant.1 p w)
-      c.loop-j-test.true)) c.in-Obeyed.is }
+      c.loop-j-test.true)) c.in-Obeyed.is;
+}
 
 pub returns-in-Split : goal.returns-in-Split
 unfolding at
-returns-in-Split c = record { sixteen = c.level-step.ensures.sixteen ∙ c.loop-j.invariant.0; entries = λ p w. turn_split w
+returns-in-Split c = record {
+  sixteen = c.level-step.ensures.sixteen ∙ c.loop-j.invariant.0;
+  entries = λ p w. turn_split w
       (c.loop-j.invariant.1 p w) c.loop-j-test.true c.level-step.new.sets
       c.level-step.result (c.level-step.ensures.entries p (turn_asks w (c.loop-j.invariant.1 p w)
-      c.loop-j-test.true)) c.in-Split.is }
+      c.loop-j-test.true)) c.in-Split.is;
+}
 
 pub loop-j-preserved : goal.loop-j-preserved
 unfolding at

@@ -3,6 +3,9 @@ use Rattle.model.specs.Kit.{arith}
 use Rattle.report.proofs.{Lines.line_length, Lines.put_line}
 use Rattle.report.proofs.plan_line.Goals as goal
 
+pub put-word-requires : goal.put-word-requires
+put-word-requires c = omega (arith, line_length c.args.row.now, c.requires)
+
 pub put_row-values-requires : goal.put_row-values-requires
 put_row-values-requires c =
     omega (arith, line_length c.args.row.now, c.put-word.ensures.ends, c.put-word.auto.out, c.requires)

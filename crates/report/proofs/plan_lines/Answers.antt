@@ -27,22 +27,21 @@ plan_line-next-requires c =
     )
 
 pub loop-i-preserved : goal.loop-i-preserved
-loop-i-preserved c =
-    (
-      omega arith,
-      c.plan_line-next.auto.out ∙ c.loop-i.invariant.1,
-      ap (λ (k : ℕ). k + c.args.n) c.loop-i.invariant.2 ∙ sym (suc-mul c.loop-i.i c.args.n) ∙ ap (λ (k : ℕ). k * c.args.n) (sym (add-one c.loop-i.i)),
-      plans_turn c.args.n c.loop-i.i c.loop-i.at c.args.list.now c.loop-i.invariant.2
-          (omega (
-            arith,
-            lines_step c.args.n c.loop-i.i c.loop-i.at c.args.list.now c.loop-i.invariant.2,
-            lines_fit c.args.n c.loop-i.i c.args.plans c.args.list.now
-                c.loop-i-test.true,
-            c.loop-i.invariant.3.ends,
-            c.requires.1,
-          ))
-          c.loop-i.invariant.3 c.plan_line-next.ensures,
-    )
+loop-i-preserved c = (
+  omega arith,
+  c.plan_line-next.auto.out ∙ c.loop-i.invariant.1,
+  ap (λ (k : ℕ). k + c.args.n) c.loop-i.invariant.2 ∙ sym (suc-mul c.loop-i.i c.args.n) ∙ ap (λ (k : ℕ). k * c.args.n) (sym (add-one c.loop-i.i)),
+  plans_turn c.args.n c.loop-i.i c.loop-i.at c.args.list.now c.loop-i.invariant.2
+      (omega (
+        arith,
+        lines_step c.args.n c.loop-i.i c.loop-i.at c.args.list.now c.loop-i.invariant.2,
+        lines_fit c.args.n c.loop-i.i c.args.plans c.args.list.now
+            c.loop-i-test.true,
+        c.loop-i.invariant.3.ends,
+        c.requires.1,
+      ))
+      c.loop-i.invariant.3 c.plan_line-next.ensures,
+)
 
 pub returns : goal.returns
 returns c =

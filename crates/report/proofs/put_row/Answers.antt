@@ -19,13 +19,12 @@ put_number-next-requires c =
     omega (arith, fields_step c.args.row.now c.loop-i.i c.loop-i-test.true, fields_part c.args.row.now (c.loop-i.i + 1), c.loop-i.invariant.1, c.loop-i.invariant.2.ends, c.requires)
 
 pub loop-i-preserved : goal.loop-i-preserved
-loop-i-preserved c =
-    (
-      omega arith,
-      c.put_number-next.auto.out ∙ c.loop-i.invariant.1,
-      row_turn c.args.row.now c.loop-i-test.true (omega (arith, fields_part c.args.row.now c.loop-i.i, c.loop-i.invariant.2.ends, c.requires)) c.loop-i.invariant.2
-          c.put_number-next.ensures,
-    )
+loop-i-preserved c = (
+  omega arith,
+  c.put_number-next.auto.out ∙ c.loop-i.invariant.1,
+  row_turn c.args.row.now c.loop-i-test.true (omega (arith, fields_part c.args.row.now c.loop-i.i, c.loop-i.invariant.2.ends, c.requires)) c.loop-i.invariant.2
+      c.put_number-next.ensures,
+)
 
 pub returns : goal.returns
 returns c = row_whole c.args.row.now c.loop-i-test.false c.loop-i.invariant.2

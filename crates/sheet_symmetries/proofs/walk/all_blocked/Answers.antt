@@ -16,24 +16,22 @@ loop-rest-init c = λ p s. (s, refl, sure_none p _ _ _)
 
 pub surely_after-sure-requires : goal.surely_after-sure-requires
 surely_after-sure-requires c =
-    let some : c.loop-rest.rest.bits ≡ 0 → ⊥ = some_left _ _ c.is_empty.ensures c.loop-rest-test.true-raw in
-    (
-  c.requires.0,
-  c.requires.1.ready,
-  c.requires.1.first,
-  c.requires.1.second,
-  beside_small c.requires.0 _ _ _ _ _ _ _ (c.loop-rest.invariant c.requires.0 c.requires.1).0 _ _ some
-      c.lowest-v.ensures c.place-e.ensures.0,
-)
+    let some : c.loop-rest.rest.bits ≡ 0 → ⊥ = some_left _ _ c.is_empty.ensures c.loop-rest-test.true-raw in (
+      c.requires.0,
+      c.requires.1.ready,
+      c.requires.1.first,
+      c.requires.1.second,
+      beside_small c.requires.0 _ _ _ _ _ _ _ (c.loop-rest.invariant c.requires.0 c.requires.1).0 _ _ some
+          c.lowest-v.ensures c.place-e.ensures.0,
+    )
 
 pub third_blocked-requires : goal.third_blocked-requires
 third_blocked-requires c =
-    let some : c.loop-rest.rest.bits ≡ 0 → ⊥ = some_left _ _ c.is_empty.ensures c.loop-rest-test.true-raw in
-    (
-  c.requires.0,
-  beside_triple c.requires.0 _ _ _ _ _ _ _ (c.loop-rest.invariant c.requires.0 c.requires.1).0 _ _ some
-      c.lowest-v.ensures c.place-e.ensures.0,
-)
+    let some : c.loop-rest.rest.bits ≡ 0 → ⊥ = some_left _ _ c.is_empty.ensures c.loop-rest-test.true-raw in (
+      c.requires.0,
+      beside_triple c.requires.0 _ _ _ _ _ _ _ (c.loop-rest.invariant c.requires.0 c.requires.1).0 _ _ some
+          c.lowest-v.ensures c.place-e.ensures.0,
+    )
 
 pub returns-then-not-third_blocked : goal.returns-then-not-third_blocked
 returns-then-not-third_blocked c =

@@ -28,10 +28,10 @@ loop-k-preserved c =
     let some : (p : Problem) → Lent p c.args.numbers.now c.args.supports.now c.args.codes.now c.args.moves.now → c.arity.result ≡ 0 → ⊥ = λ p l z. omega (arith, c.arity.ensures p l.ready.framed (inside p l), (good p l.ready.framed.stated _ (inside p l)).some) in
     let answer : (p : Problem) → Lent p c.args.numbers.now c.args.supports.now c.args.codes.now c.args.moves.now → kept p c.args.codes.now (constraint_at p c.loop-k.k) ≡ c.walk.result = λ p l. sym (c.walk.ensures p [] 255 (start p l) (some p l)) in
     λ p l. (
-  omega (arith, inside p l),
-  list_rest (kept p _) p.constraints none _ _ (c.loop-k.invariant p l).1
-      (inside p l) (answer p l ∙ c.if-not-walk.false),
-)
+      omega (arith, inside p l),
+      list_rest (kept p _) p.constraints none _ _ (c.loop-k.invariant p l).1
+          (inside p l) (answer p l ∙ c.if-not-walk.false),
+    )
 
 pub returns : goal.returns
 returns c = λ p l. list_over (kept p _) p.constraints none c.loop-k.k _ (c.loop-k.invariant p l).1

@@ -11,12 +11,11 @@ loop-rest-init c = λ p l h. doubling_start p _ _ _ _ _ _ l h (c.initial-rest.en
 
 pub pairs_blocked-requires : goal.pairs_blocked-requires
 pairs_blocked-requires c =
-    let some : c.loop-rest.rest.bits ≡ 0 → ⊥ = some_left _ _ c.is_empty.ensures c.loop-rest-test.true-raw in
-    (
-  c.requires.0,
-  doubling_beside c.requires.0 _ _ _ _ _ _ c.requires.1 c.requires.2 (c.loop-rest.invariant c.requires.0 c.requires.1 c.requires.2) some _ _
-      c.lowest-v.ensures c.without-rest.ensures _ c.place-in-loop-rest.ensures.0,
-)
+    let some : c.loop-rest.rest.bits ≡ 0 → ⊥ = some_left _ _ c.is_empty.ensures c.loop-rest-test.true-raw in (
+      c.requires.0,
+      doubling_beside c.requires.0 _ _ _ _ _ _ c.requires.1 c.requires.2 (c.loop-rest.invariant c.requires.0 c.requires.1 c.requires.2) some _ _
+          c.lowest-v.ensures c.without-rest.ensures _ c.place-in-loop-rest.ensures.0,
+    )
 
 pub returns-then-not-pairs_blocked : goal.returns-then-not-pairs_blocked
 returns-then-not-pairs_blocked c =

@@ -19,10 +19,10 @@ loop-x-preserved c =
     let inside : (p : Problem) → Lent p c.args.numbers.now c.args.supports.now c.args.codes.now c.args.moves.now → c.loop-x.x < p.variables = λ p l. omega (arith, c.number-n.ensures, l.ready.framed.numbered.variables, c.loop-x-test.true) in
     let answer : (p : Problem) → Lent p c.args.numbers.now c.args.supports.now c.args.codes.now c.args.moves.now → kept p c.args.codes.now c.loop-x.x ≡ c.doubles.result = λ p l. sym (c.doubles.ensures p l (inside p l)) in
     λ p l. (
-  omega (arith, inside p l),
-  numbers_rest (kept p _) p.variables _ _ (c.loop-x.invariant p l).1 (inside p l)
-      (answer p l ∙ c.if-not-doubles.false),
-)
+      omega (arith, inside p l),
+      numbers_rest (kept p _) p.variables _ _ (c.loop-x.invariant p l).1 (inside p l)
+          (answer p l ∙ c.if-not-doubles.false),
+    )
 
 pub returns : goal.returns
 returns c = λ p l. numbers_over (kept p _) p.variables _ _ (c.loop-x.invariant p l).1
