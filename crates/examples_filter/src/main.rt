@@ -5,10 +5,10 @@
 
 ghost use Rattle.std.specs.Prelude.{◌≤◌, length};
 
-use examples_lines::{find, number, say, say_number};
+use examples_lines::{find, number, read_text, say, say_number};
 use filter::Answer;
-use libc::STDIN_FILENO;
 use model::wide;
+use std::io;
 
 // How many numbers a list has, and where it ends.
 #[derive(Clone, Copy)]
@@ -69,42 +69,49 @@ fn read_bytes(bytes: &mut [u8], line: &[u8], from: usize) -> Listed
     Listed { count, end: at }
 }
 
-fn say_answer(answer: Answer) {
+fn say_answer<P: Print>(out: &P, answer: Answer) -> io::Result<()> {
     match answer {
-        Answer::Failed => say(b": failed"),
-        Answer::Entailed => say(b": entailed"),
-        Answer::Consistent => say(b": consistent"),
+        Answer::Failed => say(out, b": failed"),
+        Answer::Entailed => say(out, b": entailed"),
+        Answer::Consistent => say(out, b": consistent"),
         Answer::Refused { number, item } => {
-            say(b": refused ");
-            say_number(wide(number));
-            say(b" ");
-            say_number(item);
+            say(out, b": refused ")?;
+            say_number(out, wide(number))?;
+            say(out, b" ")?;
+            say_number(out, item)
         }
     }
 }
 
-fn say_set(set: u16) {
-    say(b" ");
-    say_number(set as usize);
+fn say_set<P: Print>(out: &P, set: u16) -> io::Result<()> {
+    say(out, b" ")?;
+    say_number(out, set as usize)
 }
 
-fn say_sets(sets: &[u16]) {
+fn say_sets<P: Print>(out: &P, sets: &[u16]) -> io::Result<()> {
     let mut i = 0;
     while i < sets.len() {
-        say_set(sets[i]);
+        say_set(out, sets[i])?;
         i += 1;
     }
+    Ok(())
 }
 
-fn show(sets: &mut [u16], index: &[u8], equal: &[u8], not_equal: &[u8]) {
+fn show<P: Print>(
+    out: &P,
+    sets: &mut [u16],
+    index: &[u8],
+    equal: &[u8],
+    not_equal: &[u8],
+) -> io::Result<()> {
     let answer = filter::filter(sets, index, equal, not_equal);
-    say_answer(answer);
-    say(b", sets");
-    say_sets(sets);
-    say(b"\n");
+    say_answer(out, answer)?;
+    say(out, b", sets")?;
+    say_sets(out, sets)?;
+    say(out, b"\n")
 }
 
-fn answer(line: &[u8]) {
+fn answer<P: Print>(out: &P, line: &[u8]) -> io::Result<()> {
     let mut sets = [0u16; 16];
     let mut index = [0u8; 200];
     let mut equal = [0u8; 200];
@@ -114,29 +121,30 @@ fn answer(line: &[u8]) {
     let i = read_bytes(&mut index, line, s.end);
     let e = read_bytes(&mut equal, line, i.end);
     let n = read_bytes(&mut not_equal, line, e.end);
-    say(&line[..colon]);
+    say(out, &line[..colon])?;
     show(
+        out,
         &mut sets[..s.count],
         &index[..i.count],
         &equal[..e.count],
         &not_equal[..n.count],
-    );
+    )
 }
 
-fn answers(text: &[u8]) {
+fn answers<P: Print>(out: &P, text: &[u8]) -> io::Result<()> {
     let mut at = 0;
     while at < text.len() {
         let end = find(text, at, b'\n');
         if text[at] != b'#' {
-            answer(&text[at..end]);
+            answer(out, &text[at..end])?;
         }
         at = end + 1;
     }
+    Ok(())
 }
 
-fn main() {
-    let mut text = io::large_buffer();
-    let got = libc::read(STDIN_FILENO, &mut text);
-    let n = io::count(got, &text);
-    answers(&text[..n]);
+fn main(rt: HostRuntime) -> io::Result<()> {
+    let mut text = [0u8; 65536];
+    let n = read_text(&mut rt.stdin(), &mut text)?;
+    answers(&rt, &text[..n])
 }

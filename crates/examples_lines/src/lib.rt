@@ -1,10 +1,11 @@
 // Lines that the examples' programs read, and what they print.
 #![tactic(auto)]
 
-ghost use Rattle.std.specs.Prelude.{◌≤◌, ◌<◌, length};
+ghost use Rattle.std.specs.Prelude.{◌≡◌, ◌≤◌, ◌<◌, IfOk, length, take};
 
-use libc::STDOUT_FILENO;
 use model::wide;
+use std::io;
+use std::io::Read;
 
 // A number of a line, and where it ends; done where there is none.
 #[derive(Clone, Copy)]
@@ -73,10 +74,25 @@ pub fn find(text: &[u8], from: usize, byte: u8) -> usize
     at
 }
 
-pub fn say(text: &[u8]) {
-    io::write_all(STDOUT_FILENO, text);
+// Reads until the buffer is full or the input ends.
+pub fn read_text<R: Read>(input: &mut R, text: &mut [u8]) -> io::Result<usize>
+    ensures { IfOk result (λ n. (n ≤ length text.new) × (n ≡ length (take n text.new))) }
+{
+    let mut done = 0;
+    while done < text.len() {
+        let n = input.read(&mut text[done..])?;
+        if n == 0 {
+            break;
+        }
+        done += n;
+    }
+    Ok(done)
 }
 
-pub fn say_number(n: usize) {
-    io::print_decimal(STDOUT_FILENO, n as u64);
+pub fn say<P: Print>(out: &P, text: &[u8]) -> io::Result<()> {
+    out.write_all(text)
+}
+
+pub fn say_number<P: Print>(out: &P, n: usize) -> io::Result<()> {
+    out.print(n)
 }

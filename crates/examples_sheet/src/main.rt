@@ -5,10 +5,10 @@
 
 ghost use Rattle.std.specs.Prelude.{◌≤◌, length};
 
-use examples_lines::{find, number, say, say_number};
-use libc::STDIN_FILENO;
+use examples_lines::{find, number, read_text, say, say_number};
 use model::wide;
 use sheet::Answer;
+use std::io;
 
 // A 16-bit number, low byte first; nothing past the end.
 fn put(b: &mut [u8; 65536], at: usize, v: usize) {
@@ -106,25 +106,26 @@ fn change(b: &mut [u8; 65536], line: &[u8], from: usize)
 }
 
 // The answer to the first len bytes.
-fn ask(b: &[u8], len: usize) {
+fn ask<P: Print>(out: &P, b: &[u8], len: usize) -> io::Result<()> {
     if len <= b.len() {
         let answer = sheet::question(&b[..len]);
         match answer {
-            Answer::Accepted => say(b": accepted\n"),
+            Answer::Accepted => say(out, b": accepted\n")?,
             Answer::Refused { number, item } => {
-                say(b": refused ");
-                say_number(wide(number));
-                say(b" ");
-                say_number(item);
-                say(b"\n");
+                say(out, b": refused ")?;
+                say_number(out, wide(number))?;
+                say(out, b" ")?;
+                say_number(out, item)?;
+                say(out, b"\n")?;
             }
         }
     }
+    Ok(())
 }
 
-fn answer(b: &mut [u8; 65536], line: &[u8]) {
+fn answer<P: Print>(out: &P, b: &mut [u8; 65536], line: &[u8]) -> io::Result<()> {
     if line.len() == 0 {
-        return;
+        return Ok(());
     }
     if line[0] == b'A' {
         sheet_a(b);
@@ -133,23 +134,23 @@ fn answer(b: &mut [u8; 65536], line: &[u8]) {
     }
     let len = number(line, 1);
     change(b, line, len.end);
-    say(line);
-    ask(b, len.value);
+    say(out, line)?;
+    ask(out, b, len.value)
 }
 
-fn answers(b: &mut [u8; 65536], text: &[u8]) {
+fn answers<P: Print>(out: &P, b: &mut [u8; 65536], text: &[u8]) -> io::Result<()> {
     let mut at = 0;
     while at < text.len() {
         let end = find(text, at, b'\n');
-        answer(b, &text[at..end]);
+        answer(out, b, &text[at..end])?;
         at = end + 1;
     }
+    Ok(())
 }
 
-fn main() {
-    let mut text = io::buffer();
-    let got = libc::read(STDIN_FILENO, &mut text);
-    let n = io::count(got, &text);
-    let mut b = io::large_buffer();
-    answers(&mut b, &text[..n]);
+fn main(rt: HostRuntime) -> io::Result<()> {
+    let mut text = [0u8; 4096];
+    let n = read_text(&mut rt.stdin(), &mut text)?;
+    let mut b = [0u8; 65536];
+    answers(&rt, &mut b, &text[..n])
 }

@@ -2,10 +2,11 @@
 // A program in Rattle has no exit status: what fails is said on standard error.
 #![tactic(auto)]
 
-ghost use Rattle.std.specs.Prelude.{◌≡◌, length};
-ghost use Rattle.io.specs.Counts.{IsPrefixLen};
+ghost use Rattle.std.specs.Prelude.{◌≡◌, ◌≤◌, length, take};
 ghost use Rattle.report.specs.Inner.Text.{room};
 ghost use Rattle.export_report.specs.Report.{length_told};
+
+use std::io::Read;
 
 // Standard input: how many bytes stand at the front of the buffer, and whether a read failed after them.
 #[derive(Clone, Copy)]
@@ -33,23 +34,26 @@ fn length_told(answer: &[u8]) -> usize
 }
 
 // Reads until the buffer is full, the input ends or a read fails.
-fn read_input(sheet: &mut [u8]) -> Input
-    ensures { IsPrefixLen result.count sheet.new }
+fn read_input<R: Read>(from: &mut R, sheet: &mut [u8]) -> Input
+    ensures inside { result.count ≤ length sheet.new }
+    ensures front { result.count ≡ length (take result.count sheet.new) }
 {
     let mut done = 0;
     while done < sheet.len() {
-        let got = libc::read(0, &mut sheet[done..]);
-        if got < 0 {
-            return Input {
-                count: done,
-                failed: true,
-            };
+        match from.read(&mut sheet[done..]) {
+            Err(_) => {
+                return Input {
+                    count: done,
+                    failed: true,
+                };
+            }
+            Ok(n) => {
+                if n == 0 {
+                    break;
+                }
+                done += n;
+            }
         }
-        let n = io::count(got, &sheet[done..]);
-        if n == 0 {
-            break;
-        }
-        done += n;
     }
     Input {
         count: done,
@@ -57,12 +61,17 @@ fn read_input(sheet: &mut [u8]) -> Input
     }
 }
 
+// What can't be said on standard error stays unsaid.
+fn complain<E: Eprint>(rt: &E, text: &str) {
+    let _ = rt.eprintln(text);
+}
+
 // Of a longer input the first 65,536 bytes are the sheet. Where a read fails there is no report.
-fn main() {
-    let mut sheet = io::large_buffer();
-    let input = read_input(&mut sheet);
+fn main(rt: HostRuntime) {
+    let mut sheet = [0u8; 65536];
+    let input = read_input(&mut rt.stdin(), &mut sheet);
     if input.failed {
-        io::write_all(2, b"lister: standard input could not be read\n");
+        complain(&rt, "lister: standard input could not be read");
         return;
     }
     let n = input.count;
@@ -70,11 +79,11 @@ fn main() {
     let mut answer = [0u8; 12];
     let code = export_report::write_report(&sheet[..n], &mut out, &mut answer);
     if code != 0 {
-        io::write_all(2, b"lister: the report has no room\n");
+        complain(&rt, "lister: the report has no room");
         return;
     }
     let k = length_told(&answer);
-    if !io::write_all(1, &out[..k]) {
-        io::write_all(2, b"lister: the report was not written whole\n");
+    if rt.write_all(&out[..k]).is_err() {
+        complain(&rt, "lister: the report was not written whole");
     }
 }

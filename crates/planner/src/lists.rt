@@ -6,29 +6,21 @@ ghost use Rattle.export_store.specs.Calls.{CallPutBytes, CallFetchBytes, CallDro
 ghost use Rattle.export_small.specs.Calls.{CallSmallBytes};
 
 // Rows to columns (paper 02, #103).
-#[unsafe(no_mangle)]
-pub extern "C" fn planner_columns(
-    variables: u32,
-    rows: &[u8],
-    out: &mut [u8],
-    answer: &mut [u8],
-) -> u32
+pub fn planner_columns(variables: u32, rows: &[u8], out: &mut [u8], answer: &mut [u8]) -> u32
     ensures { CallColumnsBytes variables rows.now out.old answer.old result out.new answer.new }
 {
     export_columns::columns(variables, rows, out, answer)
 }
 
 // And back.
-#[unsafe(no_mangle)]
-pub extern "C" fn planner_rows(store: &[u8], out: &mut [u8], answer: &mut [u8]) -> u32
+pub fn planner_rows(store: &[u8], out: &mut [u8], answer: &mut [u8]) -> u32
     ensures { CallRowsBytes store.now out.old answer.old result out.new answer.new }
 {
     export_columns::rows(store, out, answer)
 }
 
 // One list from two (#106).
-#[unsafe(no_mangle)]
-pub extern "C" fn planner_merge<'a>(
+pub fn planner_merge<'a>(
     variables: u32,
     pairs: &[u8],
     first: &'a [u8],
@@ -43,8 +35,7 @@ pub extern "C" fn planner_merge<'a>(
 }
 
 // The symmetry store (#110): puts a table in place of the one there.
-#[unsafe(no_mangle)]
-pub extern "C" fn planner_store_put(
+pub fn planner_store_put(
     store: &mut [u8],
     owner: u32,
     key: u8,
@@ -57,8 +48,7 @@ pub extern "C" fn planner_store_put(
 }
 
 // Copies a table to the front of the room.
-#[unsafe(no_mangle)]
-pub extern "C" fn planner_store_fetch(
+pub fn planner_store_fetch(
     store: &[u8],
     owner: u32,
     key: u8,
@@ -71,21 +61,14 @@ pub extern "C" fn planner_store_fetch(
 }
 
 // Removes a table.
-#[unsafe(no_mangle)]
-pub extern "C" fn planner_store_drop(
-    store: &mut [u8],
-    owner: u32,
-    key: u8,
-    answer: &mut [u8],
-) -> u32
+pub fn planner_store_drop(store: &mut [u8], owner: u32, key: u8, answer: &mut [u8]) -> u32
     ensures { CallDropBytes store.old owner key answer.old result store.new answer.new }
 {
     export_store::store_drop(store, owner, key, answer)
 }
 
 // The small sheet at a position (#114).
-#[unsafe(no_mangle)]
-pub extern "C" fn planner_small_sheet(k: u32, out: &mut [u8], answer: &mut [u8]) -> u32
+pub fn planner_small_sheet(k: u32, out: &mut [u8], answer: &mut [u8]) -> u32
     ensures { CallSmallBytes k out.old answer.old result out.new answer.new }
 {
     export_small::small_sheet(k, out, answer)

@@ -3,8 +3,7 @@ ghost use Rattle.export_parts.specs.Parts.{CallPartBytes};
 ghost use Rattle.export_join.specs.Joined.{CallJoinBytes};
 
 // The nodes of a run that come after one path and not after another.
-#[unsafe(no_mangle)]
-pub extern "C" fn planner_run_part(
+pub fn planner_run_part(
     sheet: &[u8],
     pairs: &[u8],
     block: &[u8],
@@ -21,8 +20,7 @@ pub extern "C" fn planner_run_part(
 }
 
 // The heads of parts joined.
-#[unsafe(no_mangle)]
-pub extern "C" fn planner_join(heads: &[u8], answer: &mut [u8]) -> u32
+pub fn planner_join(heads: &[u8], answer: &mut [u8]) -> u32
     ensures { CallJoinBytes heads.now answer.old result answer.new }
 {
     export_join::join_heads(heads, answer)

@@ -1,8 +1,5 @@
-use Rattle.model.specs.Kit.{◌≤◌, ◌-◌, length}
+use Rattle.model.specs.Kit.{◌-◌, length}
 use Rattle.examples_filter.proofs.answers.Given as goal
 
-abbrev pub invariant-loop-at : goal.invariant-loop-at
-invariant-loop-at l = 0 ≤ l.at
-
 abbrev pub decreases-loop-at : goal.decreases-loop-at
-decreases-loop-at l = length l.text - l.at
+decreases-loop-at g l = length l.text - l.at

@@ -1,44 +1,8 @@
 -- `length_told`: the four bytes, low byte first. Assumes nothing.
-use Rattle.model.specs.Kit.{refl, arith}
+use Rattle.model.specs.Kit.{refl}
 use Rattle.model.specs.Lists.{at}
 use Rattle.lister.proofs.length_told.Goals as goal
-
-pub overflow_add-result-3 : goal.overflow_add-result-3
-overflow_add-result-3 c = omega (
-  arith,
-  c.shared_slice_known-1.given 4,
-  c.shared_slice_known-2-1.given 5,
-  c.shared_slice_known-3-1.given 6,
-  c.shared_slice_known-4-1.given 7,
-)
 
 pub returns : goal.returns
 unfolding at
 returns c = refl
-
-pub overflow_cast-result : goal.overflow_cast-result
-overflow_cast-result c = omega (arith, c.shared_slice_known-1.given 4)
-
-pub overflow_cast-result-2 : goal.overflow_cast-result-2
-overflow_cast-result-2 c = omega (arith, c.shared_slice_known-2-1.given 5)
-
-pub overflow_mul-result : goal.overflow_mul-result
-overflow_mul-result c = omega (arith, c.shared_slice_known-2-1.given 5)
-
-pub overflow_add-result : goal.overflow_add-result
-overflow_add-result c = omega (arith, c.shared_slice_known-1.given 4, c.shared_slice_known-2-1.given 5)
-
-pub overflow_cast-result-3 : goal.overflow_cast-result-3
-overflow_cast-result-3 c = omega (arith, c.shared_slice_known-3-1.given 6)
-
-pub overflow_mul-result-2 : goal.overflow_mul-result-2
-overflow_mul-result-2 c = omega (arith, c.shared_slice_known-3-1.given 6)
-
-pub overflow_add-result-2 : goal.overflow_add-result-2
-overflow_add-result-2 c = omega (arith, c.shared_slice_known-1.given 4, c.shared_slice_known-2-1.given 5, c.shared_slice_known-3-1.given 6)
-
-pub overflow_cast-result-4 : goal.overflow_cast-result-4
-overflow_cast-result-4 c = omega (arith, c.shared_slice_known-4-1.given 7)
-
-pub overflow_mul-result-3 : goal.overflow_mul-result-3
-overflow_mul-result-3 c = omega (arith, c.shared_slice_known-4-1.given 7)

@@ -2,7 +2,7 @@ use Rattle.model.specs.Kit.{◌≡◌, ◌≤◌, ◌-◌, length}
 use Rattle.lister.proofs.read_input.Given as goal
 
 abbrev pub invariant-loop-done : goal.invariant-loop-done
-invariant-loop-done l = (length l.sheet ≡ length l.initial.sheet) × (l.done ≤ length l.sheet)
+invariant-loop-done g l = (length l.sheet ≡ length l.initial.sheet) × (l.done ≤ length l.sheet)
 
 abbrev pub decreases-loop-done : goal.decreases-loop-done
-decreases-loop-done l = length l.sheet - l.done
+decreases-loop-done g l = length l.sheet - l.done
