@@ -10,7 +10,7 @@ fn main() {
     println!("cargo:rerun-if-changed={folder}/libplanner.a");
     if !Path::new(&folder).join("libplanner.a").exists() {
         eprintln!("There is no libplanner.a in {folder}.");
-        eprintln!("`rt staticlib planner`, run at the repository's root, proves the planner and writes it to target/staticlib.");
+        eprintln!("`tools/build library`, run at the repository's root, proves the planner and writes it to target/staticlib.");
         eprintln!("PLANNER_LIB names another folder that has it.");
         process::exit(1);
     }
