@@ -2,7 +2,8 @@
 // A program in Rattle has no exit status: what fails is said on standard error.
 #![tactic(auto)]
 
-ghost use Rattle.std.specs.Prelude.{◌≡◌, ◌≤◌, length, take};
+ghost use Rattle.std.specs.Prelude.{◌≡◌, ◌≤◌, ◌<◌, IsFalse, length, take};
+ghost use Rattle.std.specs.Io.KnownBytes.{Consumes, IsAtEnd};
 ghost use Rattle.report.specs.Inner.Text.{room};
 ghost use Rattle.export_report.specs.Report.{length_told};
 
@@ -37,6 +38,8 @@ fn length_told(answer: &[u8]) -> usize
 fn read_input<R: Read>(from: &mut R, sheet: &mut [u8]) -> Input
     ensures inside { result.count ≤ length sheet.new }
     ensures front { result.count ≡ length (take result.count sheet.new) }
+    ensures bytes { Consumes (R.remaining from.old) (R.remaining from.new) (take result.count sheet.new) }
+    ensures ended { IsFalse result.failed → result.count < length sheet.new → IsAtEnd (R.remaining from.new) }
 {
     let mut done = 0;
     while done < sheet.len() {
