@@ -2,6 +2,7 @@
 #![tactic(auto)]
 
 ghost use Rattle.std.specs.Prelude.{◌≡◌, ◌≤◌, ◌<◌, IfOk, length, take};
+ghost use Rattle.std.specs.Io.KnownBytes.{IsAtEnd};
 
 use model::wide;
 use std::io;
@@ -76,7 +77,8 @@ pub fn find(text: &[u8], from: usize, byte: u8) -> usize
 
 // Reads until the buffer is full or the input ends.
 pub fn read_text<R: Read>(input: &mut R, text: &mut [u8]) -> io::Result<usize>
-    ensures { IfOk result (λ n. (n ≤ length text.new) × (n ≡ length (take n text.new))) }
+    ensures inside { IfOk result (λ n. (n ≤ length text.new) × (n ≡ length (take n text.new))) }
+    ensures ended { IfOk result (λ n. n < length text.new → IsAtEnd (R.remaining input.new)) }
 {
     let mut done = 0;
     while done < text.len() {
