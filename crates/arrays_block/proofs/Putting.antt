@@ -1,5 +1,6 @@
 -- The images of a block's tables, row by row, after the problem's own. Assumes nothing.
-use Rattle.model.specs.Kit.{◌≡◌, refl, sym, ap, ap₂, ◌∙◌, subst, Bool, true, false, List, [], ◌∷◌, ◌++◌, append-nil, ℕ, ◌+◌, ◌*◌, ◌/◌, ◌%◌, ◌≤◌, ◌<◌, mul-le-mul_right, dec_lt, arith, T, length, get_or}
+use Rattle.model.specs.Kit.{◌≡◌, refl, sym, ap, ap₂, ◌∙◌, subst, Bool, true, false, List, [], ◌∷◌, ◌++◌, append-nil, ℕ, ◌+◌, ◌*◌, ◌/◌, ◌%◌, ◌≤◌, ◌<◌, mul-le-mul_right, dec_lt, arith, T, length}
+use Rattle.model.specs.Kit.{get_or}
 use Rattle.model.specs.Kit.{set, length-append}
 use Rattle.model.specs.{Lists.at, Lists.flat, Problem.Problem, Problem.pair, Problem.is_pair, Problem.with_symmetries, Problem.symmetry_at, Inner.Filling.Filled, Verdict.accepted}
 use native.Mathlib.Nat.{div-lt_iff_lt-mul}

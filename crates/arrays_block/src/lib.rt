@@ -8,7 +8,8 @@ ghost use Rattle.model.specs.Problem.{Problem};
 ghost use Rattle.model.specs.Verdict.{accepted};
 ghost use Rattle.arrays.specs.Inner.Places.{WIDE};
 ghost use Rattle.sheet.specs.Meaning.{means};
-ghost use Rattle.block.specs.Block.{ordering, factorial, in_block, image_of, ordering_table, with_block, is_block_at, block_verdict, block_lent, in_lent, with_lent};
+ghost use Rattle.block.specs.Block.{ordering, factorial, in_block, image_of, ordering_table, with_block, is_block_at, block_verdict, block_lent, in_lent};
+ghost use Rattle.block.specs.Block.{with_lent};
 ghost use Rattle.arrays_block.specs.Inner.Asked.{Held, Row, BlockRow, TableBytes, row_answer, Widened, RowPut, Imaged, PutOn};
 
 use arrays::{IMAGES, Images, Numbers, SYMMETRIES, Supports, VALUES, VARIABLES, Wide};

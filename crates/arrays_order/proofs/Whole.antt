@@ -1,7 +1,8 @@
 -- The arrays of the reordered problem, from what the parts leave. Assumes nothing.
 use Rattle.model.specs.Kit.{◌≡◌, refl, sym, ap, ap₂, ◌∙◌, subst, Bool, false, List, [], ◌∷◌, ◌++◌, map, Memᴰ, Memᴰ-head, Memᴰ-tail, ℕ, zero, suc, ◌+◌, ◌*◌, ◌/◌, ◌%◌, ◌^◌, ◌≤◌, ◌<◌}
 use Rattle.model.specs.Kit.{not-suc-le-zero, le_of_suc-le-suc, dec_lt, arith, eqb, length, get_or, length-map}
-use Rattle.model.specs.{Lists.any, Lists.at, Lists.same, ValueSets.has, ValueSets.mask_of, ValueSets.least, ValueSets.least_step, Problem.Problem, Problem.Constraint, Problem.pair, Problem.constraint_at}
+use Rattle.model.specs.{Lists.any, Lists.at, Lists.same, ValueSets.has, ValueSets.mask_of, ValueSets.least, ValueSets.least_step, Problem.Problem, Problem.Constraint, Problem.pair}
+use Rattle.model.specs.{Problem.constraint_at}
 use Rattle.model.specs.{Problem.symmetry_at, Inner.WellFormed.WellFormed, Inner.WellFormed.GoodConstraint, Inner.WellFormed.GoodSymmetry, Inner.Filling.Filled}
 use mathlib.Core.Path.{fun_ext}
 use Rattle.order.specs.{Order.Ordering, Reordered.position, Reordered.value_of, Reordered.scope_in, Reordered.constraint_in, Reordered.renamed, Reordered.symmetry_in, Reordered.reordered}

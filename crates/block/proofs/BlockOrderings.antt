@@ -82,7 +82,8 @@ module _ (p : Problem) (w : WellFormed p) (first m : ℕ) (few : Few m) (inside 
     only = λ x l f. go x f (TDec (in_block first m x));
   }
     where
-      go : (x : ℕ) → (image_of first m (ordering row) x ≡ x → ⊥) → T (in_block first m x) ⊎ (T (in_block first m x) → ⊥) → T (in_block first m x) × T (in_block first m (image_of first m (ordering row) x))
+      go : (x : ℕ) → (image_of first m (ordering row) x ≡ x → ⊥) → T (in_block first m x) ⊎ (T (in_block first m x) → ⊥) → T (in_block first m x)
+          × T (in_block first m (image_of first m (ordering row) x))
       go x f (inl t) =
           let i = in_block_lem first m x t in
           let c = image_block first m few (ordering row) (moves m row few h) i.0 i.1 in

@@ -9,7 +9,8 @@ use Rattle.order.specs.Reordered.{position, read, value_of, scope_in, row_in, re
 
 opened : ℕ
 unfolding all any keep flat up_from below at same tabulate has mask_below least members any_empty assignments pair is_pair distinct obeys_from obeying used filtered entries_at nogoods_of row_with
-    supported pruned narrowed rounds sets_at orderings ordering factorial variable_table in_block image_of ordering_table block_tables cut_after position read value_of scope_in row_in renamed symmetry_in
+    supported pruned narrowed rounds sets_at orderings ordering factorial variable_table in_block image_of ordering_table block_tables cut_after position read value_of scope_in row_in renamed
+    symmetry_in
 opened = 0
 
 -- four variables of three values, a constraint on the first and the last

@@ -1,6 +1,7 @@
 -- The orderings of five: what the rows are, that none is absent, and what one test over the whole list shows of the first m! rows. Assumes nothing.
 use Rattle.model.specs.Kit.{◌≡◌, refl, sym, ap, ◌∙◌, subst, Bool, true, false, List, [], ◌∷◌, Memᴰ, ⊎_elim, ◌↔◌, ℕ, zero, suc, ◌+◌, ◌-◌, ◌*◌, ◌≤◌, ◌<◌, not-suc-le-zero, le_of_suc-le-suc}
-use Rattle.model.specs.Kit.{mul-le-mul_right, arith, ℕ_discrete, dec_lt, T, leb, ltb, eqb, eqb→eq, leb→le, ltb→lt, lt→ltb, lit<, length, get_or, set, take, replicate, length-map, length-set, get_or-take}
+use Rattle.model.specs.Kit.{mul-le-mul_right, arith, ℕ_discrete, dec_lt, T, leb, ltb, eqb, eqb→eq, leb→le, ltb→lt, lt→ltb, lit<, length, get_or, set, take, replicate, length-map, length-set}
+use Rattle.model.specs.Kit.{get_or-take}
 use Rattle.model.specs.Kit.{length-take-le}
 use Rattle.model.specs.Lists.{both, either, all, any, keep, flat, up_from, below, at, same, earlier, rows_ascend}
 use Rattle.model.specs.{ValueSets.has, ValueSets.mask_below, ValueSets.full_mask, ValueSets.members, Problem.assignments, Sheet.distinct}
@@ -207,7 +208,8 @@ first_stays : (m row : ℕ) → Few m → row < 120 → stays (5 - m) (ordering 
 unfolding prefix_test
 first_stays m row f h =
     alike_eq (stays (5 - m) (ordering row)) (ltb row (factorial m))
-    (all_e (λ m. alike (stays (5 - m) (ordering row)) (ltb row (factorial m))) (up_from 2 4) (both_l (prefix_test row (ordering row)) (trade_test row (ordering row)) (tested_at row h)) m (few_mem m f))
+    (all_e (λ m. alike (stays (5 - m) (ordering row)) (ltb row (factorial m))) (up_from 2 4) (both_l (prefix_test row (ordering row)) (trade_test row (ordering row)) (tested_at row h)) m
+    (few_mem m f))
 
 -- the first m! rows are exactly those that move only the last m numbers
 pub first_rows : (m row : ℕ) → Few m → row < 120 → (row < factorial m) ↔ ((i : ℕ) → i < 5 - m → at (ordering row) i ≡ i)

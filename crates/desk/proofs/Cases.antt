@@ -2,7 +2,8 @@
 use Rattle.model.specs.Kit.{◌≡◌, refl, [], ◌∷◌, ℕ, replicate}
 use Rattle.model.specs.Lists.{all, any, keep, flat, tabulate, up_from, below, at, total, same, earlier, ascending, rows_ascend}
 use Rattle.model.specs.Problem.{values_at, satisfies, is_solution, assignments, pair, is_pair, pairs_of, within, takes, doubled, pairs_at, excluded, forbidden, respects}
-use Rattle.model.specs.Sheet.{word, words, header_of, scope_at, rows_at, after_at, constraints_from, table_at, problem_of, sets_verdict, constraint_verdict, constraints_verdict, distinct, permutes_pairs}
+use Rattle.model.specs.Sheet.{word, words, header_of, scope_at, rows_at, after_at, constraints_from, table_at, problem_of, sets_verdict, constraint_verdict, constraints_verdict, distinct}
+use Rattle.model.specs.Sheet.{permutes_pairs}
 use Rattle.model.specs.Sheet.{symmetries_verdict, header_verdict, form_verdict, verdict_of}
 use Rattle.model.specs.Search.{entries_at, nogoods_of, row_with, supported, pruned, narrowed, rounds, sets_at, is_live, nodes_below, nodes, is_plan}
 use Rattle.model.specs.Run.{finished, spent, search, result_of, written, counts_by}
@@ -14,8 +15,10 @@ use Rattle.desk.specs.{Rounds.due, Rounds.rounds_queue, Rounds.turns_given, Roun
 -- every definition that computes
 opened : ℕ
 unfolding all any keep flat tabulate up_from below at total same earlier ascending rows_ascend has mask_below least members any_empty values_at satisfies is_solution assignments pair is_pair pairs_of
-    within takes doubled pairs_at excluded forbidden respects word words header_of scope_at rows_at after_at constraints_from table_at problem_of sets_verdict constraint_verdict constraints_verdict distinct
-    permutes_pairs symmetries_verdict header_verdict form_verdict verdict_of obeys_from obeying used filtered entries_at nogoods_of row_with supported pruned narrowed rounds sets_at is_live nodes_below nodes
+    within takes doubled pairs_at excluded forbidden respects word words header_of scope_at rows_at after_at constraints_from table_at problem_of sets_verdict constraint_verdict constraints_verdict
+    distinct
+    permutes_pairs symmetries_verdict header_verdict form_verdict verdict_of obeys_from obeying used filtered entries_at nogoods_of row_with supported pruned narrowed rounds sets_at is_live
+    nodes_below nodes
     is_plan search result_of written after nodes_after nodes_between nodes_of last_of go_on added counts_by job_turned first_of queue_end queue_replies due
 opened = 0
 
@@ -32,7 +35,8 @@ queue_case = refl
 abbrev two : Queue
 two = queue_end empty_queue (submit sheet_a 1000000 ∷ submit sheet_a 2 ∷ [])
 
-pub rounds_case : (turns_given two 3 ≡ 2) × ((rounds_queue two 3).next ≡ 2) × (ended_in two 3 ≡ 3) × (going_on two 3 ≡ 0) × (status_reply (rounds_queue two 3) 1 ≡ answered (served 1 (over (spent 1 2)) 1 2))
+pub rounds_case : (turns_given two 3 ≡ 2) × ((rounds_queue two 3).next ≡ 2) × (ended_in two 3 ≡ 3) × (going_on two 3 ≡ 0)
+    × (status_reply (rounds_queue two 3) 1 ≡ answered (served 1 (over (spent 1 2)) 1 2))
 unfolding opened
 rounds_case = (refl, refl, refl, refl, refl)
 

@@ -50,7 +50,8 @@ unfolding count_bytes flat four_bytes at
 count_byte [] x j l m = absurd (omega arith)
 count_byte (k ∷ ks) zero j l m = at_append (four_bytes k) (count_bytes ks) (4 * 0 + j) (omega arith) ∙ ap (at (four_bytes k)) (let e : 4 * 0 + j ≡ j = omega arith in e)
 count_byte (k ∷ ks) (suc x) j l m =
-    at_skip (four_bytes k) (count_bytes ks) 4 (4 * suc x + j) refl (omega arith) ∙ ap (at (count_bytes ks)) (let e : 4 * suc x + j - 4 ≡ 4 * x + j = omega arith in e) ∙ count_byte ks x j (omega arith) m
+    at_skip (four_bytes k) (count_bytes ks) 4 (4 * suc x + j) refl (omega arith) ∙ ap (at (count_bytes ks)) (let e : 4 * suc x + j - 4 ≡ 4 * x + j = omega arith in
+    e) ∙ count_byte ks x j (omega arith) m
 
 pub count_small : (ks : List ℕ) → ((x : ℕ) → at ks x < 2 ^ 32) → Small (count_bytes ks)
 unfolding count_bytes flat at

@@ -3,9 +3,11 @@ use Rattle.model.specs.Kit.{◌≡◌, refl, sym, ap, ap₂, ◌∙◌, subst, B
 use Rattle.model.specs.Kit.{Memᴰ-map, Memᴰ-of_map, ℕ, zero, suc, ◌+◌, ◌-◌, ◌*◌, ◌%◌, ◌≤◌, ◌<◌, ◌^◌, arith, T, leb, ltb, eqb, eqb→eq, length, take, set, get_or, replicate, length-set, ltb-true}
 use Rattle.model.specs.Kit.{ltb-false, leb-false, eqb-true, eqb-false}
 use Rattle.model.specs.Lists.{both, all, ascending, rows_ascend, either, any, keep, flat, below, up_from, tabulate}
-use Rattle.model.specs.Sheet.{word, Header, header_of, scope_at, rows_at, after_at, permutes_pairs, problem_of, sets_verdict, constraint_verdict, constraints_verdict, symmetries_verdict, header_verdict}
+use Rattle.model.specs.Sheet.{word, Header, header_of, scope_at, rows_at, after_at, permutes_pairs, problem_of, sets_verdict, constraint_verdict, constraints_verdict, symmetries_verdict}
+use Rattle.model.specs.Sheet.{header_verdict}
 use Rattle.model.specs.Sheet.{form_verdict, verdict_of}
-use Rattle.model.specs.Run.{Ending, finished, spent, full, plans_in, nodes_in, Result, search, result_of, Answer, ended, answer_of, written, list_of, Tally, settled_by, counts_by, tally_at, tally_for, tally_of}
+use Rattle.model.specs.Run.{Ending, finished, spent, full, plans_in, nodes_in, Result, search, result_of, Answer, ended, answer_of, written, list_of, Tally, settled_by, counts_by, tally_at, tally_for}
+use Rattle.model.specs.Run.{tally_of}
 use Rattle.model.specs.{Problem.Problem, Problem.respects, Search.nodes, Search.is_plan, Verdict.Verdict, Verdict.accepted, Verdict.refused, Verdict.ask, Verdict.reply, Verdict.kept}
 use lib.ListN.{get_or-eq_default}
 use lib.Seq.{get_or-set_same, get_or-set_other, set-get_or}

@@ -393,7 +393,8 @@ many_next ks o (suc r) d =
     many_next ks o r d'
     ∙ behind_last_ext (λ k. due_at r (slot_at d' k)) (λ k. due_at r (slot_passed (slot_at d k))) ks 0 d'.next (λ k m. ap (due_at r) (passing_in ks d k o m))
     ∙ ap (behind_last (λ k. due_at r (slot_passed (slot_at d k))) ks 0) (passing_next ks d o)
-    ∙ sym (first_turns (λ k. waits (slot_at d k)) (λ k. due_at (suc r) (slot_at d k)) (λ k. due_at r (slot_passed (slot_at d k))) (λ k. due_next r (slot_at d k)) (λ k e. quiet_none r (slot_at d k) e) ks 0
+    ∙ sym (first_turns (λ k. waits (slot_at d k)) (λ k. due_at (suc r) (slot_at d k)) (λ k. due_at r (slot_passed (slot_at d k))) (λ k. due_next r (slot_at d k)) (λ k e. quiet_none r (slot_at d k) e)
+    ks 0
     d.next (omega arith))
 
 total_none : (ks : List ℕ) → total (map (λ k. 0) ks) ≡ 0

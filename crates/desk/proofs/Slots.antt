@@ -11,7 +11,8 @@ use Rattle.desk.specs.Queue.{Job, Slot, free, taken, is_free, slot_at, Found, no
 use Rattle.desk.specs.Queue.{released, submit_reply, fits, release_for, release_reply, queue_reply, job_in, size, standing_by}
 use Rattle.desk.specs.Status.{status_for, status_reply, no_counts, status_counts}
 use Rattle.desk.specs.{Inner.Places.LIST, Inner.Places.LIST_BYTES, Meaning.room_after, Inner.Finding.found, StatusCalls.StatusCall, StatusCalls.StatusOtherSize}
-use Rattle.desk.specs.Inner.Layout.{slot_place, long, plans_at, width_at, nodes_at, standing_at, rows_at, job_at, slot_of, queue_of, slot_bytes, submit_bytes, release_bytes, call_bytes, reply_on, status_on}
+use Rattle.desk.specs.Inner.Layout.{slot_place, long, plans_at, width_at, nodes_at, standing_at, rows_at, job_at, slot_of, queue_of, slot_bytes, submit_bytes, release_bytes, call_bytes, reply_on}
+use Rattle.desk.specs.Inner.Layout.{status_on}
 use Rattle.desk.specs.Inner.Layout.{bytes_after, counts_at, counts_on}
 use Rattle.desk.proofs.Queue.{none_first}
 
@@ -147,7 +148,8 @@ module _ (b sheet : List ℕ) (limit : ℕ) where
     pub submit_refused : (k number item : ℕ) → found k ≡ lowest_free (queue_of b) → k < 8 → refused number item ≡ verdict_of sheet → Submits (refusal number item) b
     submit_refused k number item e h v = by (slot k) (refused number item) (sym e ∙ found_k k h) (sym v)
 
-    pub submit_yes : (k : ℕ) (c : List ℕ) → found k ≡ lowest_free (queue_of b) → k < 8 → accepted ≡ verdict_of sheet → c ≡ placed b (slot_place k) (slot_bytes sheet limit) → Submits (answered (queued k)) c
+    pub submit_yes : (k : ℕ) (c : List ℕ) → found k ≡ lowest_free (queue_of b) → k < 8 → accepted ≡ verdict_of sheet → c ≡ placed b (slot_place k) (slot_bytes sheet limit) →
+        Submits (answered (queued k)) c
     submit_yes k c e h v q = let r = by (slot k) accepted (sym e ∙ found_k k h) (sym v) in (r.0, q ∙ r.1)
 
 -- ---- the status
@@ -178,7 +180,8 @@ module _ (b : List ℕ) (k : ℕ) where
       pub status_free : at b (slot_place k) ≡ 0 → Seen (refusal 38 0) no_counts
       status_free z = seen_by free (slot_in b k h ∙ free_at b k z)
 
-      pub status_yes : (s plans nodes : ℕ) (counts : List ℕ) → (at b (slot_place k) ≡ 0 → ⊥) → s ≡ standing_at b (slot_place k) → plans ≡ plans_at b (slot_place k) → nodes ≡ nodes_at b (slot_place k) →
+      pub status_yes : (s plans nodes : ℕ) (counts : List ℕ) → (at b (slot_place k) ≡ 0 → ⊥) → s ≡ standing_at b (slot_place k) → plans ≡ plans_at b (slot_place k) →
+          nodes ≡ nodes_at b (slot_place k) →
           counts ≡ counts_at b (slot_place k) → Seen (answered (served k (standing_by s plans nodes) plans nodes)) counts
       unfolding job_at rows_at
       status_yes s plans nodes counts n x y z c =

@@ -5,7 +5,8 @@ use Rattle.model.specs.{Lists.at, Lists.flat, Bytes.two_bytes, Bytes.four_bytes,
 use lib.Seq.{take_at, drop_at, take-take, take-length}
 use Rattle.model.proofs.{Lists.at_append, Lists.at_skip, Room.Wide, Room.wide_tail, Room.length_flat, Written.length_placed, Written.placed_before, Written.placed_in, Written.placed_after}
 use Rattle.desk.specs.Inner.Places.{LIMIT, STANDING, NODES, PLANS, DEPTH, LAST, COUNTS, SHEET, LIST, LIST_BYTES, NEXT}
-use Rattle.desk.specs.Inner.Layout.{slot_place, long, nodes_at, plans_at, width_at, rows_at, last_at, job_at, slot_of, standing_byte, figure_bytes, run_bytes, with_run, state_bytes, count_bytes, counts_at}
+use Rattle.desk.specs.Inner.Layout.{slot_place, long, nodes_at, plans_at, width_at, rows_at, last_at, job_at, slot_of, standing_byte, figure_bytes, run_bytes, with_run, state_bytes, count_bytes}
+use Rattle.desk.specs.Inner.Layout.{counts_at}
 use Rattle.desk.specs.{Queue.Standing, Queue.running, Queue.over, Queue.Job, Queue.taken, Queue.standing_by, Claims.QueueBytes}
 use Rattle.desk.proofs.Bytes.{Small, part_is, word_of, long_of, small_cons, small_nil, small_append, small_replicate, small_placed, small_four, small_two}
 use Rattle.desk.proofs.Meaning.{job_is, sheet_same, width_same, long_same, slot_same, others_placed}

@@ -85,7 +85,8 @@ Known b p q = ((q.variables ≡ width_at b p) × (1 ≤ q.variables) × (q.varia
 abbrev pub raw_at : List ℕ → ℕ → List ℕ
 raw_at b p = take (sheet_length b p) (drop (p + SHEET) b)
 
-pub raw_known : (b : List ℕ) (p : ℕ) → T (compilable (raw_at b p)) → ((problem_of (raw_at b p)).variables ≡ width_at b p) × (1 ≤ (problem_of (raw_at b p)).variables) × ((problem_of (raw_at b p)).variables ≤ 12)
+pub raw_known : (b : List ℕ) (p : ℕ) → T (compilable (raw_at b p)) → ((problem_of (raw_at b p)).variables ≡ width_at b p) × (1 ≤ (problem_of (raw_at b p)).variables)
+    × ((problem_of (raw_at b p)).variables ≤ 12)
 unfolding problem_of header_of «word» at
 raw_known b p t =
     let raw = raw_at b p in

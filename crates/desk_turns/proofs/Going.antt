@@ -44,7 +44,8 @@ module _ (b : List ℕ) (p : ℕ) (room : p + SLOT ≤ length b) (small : Small 
       let n = narrow in
       let m = many in
       let area = drop (p + LIST) b in
-      flat_listed (width_at b p) (plans_at b p) (take LIST_BYTES area) ∙ take-take (plans_at b p * width_at b p) LIST_BYTES area (omega arith) ∙ sym (take-take (plans_at b p * width_at b p) size area m)
+      flat_listed (width_at b p) (plans_at b p) (take LIST_BYTES area) ∙ take-take (plans_at b p * width_at b p) LIST_BYTES area (omega arith)
+      ∙ sym (take-take (plans_at b p * width_at b p) size area m)
 
   listed : written (rows_at b p) list ≡ list
   unfolding written

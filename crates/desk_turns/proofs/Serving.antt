@@ -4,7 +4,8 @@ use Rattle.model.specs.{Lists.at, Lists.flat, Lists.choose, Written.placed, Run.
 use Rattle.model.proofs.{Lists.T_of, Lists.of_T, Written.length_placed, Written.placed_then, Tally.length_counts, Tally.count_most}
 use Rattle.run_state.specs.{Inner.Pair.prefix_of, Inner.Walk.stop_in}
 use Rattle.run_cut.specs.Parts.{nodes_after, go_on, made_in, added}
-use Rattle.desk.specs.Queue.{Standing, running, over, goes_on, Job, list_room, standing_after, job_after, job_turned, Slot, taken, waits, slot_turned, slot_at, Found, none_found, slot, round_from, to_serve}
+use Rattle.desk.specs.Queue.{Standing, running, over, goes_on, Job, list_room, standing_after, job_after, job_turned, Slot, taken, waits, slot_turned, slot_at, Found, none_found, slot, round_from}
+use Rattle.desk.specs.Queue.{to_serve}
 use Rattle.desk.specs.Queue.{turn, QueueReply, idle, served, served_as, turn_reply, refusal, answered, size, standing_by}
 use Rattle.desk.specs.{Rounds.turned, Rounds.due, Rounds.given, Inner.Places.LIMIT, Inner.Places.STANDING, Inner.Places.COUNTS, Inner.Places.LIST, Inner.Places.NEXT, Claims.QueueBytes}
 use Rattle.desk.specs.Inner.Layout.{slot_place, long, nodes_at, counts_at, job_at, slot_of, queue_of, standing_byte, state_bytes, count_bytes, run_bytes, with_run, turn_bytes, reply_on, bytes_after}

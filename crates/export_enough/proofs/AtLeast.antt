@@ -28,8 +28,10 @@ module _ (b pairs block : List ℕ) (m limit : ℕ) (answer : List ℕ) where
   pub wrong_size : (length answer ≡ 12 → ⊥) → (wrong_length ≡ enough_code b pairs block m limit answer) × (answer ≡ enough_bytes b pairs block m limit answer)
   unfolding enough_code enough_bytes
   wrong_size n =
-      let e = ne_eqb (length answer) 12 n in
-      (sym (ap (λ (d : Bool). choose d (said_code (enough_lent b pairs block limit m)) wrong_length) e), sym (ap (λ (d : Bool). choose d (said_bytes (enough_lent b pairs block limit m) answer) answer) e))
+      let e = ne_eqb (length answer) 12 n in (
+        sym (ap (λ (d : Bool). choose d (said_code (enough_lent b pairs block limit m)) wrong_length) e),
+        sym (ap (λ (d : Bool). choose d (said_bytes (enough_lent b pairs block limit m) answer) answer) e),
+      )
 
   pub right_size : (said : EnoughAnswer) (code : ℕ) (answer' : List ℕ) → length answer ≡ 12 → said ≡ enough_lent b pairs block limit m → code ≡ said_code said → answer' ≡ said_bytes said answer →
       (code ≡ enough_code b pairs block m limit answer) × (answer' ≡ enough_bytes b pairs block m limit answer)

@@ -52,7 +52,8 @@ lent_small b pairs block =
     (λ e. order_small (problem_of b).variables pairs (block_lent (problem_of b) block) (block_small (problem_of b) block (few_symmetries b e)))
 
 -- ---- planner_run_lent
-pub refusal_lent_of : (b pairs block : List ℕ) (limit : ℕ) (out : List ℕ) (number item : ℕ) → answer_lent b pairs block limit out ≡ refusal number item → verdict_lent b pairs block ≡ refused number item
+pub refusal_lent_of : (b pairs block : List ℕ) (limit : ℕ) (out : List ℕ) (number item : ℕ) → answer_lent b pairs block limit out ≡ refusal number item →
+    verdict_lent b pairs block ≡ refused number item
 unfolding answer_by
 refusal_lent_of b pairs block limit out number item e = reply_refused (verdict_lent b pairs block) (result_by (order_lent b pairs) (problem_with b block) limit (length out)).ending number item e
 

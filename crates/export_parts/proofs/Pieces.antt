@@ -1,5 +1,6 @@
 -- The pieces of a head as they are made: a digest byte by byte, a path value by value, texts one behind the other. Assumes nothing.
-use Rattle.model.specs.Kit.{◌≡◌, refl, sym, ap, ap₂, ◌∙◌, subst, List, [], ◌∷◌, ◌++◌, ℕ, suc, ◌+◌, ◌*◌, ◌%◌, ◌≤◌, ◌<◌, min, add-one, arith, length, take, get_or, set, length-take, take_all, get_or-take}
+use Rattle.model.specs.Kit.{◌≡◌, refl, sym, ap, ap₂, ◌∙◌, subst, List, [], ◌∷◌, ◌++◌, ℕ, suc, ◌+◌, ◌*◌, ◌%◌, ◌≤◌, ◌<◌, min, add-one, arith, length, take, get_or, set, length-take, take_all}
+use Rattle.model.specs.Kit.{get_or-take}
 use Rattle.model.specs.{Lists.at, Lists.tabulate, Bytes.four_bytes, Written.Written}
 use lib.Seq.{take-suc}
 use Rattle.model.proofs.{Lists.length_tabulate, Lists.at_out, Written.written_byte, Written.written_then}

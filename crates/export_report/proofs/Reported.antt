@@ -1,7 +1,9 @@
 -- What a run's answer says of the report. Assumes nothing.
 use Rattle.model.specs.Kit.{◌≡◌, refl, sym, ap, ap₂, ◌∙◌, subst, Bool, true, false, List, [], ◌∷◌, ℕ, ◌*◌, ◌≤◌, ◌<◌, arith, eqb, leb, length, take, drop, length-append, le-leb, lt-leb}
-use Rattle.model.specs.{Lists.at, Lists.choose, Bytes.four_bytes, Verdict.Verdict, Verdict.accepted, Verdict.refused, Verdict.ask, Verdict.kept, Room.Outcome, Room.wrote, Room.refusal, Room.outcome_of}
-use Rattle.model.specs.{Room.room_after, Sheet.header_of, Sheet.problem_of, Sheet.verdict_of, Run.Ending, Run.plans_in, Run.result_of, Run.ended, Run.answer_of, Run.written, Run.list_of, Run.listed_plans}
+use Rattle.model.specs.{Lists.at, Lists.choose, Bytes.four_bytes, Verdict.Verdict, Verdict.accepted, Verdict.refused, Verdict.ask, Verdict.kept, Room.Outcome, Room.wrote, Room.refusal}
+use Rattle.model.specs.{Room.outcome_of}
+use Rattle.model.specs.{Room.room_after, Sheet.header_of, Sheet.problem_of, Sheet.verdict_of, Run.Ending, Run.plans_in, Run.result_of, Run.ended, Run.answer_of, Run.written, Run.list_of}
+use Rattle.model.specs.{Run.listed_plans}
 use native.Mathlib.Nat.{le_of_mul-le-mul_right}
 use Rattle.report.specs.{Report.line, Report.refused_word, Report.result_text, Report.report_for, Report.report_of, Report.REPORT_LIMIT, Inner.Text.ended_text, Inner.Text.Fitted}
 use Rattle.families_figure.specs.Figure.{report_figure}
@@ -64,7 +66,8 @@ module _ (b : List ℕ) (n : ℕ) (out : List ℕ) (e : Ending) (size : Sized b 
       ∙ read_back p.variables (result_of p REPORT_LIMIT (length out)).rows out (plans_in e) counted (rows_sized p REPORT_LIMIT (length out)) in
       let so : (result_of p REPORT_LIMIT (length out)).ending ≡ e = ran.1 in
       let f = report_figure b REPORT_LIMIT in
-      let whole : ended_text e f n list ≡ result_text (result_of p REPORT_LIMIT (length out)) f = ap₂ (λ (x : Ending) (y : List (List ℕ)). result_text (record { ending = x; rows = y }) f) (sym so) rows in
+      let whole : ended_text e f n list ≡ result_text (result_of p REPORT_LIMIT (length out)) f =
+      ap₂ (λ (x : Ending) (y : List (List ℕ)). result_text (record { ending = x; rows = y }) f) (sym so) rows in
       whole
       ∙ ap (λ (k : ℕ). result_text (result_of p REPORT_LIMIT k) f) room_is
       ∙ sym (ap (λ (v : Verdict). report_for v b) verdict)

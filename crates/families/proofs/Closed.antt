@@ -94,7 +94,8 @@ module _ (p : Problem) where
       leader_test s =
           TExt (is_leader earlier p s) (both (is_solution p s) (is_earliest p s))
           (λ t. let l = leader_e earlier p w s t in both_i (is_solution p s) (is_earliest p s) l.solves (earliest_i p w respected s l.solves (leader_earliest closed s l)))
-          (λ t. let sol = both_l (is_solution p s) (is_earliest p s) t in leader_i earlier p w s (earliest_leader s sol (earliest_e p w respected s sol (both_r (is_solution p s) (is_earliest p s) t))))
+          (λ t. let sol = both_l (is_solution p s) (is_earliest p s) t in
+          leader_i earlier p w s (earliest_leader s sol (earliest_e p w respected s sol (both_r (is_solution p s) (is_earliest p s) t))))
 
       -- the leaders are the earliest of the families
       pub leaders_earliest : leaders p ≡ earliest_of p

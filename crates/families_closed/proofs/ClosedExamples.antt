@@ -18,6 +18,7 @@ unfolding opened makes moves_nothing made first_missing first_open orderings ord
 none_block = refl
 
 pub examples_closed : Each tests_closed
-unfolding opened makes moves_nothing made first_missing first_open closed_lent verdict_lent pairs_in forerunners can_follow settled_first settling_order settles_all order_verdict orderings ordering factorial
+unfolding opened makes moves_nothing made first_missing first_open closed_lent verdict_lent pairs_in forerunners can_follow settled_first settling_order settles_all order_verdict orderings ordering
+    factorial
     variable_table in_block image_of ordering_table block_tables is_block_at block_verdict tables_lent block_lent
 examples_closed = ((open_none (problem_of sheet_a)).0 none_a, (refl, (refl, (refl, ((open_none (problem_with sheet_a0 (0 ∷ 2 ∷ []))).0 none_block, (refl, (refl, tt)))))))

@@ -87,7 +87,8 @@ module _ {p : Problem} {images : List ℕ} {variables values : ℕ} (h : Held p 
 
     pub agree_all : (c q : ℕ) → variables * values ≤ q → ((k : ℕ) → k < q → at (symmetry_at p b) (at (symmetry_at p a) k) ≡ at (symmetry_at p c) k) → true ≡ makes p (symmetry_at p a) (symmetry_at p b)
         (symmetry_at p c)
-    agree_all c q l i = sym (of_T (makes p (symmetry_at p a) (symmetry_at p b) (symmetry_at p c)) (makes_i p (symmetry_at p a) (symmetry_at p b) (symmetry_at p c) (λ k m. i k (omega (arith, size_is)))))
+    agree_all c q l i = sym
+        (of_T (makes p (symmetry_at p a) (symmetry_at p b) (symmetry_at p c)) (makes_i p (symmetry_at p a) (symmetry_at p b) (symmetry_at p c) (λ k m. i k (omega (arith, size_is)))))
 
     pub stay_all : (q : ℕ) → variables * values ≤ q → ((k : ℕ) → k < q → at (symmetry_at p b) (at (symmetry_at p a) k) ≡ k) → true ≡ moves_nothing p (symmetry_at p a) (symmetry_at p b)
     stay_all q l i = sym (of_T (moves_nothing p (symmetry_at p a) (symmetry_at p b)) (nothing_i p (symmetry_at p a) (symmetry_at p b) (λ k m. i k (omega (arith, size_is)))))

@@ -1,7 +1,8 @@
 -- The figure from a bare run on the arrays (specs/Held). Assumes nothing.
 use Rattle.model.specs.Kit.{◌≡◌, refl, sym, ap, ◌∙◌, subst, inl, ⊎_elim, List, [], ◌∷◌, Memᴰ-not_nil, ℕ, ◌*◌, ◌≤◌, arith, T, length, set, replicate, length-set, length-replicate}
 use Rattle.model.specs.Run.{Ending, finished, spent, full, plans_in, nodes_in, result_of, Tally}
-use Rattle.model.specs.{Lists.at, Problem.Problem, Inner.WellFormed.WellFormed, Verdict.Verdict, Verdict.accepted, Verdict.refused, Verdict.is_accepted, Verdict.reply, Sheet.problem_of, Sheet.verdict_of}
+use Rattle.model.specs.{Lists.at, Problem.Problem, Inner.WellFormed.WellFormed, Verdict.Verdict, Verdict.accepted, Verdict.refused, Verdict.is_accepted, Verdict.reply, Sheet.problem_of}
+use Rattle.model.specs.{Sheet.verdict_of}
 use types.Run.{OneOf}
 use denote.Enum.Declared.{tag_of}
 use Rattle.model.proofs.{Accepted.passed, Accepted.symmetries_are, Accepted.is_accepted_lem, Asked.well_formed_with, Lists.at_set, Lists.never}
@@ -101,7 +102,8 @@ module _ (b pairs block : List ℕ) (symmetries : ℕ) (stack work supports tabl
 -- new arrays to write on
 pub new_whole : (b pairs block numbers supports images : List ℕ) (n : ℕ) → Put b pairs block numbers supports images n → Whole b pairs block n (replicate STACK 0) (replicate WORK 0) supports
     (replicate TABLES 0) numbers images
-new_whole b pairs block numbers supports images n h = record { put = h; writable = record { stack_length = (zeros STACK).sized; work_length = (zeros WORK).sized; tables_length = (zeros TABLES).sized } }
+new_whole b pairs block numbers supports images n h =
+    record { put = h; writable = record { stack_length = (zeros STACK).sized; work_length = (zeros WORK).sized; tables_length = (zeros TABLES).sized } }
 
 -- a refusal is that of the run
 pub counted_refused : (b pairs block : List ℕ) (limit i j : ℕ) → refused i j ≡ verdict_lent b pairs block → T.refusal i j ≡ counted_lent b pairs block limit
@@ -176,5 +178,6 @@ unfolding counted_lent
 told_few b pairs block limit k e = go (verdict_lent b pairs block) refl e
   where
     go : (v : Verdict) → verdict_lent b pairs block ≡ v → told (number k) ≡ reply v (families_lent b pairs block limit (4096 * (problem_of b).variables)) → k ≤ 4096
-    go accepted q t = figure_few b pairs block limit (4096 * (problem_of b).variables) q k (omega arith) (let z : families_lent b pairs block limit (4096 * (problem_of b).variables) ≡ number k = cc in z)
+    go accepted q t = figure_few b pairs block limit (4096 * (problem_of b).variables) q k (omega arith) (let z : families_lent b pairs block limit (4096 * (problem_of b).variables) ≡ number k =
+        cc in z)
     go (refused i j) q t = never (cc)

@@ -1,7 +1,8 @@
 -- A sheet without its exchanges is accepted where the sheet is, and states the same problem without symmetries (specs/FigureClaims). Assumes nothing.
 use Rattle.model.specs.Kit.{◌≡◌, refl, sym, ap, ap₂, ◌∙◌, subst, Bool, true, List, [], ◌++◌, map, ℕ, suc, ◌+◌, ◌-◌, ◌*◌, ◌^◌, ◌≤◌, ◌<◌, arith, length, take, drop, length-append, length-take}
 use Rattle.model.specs.Kit.{length-drop, get_or-take, get_or-drop, eq-eqb}
-use Rattle.model.specs.Sheet.{Header, word, words, header_of, header_verdict, constraints_from, table_at, problem_of, sets_verdict, constraints_verdict, tables_fit, form_verdict, symmetries_verdict, verdict_of}
+use Rattle.model.specs.Sheet.{Header, word, words, header_of, header_verdict, constraints_from, table_at, problem_of, sets_verdict, constraints_verdict, tables_fit, form_verdict, symmetries_verdict}
+use Rattle.model.specs.Sheet.{verdict_of}
 use Rattle.model.specs.{Lists.at, Lists.below, Lists.up_from, Bytes.two_bytes, Problem.Problem, Problem.Constraint, Verdict.Verdict, Verdict.accepted, Verdict.ask}
 use Rattle.model.proofs.{Lists.at_skip, Lists.below_e, Accepted.HeaderPassed, Accepted.Passed, Accepted.at_words, OneMore.word_of, OneMore.at_left, OneMore.Agree, OneMore.word_agree}
 use Rattle.model.proofs.{OneMore.words_agree, OneMore.constraints_agree, Asked.tables_header, Asked.header_passes, Asked.sets_pass, Asked.constraints_pass, Demands.of_accepted}

@@ -69,7 +69,8 @@ module _ (b pairs block : List ℕ) (limit room : ℕ) (h : verdict_lent b pairs
         le_of_mul-le-mul_right (let z : length (solutions_of p) * p.variables ≤ 4096 * p.variables = omega arith in z) w.some
 
     -- so what `families::families` is lent is right, where the images of all symmetries are in the order too
-    pub figure_counted : (images out : List ℕ) → room ≤ 4096 * (problem_lent b pairs block).variables → Images (problem_lent b pairs block) images → length (problem_lent b pairs block).symmetries ≤ 136 →
+    pub figure_counted : (images out : List ℕ) → room ≤ 4096 * (problem_lent b pairs block).variables → Images (problem_lent b pairs block) images →
+        length (problem_lent b pairs block).symmetries ≤ 136 →
         192 * length (problem_lent b pairs block).symmetries ≤ length images →
         Counted (problem_lent b pairs block) (written (result_of (bare_lent b pairs block) limit room).rows out) images (problem_lent b pairs block).variables
         (length (problem_lent b pairs block).symmetries) plans

@@ -1,7 +1,8 @@
 -- The figure of a run that is lent a sheet, pairs and a block, and one of each family (specs/Inner/FigureClaims). Assumes nothing.
 use Rattle.model.specs.Kit.{◌≡◌, refl, sym, ap, ap₂, ◌∙◌, subst, ◌↔◌, ◌⊎◌, inl, ⊎_elim, List, [], ◌∷◌, ◌++◌, map, append-nil, Memᴰ, Memᴰ-not_nil, ℕ, T, length}
 use Rattle.model.specs.Run.{Ending, finished, spent, full, plans_in, written}
-use Rattle.model.specs.{Problem.Problem, Problem.is_solution, Problem.with_symmetries, Verdict.Verdict, Verdict.accepted, Verdict.is_accepted, Verdict.reply, Verdict.kept, Claims.Leader, Lists.up_from}
+use Rattle.model.specs.{Problem.Problem, Problem.is_solution, Problem.with_symmetries, Verdict.Verdict, Verdict.accepted, Verdict.is_accepted, Verdict.reply, Verdict.kept, Claims.Leader}
+use Rattle.model.specs.{Lists.up_from}
 use Rattle.model.specs.{Lists.below, Sheet.header_of, Sheet.problem_of, Sheet.table_at, Inner.WellFormed.WellFormed, Inner.WellFormed.Respected}
 use Rattle.order.specs.{Order.Ordering, Order.settling_order, Order.order_verdict, Reordered.earlier_by, RunBy.Input, RunBy.result_by, RunBy.leaders_by, RunBy.answer_by, RunBy.list_by}
 use Rattle.order.proofs.{Order.no_circle_passes, Demanded.ran_by, RunBy.leaders_by_hold, RunBy.finished_lists, RunBy.rows_counted_by, RunBy.fewer_by}

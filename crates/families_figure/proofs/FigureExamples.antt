@@ -9,6 +9,7 @@ use Rattle.families.specs.Families.{solutions_of, widened, reached_in, family_of
 use Rattle.families_figure.specs.{Figure.bare_sheet, Figure.families_lent, FigureExamples.tests_figure}
 
 pub examples_figure : Each tests_figure
-unfolding opened pairs_in forerunners can_follow settled_first settling_order position read write value_of scope_in row_in renamed symmetry_in result_by tables_lent solutions_of widened reached_in family_of
+unfolding opened pairs_in forerunners can_follow settled_first settling_order position read write value_of scope_in row_in renamed symmetry_in result_by tables_lent solutions_of widened reached_in
+    family_of
     is_earliest earliest_of families_of bare_sheet families_lent
 examples_figure = (refl, (refl, (refl, (refl, (refl, (refl, (refl, (refl, (refl, tt)))))))))

@@ -1,7 +1,8 @@
 -- A scan on the first n of sixteen sets, step by step: how `Passed` goes on with each entry, and how it ends. Assumes nothing.
 use Rattle.model.specs.Kit.{◌≡◌, refl, sym, ap, ◌∙◌, subst, Bool, true, false, List, [], ◌∷◌, map, ℕ, ◌^◌, ◌≤◌, ◌<◌, arith, dec_lt, T, eqb, length, set, take, length-set, get_or-take, length-take-le}
 use Rattle.model.specs.Kit.{eqb-true, eqb-false}
-use Rattle.model.specs.{Lists.at, ValueSets.without_mask, ValueSets.only_mask, ValueSets.any_empty, ValueSets.Inside, Nogood.Entry, Nogood.equality, Nogood.disequality, Nogood.obeys_from, Nogood.filtered}
+use Rattle.model.specs.{Lists.at, ValueSets.without_mask, ValueSets.only_mask, ValueSets.any_empty, ValueSets.Inside, Nogood.Entry, Nogood.equality, Nogood.disequality, Nogood.obeys_from}
+use Rattle.model.specs.{Nogood.filtered}
 use lib.Seq.{take-set-lt}
 use Rattle.model.proofs.{Lists.either_l, Lists.at_out, Lists.at_set_other, Lists.set_each, Lists.never, Sets.at_zeros, Sets.empty_i, Sets.inside_refl, Sets.inside_trans}
 use Rattle.filter.specs.declared.entry.Step.TheVariants.{Next, Failed, Obeyed, Split}

@@ -2,7 +2,8 @@
 -- or is obeyed for good. Assumes nothing.
 use Rattle.model.specs.Kit.{◌≡◌, refl, sym, ap, ap₂, ◌∙◌, subst, Bool, true, false, not, List, [], ◌∷◌, ◌++◌, append_assoc, append-nil, Memᴰ, Memᴰ-head, Memᴰ-tail, Memᴰ-not_nil}
 use Rattle.model.specs.Kit.{Memᴰ-append_left, ⊎_elim, ℕ, ◌%◌, ◌^◌, ◌<◌, ◌≤◌, mod-eq_of_lt, arith, T, eqb, ltb, eqb→eq, eqb_refl, length, eq-eqb, eqb-true, lt-ltb, le-ltb}
-use Rattle.model.specs.Nogood.{Entry, equality, disequality, Kind, is_equality_lem, is_disequality, both_absent, both_present, mark, kind_by, kind_of, entry_in, entry_of, value_ok, entry_ok, is, obeys_from, obeys}
+use Rattle.model.specs.Nogood.{Entry, equality, disequality, Kind, is_equality_lem, is_disequality, both_absent, both_present, mark, kind_by, kind_of, entry_in, entry_of, value_ok, entry_ok, is}
+use Rattle.model.specs.Nogood.{obeys_from, obeys}
 use Rattle.model.specs.Nogood.{obeying}
 use Rattle.model.specs.{Lists.at, Lists.both, ValueSets.has, ValueSets.mask_of, ValueSets.without_mask, ValueSets.only_mask, ValueSets.Inside, Problem.assignments}
 use Rattle.model.proofs.Lists.{T_of, of_T, not_of, of_not, both_i, both_l, both_r, both_no_r, keep_ext, get_d_at, never}

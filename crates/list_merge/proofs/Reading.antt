@@ -112,7 +112,8 @@ module _ (order a b : List ℕ) (i : ℕ) where
   ended h = come_end order a b (i + 1) h
 
   -- where the rows differ at the place, or it is the last, it decides
-  pub come_way : i < length order → (get_or a (get_or order i 0) 0 ≡ get_or b (get_or order i 0) 0 → length order ≤ i + 1) → onwards order a b i ≡ ltb (get_or a (get_or order i 0) 0) (get_or b (get_or order i 0) 0)
+  pub come_way : i < length order → (get_or a (get_or order i 0) 0 ≡ get_or b (get_or order i 0) 0 → length order ≤ i + 1) →
+      onwards order a b i ≡ ltb (get_or a (get_or order i 0) 0) (get_or b (get_or order i 0) 0)
   come_way h last = cases (ltb x y) refl (ltb y x) refl
     where
       x : ℕ

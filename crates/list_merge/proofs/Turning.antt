@@ -51,7 +51,8 @@ module _ (n : ℕ) (order a b : List ℕ) (d : Rests n order a b) (w : Way) (e :
       ((length b ≡ 0 → ⊥) → (length a ≡ 0 → ⊥) → earlier_by order (take n b) (take n a) ≡ false → earlier_by order (take n a) (take n b) ≡ true → P After) →
       ((length b ≡ 0 → ⊥) → (length a ≡ 0 → ⊥) → earlier_by order (take n b) (take n a) ≡ false → earlier_by order (take n a) (take n b) ≡ false → P Same) → P w
   unfolding stands
-  split P none only later sooner equal = subst P (sym e) (go (eqb (length b) 0) refl (eqb (length a) 0) refl (earlier_by order (take n b) (take n a)) refl (earlier_by order (take n a) (take n b)) refl)
+  split P none only later sooner equal =
+      subst P (sym e) (go (eqb (length b) 0) refl (eqb (length a) 0) refl (earlier_by order (take n b) (take n a)) refl (earlier_by order (take n a) (take n b)) refl)
     where
       go : (t : Bool) → eqb (length b) 0 ≡ t → (u : Bool) → eqb (length a) 0 ≡ u → (p : Bool) → earlier_by order (take n b) (take n a) ≡ p → (q : Bool) → earlier_by order (take n a) (take n b) ≡ q
           → P (elim t [ true ↦ After | false ↦ elim u [ true ↦ Before | false ↦ way_of p q ] ])

@@ -102,7 +102,8 @@ module _ (a b : List ℕ) where
       let tail : List ℕ → ℕ → ℕ → ℕ = λ (l : List ℕ) (i u : ℕ). get_or l i 0 + u * 256 in
       let p₀ = peel (get_or a 0 0) (get_or b 0 0) (tail a 1 (tail a 2 (tail a 3 (tail a 4 (tail a 5 (tail a 6 (get_or a 7 0)))))))
       (tail b 1 (tail b 2 (tail b 3 (tail b 4 (tail b 5 (tail b 6 (get_or b 7 0))))))) (sa 0) (sb 0) (omega arith) in
-      let p₁ = peel (get_or a 1 0) (get_or b 1 0) (tail a 2 (tail a 3 (tail a 4 (tail a 5 (tail a 6 (get_or a 7 0)))))) (tail b 2 (tail b 3 (tail b 4 (tail b 5 (tail b 6 (get_or b 7 0)))))) (sa 1) (sb 1)
+      let p₁ = peel (get_or a 1 0) (get_or b 1 0) (tail a 2 (tail a 3 (tail a 4 (tail a 5 (tail a 6 (get_or a 7 0)))))) (tail b 2 (tail b 3 (tail b 4 (tail b 5 (tail b 6 (get_or b 7 0)))))) (sa 1)
+      (sb 1)
       p₀.1 in
       let p₂ = peel (get_or a 2 0) (get_or b 2 0) (tail a 3 (tail a 4 (tail a 5 (tail a 6 (get_or a 7 0))))) (tail b 3 (tail b 4 (tail b 5 (tail b 6 (get_or b 7 0))))) (sa 2) (sb 2) p₁.1 in
       let p₃ = peel (get_or a 3 0) (get_or b 3 0) (tail a 4 (tail a 5 (tail a 6 (get_or a 7 0)))) (tail b 4 (tail b 5 (tail b 6 (get_or b 7 0)))) (sa 3) (sb 3) p₂.1 in
@@ -126,7 +127,8 @@ module _ (a b : List ℕ) where
       }
 
 -- ---- the comparison
-pub words_way : (n : ℕ) (a b : List ℕ) → Long n a b → (r x y : ℕ) → Decides n a b r → Number a (word_of a r) x → Number b (word_of b r) y → way_of (ltb x y) (ltb y x) ≡ way_of (earlier a b) (earlier b a)
+pub words_way : (n : ℕ) (a b : List ℕ) → Long n a b → (r x y : ℕ) → Decides n a b r → Number a (word_of a r) x → Number b (word_of b r) y →
+    way_of (ltb x y) (ltb y x) ≡ way_of (earlier a b) (earlier b a)
 words_way n a b l r x y d p q = ap₂ way_of (one a b x y l.first l.second d.before d.last p q) (one b a y x l.second l.first (λ i h. sym (d.before i h)) (λ z. d.last (sym z)) q p)
   where
     one : (a b : List ℕ) (x y : ℕ) → length a ≡ n → length b ≡ n → ((i : ℕ) → i < r → get_or a i 0 ≡ get_or b i 0) → (word_of a r ≡ word_of b r → r + 4 ≡ n) → Number a (word_of a r) x → Number b

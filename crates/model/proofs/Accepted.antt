@@ -1,7 +1,8 @@
 -- What the questions show: the problem that an accepted sheet states is well formed. Assumes nothing.
 use Rattle.model.specs.Kit.{◌≡◌, refl, sym, ap, ◌∙◌, subst, Bool, true, false, not, List, [], ◌∷◌, Memᴰ, Memᴰ-not_nil, Memᴰ-cases_cons, Memᴰ-of_map, ⊎_elim, ℕ, zero, suc, ◌+◌}
 use Rattle.model.specs.Kit.{◌*◌, ◌^◌, ◌≤◌, ◌<◌, arith, T, T_not, leb, ltb, eqb, leb→le, ltb→lt, eqb→eq, length, eq-eqb}
-use Rattle.model.specs.Sheet.{Header, word, words, header_of, header_verdict, offsets_fit, sets_verdict, scope_at, rows_at, after_at, constraint_verdict, constraints_verdict, constraints_from, table_at}
+use Rattle.model.specs.Sheet.{Header, word, words, header_of, header_verdict, offsets_fit, sets_verdict, scope_at, rows_at, after_at, constraint_verdict, constraints_verdict, constraints_from}
+use Rattle.model.specs.Sheet.{table_at}
 use Rattle.model.specs.Sheet.{problem_of, permutes_pairs, tables_fit, form_verdict, symmetries_verdict, verdict_of}
 use Rattle.model.specs.{Lists.all, Lists.both, Lists.below, Lists.at, Lists.ascending, Lists.rows_ascend, Problem.Problem, Problem.Constraint, Problem.respects, Verdict.Verdict, Verdict.accepted}
 use Rattle.model.specs.{Verdict.refused, Verdict.ask, Verdict.is_accepted, Search.nodes, Search.nodes_below, Inner.WellFormed.WellFormed, Inner.WellFormed.Stated, Inner.WellFormed.GoodConstraint}

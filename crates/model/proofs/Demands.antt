@@ -62,7 +62,8 @@ symmetries_respect b h g m = let q = of_accepted b h in ((q.well.symmetric g m).
 
 -- ---- the sets at a prefix
 pub sets_largest : (b : List ℕ) (prefix : List ℕ) → verdict_of b ≡ accepted → Largest (λ x. x) (problem_of b) prefix (is_live (problem_of b) prefix) (sets_at (problem_of b) prefix)
-sets_largest b prefix h = (λ l. (live_consistent (problem_of b) prefix s l, consistent_inside (problem_of b) prefix s l), λ e. (dead_none (problem_of b) prefix s e, dead_empty (problem_of b) prefix s e))
+sets_largest b prefix h =
+    (λ l. (live_consistent (problem_of b) prefix s l, consistent_inside (problem_of b) prefix s l), λ e. (dead_none (problem_of b) prefix s e, dead_empty (problem_of b) prefix s e))
   where
     s : Sized (problem_of b)
     s = well_sized (problem_of b) (of_accepted b h).well

@@ -14,8 +14,10 @@ use Rattle.model.proofs.Filter.{filtered_none}
 -- every definition that computes
 unfoldable pub opened : ℕ
 unfolding all any keep flat tabulate up_from below at same earlier ascending rows_ascend has mask_below least members any_empty values_at satisfies is_solution assignments pair is_pair pairs_of within
-    takes doubled pairs_at excluded forbidden respects word words header_of scope_at rows_at after_at constraints_from table_at problem_of header_verdict sets_verdict constraint_verdict constraints_verdict
-    form_verdict distinct permutes_pairs symmetries_verdict verdict_of obeys_from obeying used filtered entries first_wrong filter_verdict sets_after entries_at nogoods_of row_with supported pruned narrowed
+    takes doubled pairs_at excluded forbidden respects word words header_of scope_at rows_at after_at constraints_from table_at problem_of header_verdict sets_verdict constraint_verdict
+    constraints_verdict
+    form_verdict distinct permutes_pairs symmetries_verdict verdict_of obeys_from obeying used filtered entries first_wrong filter_verdict sets_after entries_at nogoods_of row_with supported pruned
+    narrowed
     rounds sets_at is_live nodes_below nodes is_plan search result_of answer_of written list_of tally_of listed_plans
 opened = 0
 

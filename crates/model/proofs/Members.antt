@@ -28,12 +28,16 @@ pub low_has : (k s : ℕ) → 0 < s → s < 2 ^ k → T (has s (count_trailing_z
 low_has zero s p h = absurd (omega arith)
 low_has (suc k) s p h = go (low_has k (s / 2)) (odd_or_even s)
   where
-    go : (0 < s / 2 → s / 2 < 2 ^ k → T (has (s / 2) (count_trailing_zeros k (s / 2))) × (count_trailing_zeros k (s / 2) < k)) → (s % 2 ≡ 1) ⊎ (s % 2 ≡ 0) → T (has s (count_trailing_zeros (suc k) s)) ×
+    go : (0 < s / 2 → s / 2 < 2 ^ k → T (has (s / 2) (count_trailing_zeros k (s / 2))) × (count_trailing_zeros k (s / 2) < k)) → (s % 2 ≡ 1) ⊎ (s % 2 ≡ 0) →
+        T (has s (count_trailing_zeros (suc k) s)) ×
         (count_trailing_zeros (suc k) s < suc k)
     go ih (inl e) = subst (λ (v : ℕ). T (has s v) × (v < suc k)) (sym (low_odd k s e)) (T_of (has s 0) (has_zero s ∙ eq-eqb (s % 2) 1 e), omega arith)
     go ih (inr e) =
         let r = ih (omega arith) (omega (arith, pow2 k)) in
-        subst (λ (v : ℕ). T (has s v) × (v < suc k)) (sym (low_even k s e)) (T_of (has s (suc (count_trailing_zeros k (s / 2)))) (has_suc s (count_trailing_zeros k (s / 2)) ∙ of_T _ r.0), omega (arith, r.1))
+        subst (λ (v : ℕ). T (has s v) × (v < suc k)) (sym (low_even k s e)) (
+          T_of (has s (suc (count_trailing_zeros k (s / 2)))) (has_suc s (count_trailing_zeros k (s / 2)) ∙ of_T _ r.0),
+          omega (arith, r.1),
+        )
 
 -- ---- tests whose second part is known
 pub either_no : (b : Bool) → either b false ≡ b
@@ -72,7 +76,8 @@ rest_has (suc k) s (suc v) p h = has_suc (bit_and s (s - 1)) v ∙ ap (λ (n : �
     go ih (inr e) =
         let q : (s - 1) / 2 ≡ s / 2 - 1 = omega arith in
         ap (λ (n : ℕ). has (bit_and (s / 2) n) v) q ∙ ih (omega arith) (omega (arith, pow2 k))
-        ∙ ap₂ (λ (b c : Bool). both b (not c)) (sym (has_suc s v)) (sym (eqb-suc-suc v (count_trailing_zeros k (s / 2)))) ∙ ap (λ (n : ℕ). both (has s (suc v)) (not (eqb (suc v) n))) (sym (low_even k s e))
+        ∙ ap₂ (λ (b c : Bool). both b (not c)) (sym (has_suc s v)) (sym (eqb-suc-suc v (count_trailing_zeros k (s / 2))))
+        ∙ ap (λ (n : ℕ). both (has s (suc v)) (not (eqb (suc v) n))) (sym (low_even k s e))
 
 -- the same as facts about members
 module _ (k s : ℕ) (p : 0 < s) (h : s < 2 ^ k) where
@@ -162,7 +167,8 @@ xor_zero_e a b e = omega (arith, xor_add_and a b, and_le_l a b, and_le_r a b, e)
 -- one turn: s is what the lowest member gives
 pub union_turn : (R : ℕ → ℕ → Type 0) (k a m acc s : ℕ) → Rest k a m → (m ≡ 0 → ⊥) → Union R a m acc →
     ((w : ℕ) → R (count_trailing_zeros k m) w → T (has s w)) → ((w : ℕ) → T (has s w) → R (count_trailing_zeros k m) w) → Union R a (bit_and m (m - 1)) (bit_or acc s)
-union_turn R k a m acc s r n u i e = record { put = λ v w t q. put v w q (u.put v w t q); got = λ w t. ⊎_elim (u.got w) (λ t'. (count_trailing_zeros k m, (rest_low k a m r n).0, e w t')) (or_e acc s w t) }
+union_turn R k a m acc s r n u i e =
+    record { put = λ v w t q. put v w q (u.put v w t q); got = λ w t. ⊎_elim (u.got w) (λ t'. (count_trailing_zeros k m, (rest_low k a m r n).0, e w t')) (or_e acc s w t) }
   where
     put : (v w : ℕ) → R v w → T (has acc w) ⊎ T (has m v) → T (has (bit_or acc s) w) ⊎ T (has (bit_and m (m - 1)) v)
     put v w q (inl t) = inl (or_i acc s w (inl t))

@@ -190,7 +190,8 @@ module _ (p : Problem) (limit room : ℕ) where
       )
 
   -- a run with limit and room enough finishes
-  pub finishes : length (nodes p) ≤ limit → length (keep (is_plan p) (nodes p)) * p.variables ≤ room → (result_of p limit room).ending ≡ finished (length (keep (is_plan p) (nodes p))) (length (nodes p))
+  pub finishes : length (nodes p) ≤ limit → length (keep (is_plan p) (nodes p)) * p.variables ≤ room →
+      (result_of p limit room).ending ≡ finished (length (keep (is_plan p) (nodes p))) (length (nodes p))
   finishes h k = go (result_of p limit room).ending refl
     where
       w : Walk (nodes p) 0 [] (result_of p limit room)

@@ -181,7 +181,8 @@ fewer_sheet b c t k more =
 
 module _ (b : List ℕ) (limit : ℕ) (out : List ℕ) (tally : Tally) where
   abbrev Same : Type 0
-  Same = (answer_by (sheet_input b) limit out ≡ answer_of b limit out) × (list_by (sheet_input b) limit out ≡ list_of b limit out) × (tallied_by (sheet_input b) limit out tally ≡ tally_of b limit out tally)
+  Same = (answer_by (sheet_input b) limit out ≡ answer_of b limit out) × (list_by (sheet_input b) limit out ≡ list_of b limit out)
+      × (tallied_by (sheet_input b) limit out tally ≡ tally_of b limit out tally)
 
   abbrev q : Problem
   q = problem_of b

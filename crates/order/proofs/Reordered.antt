@@ -1,6 +1,7 @@
 -- The laws of the reordered problem. Assumes nothing.
 use Rattle.model.specs.Kit.{◌≡◌, refl, sym, ap, ap₂, ◌∙◌, subst, subst₂, Bool, true, false, List, [], ◌∷◌, map, Memᴰ, Memᴰ-head, Memᴰ-cases_cons, Memᴰ-cast, Memᴰ-map, Memᴰ-of_map, ◌↔◌}
-use Rattle.model.specs.Kit.{◌⊎◌, inl, inr, ⊎_elim, ℕ, zero, suc, ◌*◌, ◌/◌, ◌%◌, ◌^◌, ◌≤◌, ◌<◌, not-suc-le-zero, le_of_suc-le-suc, lt_of_lt_of_le, ℕ_discrete, dec_lt, arith, T, eqb, ltb, eqb→eq, length}
+use Rattle.model.specs.Kit.{◌⊎◌, inl, inr, ⊎_elim, ℕ, zero, suc, ◌*◌, ◌/◌, ◌%◌, ◌^◌, ◌≤◌, ◌<◌, not-suc-le-zero, le_of_suc-le-suc, lt_of_lt_of_le, ℕ_discrete, dec_lt, arith, T, eqb, ltb, eqb→eq}
+use Rattle.model.specs.Kit.{length}
 use Rattle.model.specs.Kit.{length-map, eq-eqb, ne_eqb, lt-ltb}
 use Rattle.model.specs.Problem.{Problem, Constraint, pair, is_pair, pairs_of, pairs_at, within, takes, forbidden, doubled, excluded, respects, assignments, values_at, satisfies, is_solution}
 use Rattle.model.specs.{Lists.both, Lists.all, Lists.any, Lists.below, Lists.at, Lists.same, Lists.ascending, ValueSets.has, ValueSets.least, ValueSets.members, Sheet.permutes_pairs, Sheet.distinct}
@@ -270,7 +271,8 @@ module _ (p : Problem) (order : List ℕ) (o : Ordering p.variables order) where
         any (same v) (map (row_in order xs) rows) ≡ any (same (map (λ x. value_of (scope_in order xs) v (position order x)) xs)) rows
     unfolding row_out
     rows_back rows sized v e =
-        ap (λ (u : List ℕ). any (same u) (map (row_in order xs) rows)) (sym (row_in_out v (e ∙ sym scope_length))) ∙ sym (rows_same rows sized (row_out v) (length-map xs (λ x. value_of ys v (stand x))))
+        ap (λ (u : List ℕ). any (same u) (map (row_in order xs) rows)) (sym (row_in_out v (e ∙ sym scope_length)))
+        ∙ sym (rows_same rows sized (row_out v) (length-map xs (λ x. value_of ys v (stand x))))
 
   module _ (w : WellFormed p) where
     abbrev size : ℕ
@@ -587,7 +589,8 @@ module _ (p : Problem) (order : List ℕ) (o : Ordering p.variables order) where
               (λ t. let s : T (is_pair p (at g (from q))) = S.to_pair p w g good (from q) (subst T (is_pair_same q h) t) in
               let l = image_lt (from q) (from_lt q h) in
               subst T (sym (ap (is_pair (reordered order p)) (table_at_lem q h) ∙ is_pair_same (into (at g (from q))) (into_lt (at g (from q)) l) ∙ ap (is_pair p) (from_into (at g (from q)) l))) s)
-              (λ t. T_of (eqb (at g2 q) q) (eq-eqb (at g2 q) q (table_at_lem q h ∙ ap into (S.to_self p w g good (from q) (from_lt q h) (λ s. t (subst T (sym (is_pair_same q h)) s))) ∙ into_from q h)))
+              (λ t. T_of (eqb (at g2 q) q) (eq-eqb (at g2 q) q (table_at_lem q h ∙ ap into (S.to_self p w g good (from q) (from_lt q h) (λ s. t (subst T (sym (is_pair_same q h)) s)))
+              ∙ into_from q h)))
 
           table_distinct : T (distinct (symmetry_in order p g))
           table_distinct = apart_distinct (symmetry_in order p g) (λ i j h k e.

@@ -1,7 +1,8 @@
 -- The run of any well_formed_lem problem in any order (specs/RunBy): what it lists, its leaders, chains and counts. Assumes nothing.
 use Rattle.model.specs.Kit.{◌≡◌, refl, sym, ap, ap₂, ◌∙◌, subst, Bool, true, false, ◌↔◌, List, [], ◌∷◌, map, Memᴰ, Memᴰ-head, Memᴰ-tail, Memᴰ-not_nil, Memᴰ-cast, Memᴰ-map}
 use Rattle.model.specs.Kit.{Memᴰ-of_map, ℕ, zero, suc, ◌≤◌, ◌<◌, arith, T, length, take, length-map}
-use Rattle.model.specs.{Lists.keep, Lists.below, Lists.at, Lists.earlier, Lists.rows_ascend, Lists.total, Problem.Problem, Problem.pair, Problem.is_solution, Problem.assignments, Problem.with_symmetries}
+use Rattle.model.specs.{Lists.keep, Lists.below, Lists.at, Lists.earlier, Lists.rows_ascend, Lists.total, Problem.Problem, Problem.pair, Problem.is_solution, Problem.assignments}
+use Rattle.model.specs.{Problem.with_symmetries}
 use Rattle.model.specs.{Search.nodes, Run.Ending, Run.finished, Run.plans_in, Run.nodes_in, Run.result_of, Run.settled_by, Run.counts_by, Claims.Leader, Claims.is_leader, Claims.leaders, Claims.Chain}
 use Rattle.model.specs.{Claims.CountsAt, Inner.WellFormed.WellFormed, Inner.WellFormed.Respected}
 use mathlib.Core.Logic.{∥∥₁_elim, ∥∥₁_map}

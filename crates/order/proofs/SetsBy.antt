@@ -4,7 +4,8 @@ use Rattle.model.specs.Kit.{Memᴰ-cases_cons, Memᴰ-map, Memᴰ-of_map, ℕ, �
 use Rattle.model.specs.Kit.{eq-eqb}
 use Rattle.model.specs.{Lists.both, Lists.any, Lists.keep, Lists.flat, Lists.below, Lists.at, ValueSets.has, ValueSets.members, ValueSets.any_empty, Problem.Problem, Problem.Constraint, Problem.pair}
 use Rattle.model.specs.{Problem.assignments, Nogood.Entry, Nogood.equality, Nogood.disequality, Nogood.is, Nogood.obeys_from, Nogood.obeys, Nogood.filtered, Search.entries_of, Search.row_with}
-use Rattle.model.specs.{Search.sets_at, Search.is_live, Claims.nogoods_in, Claims.Consistent, Claims.Largest, Inner.WellFormed.WellFormed, Inner.WellFormed.GoodConstraint, Inner.WellFormed.GoodSymmetry}
+use Rattle.model.specs.{Search.sets_at, Search.is_live, Claims.nogoods_in, Claims.Consistent, Claims.Largest, Inner.WellFormed.WellFormed, Inner.WellFormed.GoodConstraint}
+use Rattle.model.specs.{Inner.WellFormed.GoodSymmetry}
 use mathlib.Core.List.Memᴰ
 use Rattle.model.specs.Inner.Pruning.{Sets}
 use Rattle.order.specs.Reordered.{position, read, write, value_of, scope_in, row_in, constraint_in, renamed, symmetry_in, reordered}

@@ -1,7 +1,8 @@
 -- The demands, of what `run`, `run_with` and `run_lent` answer, write and count: from their contracts and order's theorems about the definitions. Assumes nothing.
 use Rattle.model.specs.Kit.{◌≡◌, refl, sym, ap, ◌∙◌, subst, subst₂, ◌↔◌, List, [], ◌∷◌, map, Memᴰ, ℕ, ◌*◌, T, length, take, drop}
 use Rattle.model.specs.{Lists.at, Lists.below, Lists.total, Lists.earlier, Lists.rows_ascend, Problem.Problem, Problem.is_solution, Problem.assignments, Verdict.accepted, Sheet.verdict_of}
-use Rattle.model.specs.{Sheet.problem_of, Run.ended, Run.refusal, Run.plans_in, Run.nodes_in, Run.listed_plans, Run.tally_at, Claims.Leader, Claims.is_leader, Claims.leaders, Claims.Chain, Claims.CountsAt}
+use Rattle.model.specs.{Sheet.problem_of, Run.ended, Run.refusal, Run.plans_in, Run.nodes_in, Run.listed_plans, Run.tally_at, Claims.Leader, Claims.is_leader, Claims.leaders, Claims.Chain}
+use Rattle.model.specs.{Claims.CountsAt}
 use mathlib.Core.List.{Sublistᴰ}
 use Rattle.model.proofs.Lists.{rows_ascend_take, rows_ascend_of, sorted_keep, keep_i, keep_e, never}
 use Rattle.model.proofs.{Assignments.assignments_sorted, Leaders.sol_drawn, Leaders.leader_i, Leaders.leader_e, Chains.chains, Demands.sets_largest}

@@ -1,6 +1,7 @@
 -- What callers of planner_question and planner_run hold (specs/Exported), from the contracts and `demands`. Assumes nothing.
 use Rattle.model.specs.Kit.{◌≡◌, refl, sym, ap, ◌∙◌, subst, Bool, true, false, not, List, [], ◌∷◌, ℕ, zero, suc, ◌+◌, ◌*◌, ◌^◌, ◌<◌, arith, leb, ltb, eqb, length, eq-eqb, eqb-true, eqb-false}
-use Rattle.model.specs.Sheet.{Header, word, header_of, problem_of, scope_at, rows_at, after_at, header_verdict, sets_verdict, constraint_verdict, constraints_verdict, permutes_pairs, offsets_fit, tables_fit}
+use Rattle.model.specs.Sheet.{Header, word, header_of, problem_of, scope_at, rows_at, after_at, header_verdict, sets_verdict, constraint_verdict, constraints_verdict, permutes_pairs, offsets_fit}
+use Rattle.model.specs.Sheet.{tables_fit}
 use Rattle.model.specs.Sheet.{form_verdict, symmetries_verdict, verdict_of}
 use Rattle.model.specs.{Lists.choose, Lists.both, Lists.all, Lists.at, Lists.below, Lists.ascending, Lists.rows_ascend, Bytes.four_bytes, Problem.Problem, Problem.respects, Verdict.Verdict}
 use Rattle.model.specs.{Verdict.accepted, Verdict.refused, Verdict.ask, Verdict.reply, Verdict.kept, Run.refusal, Run.ended, Run.finished, Run.spent, Run.full, Run.answer_of, Run.written, Run.list_of}

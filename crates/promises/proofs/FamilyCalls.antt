@@ -88,7 +88,8 @@ families_calls b pairs block limit r call = record {
         length out ≡ room → (d : Finished (ran_bare b pairs limit room)) → a ≡ Ended (Done d.0 d.1)
     undone v out tally a after tally' c l d = ended_finished a d.0 d.1 (bare v out tally a after tally' c l ∙ ap ended d.2)
 
-    counted : (k : ℕ) → told (number k) ≡ counted_lent b pairs block limit → (v : Verdict) → verdict_lent b pairs block ≡ v → (k ≡ families_of (problem_with b block)) × FamilyCount (problem_with b block)
+    counted : (k : ℕ) → told (number k) ≡ counted_lent b pairs block limit → (v : Verdict) → verdict_lent b pairs block ≡ v → (k ≡ families_of (problem_with b block))
+        × FamilyCount (problem_with b block)
     counted k q accepted v =
         let z : told (number k) ≡ told figure = q ∙ ap (λ (u : Verdict). reply u figure) v in (
           number_is (ran_with b pairs block limit room) (ran_bare b pairs limit room) (families_of (problem_with b block)) k (let y : figure ≡ number k = cc in y),

@@ -19,8 +19,10 @@ use Rattle.promises.proofs.{JoinedHeads.heads_held, JoinedHeld.joined_held, Join
 
 -- every definition of parts and heads that computes
 unfoldable pub opened_parts : ℕ
-unfolding opened counts_by tally_at pairs_in forerunners can_follow settled_first settling_order settles_all order_verdict position read write value_of scope_in row_in renamed symmetry_in tables_lent block_lent
-    verdict_lent after nodes_between last_of result_part answer_part list_part tally_part last_part three_numbers numbers_of four_bytes digest_from digest name_bytes path_bytes head_of path_at whole_heads
+unfolding opened counts_by tally_at pairs_in forerunners can_follow settled_first settling_order settles_all order_verdict position read write value_of scope_in row_in renamed symmetry_in tables_lent
+    block_lent
+    verdict_lent after nodes_between last_of result_part answer_part list_part tally_part last_part three_numbers numbers_of four_bytes digest_from digest name_bytes path_bytes head_of path_at
+    whole_heads
     path_shaped head_shaped alike join_verdict comes may_take best_of step_of taken_from taken stand_after nearest_of answer_for total
 opened_parts = 0
 

@@ -5,7 +5,8 @@ use Rattle.model.specs.{Lists.both, Lists.choose, Lists.same, Verdict.Verdict, V
 use Rattle.model.proofs.Lists.{T_of, of_T, of_not, both_i, both_r, same_eq, same_refl, never}
 use Rattle.run_cut.specs.Parts.{after}
 use Rattle.run_cut.proofs.Parts.{after_trans, after_not}
-use Rattle.run_join.specs.Join.{from_at, reach_at, heads_in, join_verdict, goes_on, comes, leads, may_take, stand_path, reach_or, best_of, step_of, taken_from, taken, stand_after, stands, joined, nearer}
+use Rattle.run_join.specs.Join.{from_at, reach_at, heads_in, join_verdict, goes_on, comes, leads, may_take, stand_path, reach_or, best_of, step_of, taken_from, taken, stand_after, stands, joined}
+use Rattle.run_join.specs.Join.{nearer}
 use Rattle.run_join.specs.Join.{nearest_of, begin_or, nearest}
 use Rattle.run_join.specs.{Calls.answer_for, declared.Answer.TheVariants.Joined, declared.Answer.TheVariants.Missing}
 use Rattle.run_join.proofs.{Fewer.further, Fewer.fewer, Fewer.further_few, Leads.Next, Leads.comes_end, Leads.comes_next, Leads.comes_all, Leads.comes_out}
@@ -52,7 +53,8 @@ module _ (l : List ℕ) where
               let y : k ≡ n = (let v = ltb-false k n w in omega arith) in
               let may : T (may_take l n) = subst (λ (i : ℕ). T (may_take l i)) y m in
               let begins : T (same (from_at l n) s) = subst (λ (x : List ℕ). T (same (from_at l n) x)) (ap (from_at l) (sym y) ∙ q) (same_refl (from_at l n)) in
-              let on : T (after (reach_or l s (best_of l s n)) (reach_at l n)) = subst (λ (i : ℕ). T (after (reach_or l s i) (reach_at l n))) (sym z) (subst (λ (i : ℕ). T (after s (reach_at l i))) y t) in
+              let on : T (after (reach_or l s (best_of l s n)) (reach_at l n)) =
+              subst (λ (i : ℕ). T (after (reach_or l s i) (reach_at l n))) (sym z) (subst (λ (i : ℕ). T (after s (reach_at l i))) y t) in
               of_not (both (may_take l n) (betters l s n)) f
               (both_i (may_take l n) (betters l s n) may (both_i (same (from_at l n) s) (after (reach_or l s (best_of l s n)) (reach_at l n)) begins on))
 

@@ -29,7 +29,8 @@ module _ (b pairs block from upto from' upto' : List ℕ) (limit : ℕ) (out : L
 
   same_list : list_part b pairs block from upto limit out ≡ list_part b pairs block from' upto' limit out
   unfolding list_part result_part
-  same_list = ap (λ (ts : List (List ℕ)). kept (verdict_lent b pairs block) out (written (map (write (order_lent b pairs)) (search (problem_lent b pairs block) limit (length out) ts 0 []).rows) out)) q
+  same_list = ap (λ (ts : List (List ℕ)). kept (verdict_lent b pairs block) out (written (map (write (order_lent b pairs)) (search (problem_lent b pairs block) limit (length out) ts 0 []).rows) out))
+      q
 
   same_tally : tally_part b pairs block from upto limit out ≡ tally_part b pairs block from' upto' limit out
   unfolding tally_part

@@ -24,7 +24,8 @@ TwelveValues = (b pairs block : List ℕ) (c : Part) → verdict_lent b pairs bl
 -- ---- heads
 -- the 115 bytes of a call's head say what the call said ..
 abbrev pub HeadSays : Type 0
-HeadSays = (b pairs block : List ℕ) (c : Part) → verdict_lent b pairs block ≡ accepted → CallRange b pairs block c → HeadOf (head_bytes b pairs block c) 0 c × (length (head_bytes b pairs block c) ≡ 115)
+HeadSays = (b pairs block : List ℕ) (c : Part) → verdict_lent b pairs block ≡ accepted → CallRange b pairs block c → HeadOf (head_bytes b pairs block c) 0 c
+    × (length (head_bytes b pairs block c) ≡ 115)
 
 -- .. and so does each of many heads, one behind the other
 abbrev pub HeadsSay : Type 0

@@ -1,7 +1,8 @@
 -- The report's text (paper 01, "The report"), of what its reader holds: bytes, by their lines. Demands 2 and 3 of these; `planner_report` leaves this text.
 -- proofs/Reported has the theorem.
 use Rattle.model.specs.Kit.{◌≡◌, true, false, ◌↔◌, List, [], ◌∷◌, ◌++◌, map, Memᴰ, ℕ, ◌*◌, ◌≤◌, length, take, T, eqb}
-use Rattle.model.specs.{Lists.earlier, Problem.is_solution, Verdict.accepted, Verdict.refused, Sheet.verdict_of, Sheet.problem_of, Run.Ending, Run.plans_in, Run.nodes_in, Claims.CountsAt, Claims.Chain}
+use Rattle.model.specs.{Lists.earlier, Problem.is_solution, Verdict.accepted, Verdict.refused, Sheet.verdict_of, Sheet.problem_of, Run.Ending, Run.plans_in, Run.nodes_in, Claims.CountsAt}
+use Rattle.model.specs.{Claims.Chain}
 use Rattle.model.specs.{Claims.leaders}
 use Rattle.families_figure.specs.Figure.{report_figure}
 use Rattle.report.specs.Report.{line, plan_word, finished_word, refused_word, ending_line, report_of, REPORT_LIMIT}
@@ -45,7 +46,8 @@ pub record ReportHeld (input : List ℕ) : Type 0 where
   -- an accepted one: the plans' lines and the ending's
   pub ends : verdict_of (sheet_in input) ≡ accepted → (e : Ending) × ReportEnds (sheet_in input) (lines_in (report_of input)) e
   -- a last line that begins with "finished"
-  pub finished : (before : List (List ℕ)) (last : List ℕ) → lines_in (report_of input) ≡ before ++ (last ∷ []) → take (length finished_word) last ≡ finished_word → ReportFinished (sheet_in input) before
+  pub finished : (before : List (List ℕ)) (last : List ℕ) → lines_in (report_of input) ≡ before ++ (last ∷ []) → take (length finished_word) last ≡ finished_word →
+      ReportFinished (sheet_in input) before
 
 abbrev pub Reported : Type 0
 Reported = (input : List ℕ) → ReportHeld input

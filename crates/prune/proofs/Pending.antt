@@ -135,7 +135,8 @@ module _ {p : Problem} {supports tables numbers : List ℕ} (s : ArraysHold p su
         inner = λ x t. ⊎_elim (w.inner x) (λ q. (l.lessened live).few x (and_e looked (at numbers LINKED) x q).0) (or_e moved (bit_and looked (at numbers LINKED)) x t);
         arcs = λ x h f.
             still_arc es fs looked (bit_and looked (at numbers LINKED)) w.given after.given (l.lessened live).less (λ y i e. (l.lessened live).kept y e) refl x h
-            (not_of (has (bit_and looked (at numbers LINKED)) x) (λ t. of_not (has (bit_or moved (bit_and looked (at numbers LINKED))) x) f (or_i moved (bit_and looked (at numbers LINKED)) x (inr t))))
+            (not_of (has (bit_and looked (at numbers LINKED)) x)
+            (λ t. of_not (has (bit_or moved (bit_and looked (at numbers LINKED))) x) f (or_i moved (bit_and looked (at numbers LINKED)) x (inr t))))
             (w.arcs x h (not_of (has moved x) (λ t. of_not (has (bit_or moved (bit_and looked (at numbers LINKED))) x) f (or_i moved (bit_and looked (at numbers LINKED)) x (inl t)))));
       }
 

@@ -123,7 +123,8 @@ module _ (t : List ℕ) (base a b e : ℕ) where
 
   -- the lowest value u of those left, and what its sixteen sets have of the masks
   pub supporting3_turn : (m u m' : ℕ) {ms all all' : List ℕ} {first s first' last r last' : ℕ} → Supporting3 m first last all → (m ≡ 0 → ⊥) → u ≡ lowest_of m → m' ≡ without_mask m (lowest_of m) →
-      b < 2 ^ 16 → r < 2 ^ 16 → Masks b e ms → Met t (base + 16 * u) ms all all' r → s ≡ one_if (not (eqb r 0)) u → first' ≡ union_mask first s → last' ≡ bit_or last r → Supporting3 m' first' last' all'
+      b < 2 ^ 16 → r < 2 ^ 16 → Masks b e ms → Met t (base + 16 * u) ms all all' r → s ≡ one_if (not (eqb r 0)) u → first' ≡ union_mask first s → last' ≡ bit_or last r →
+      Supporting3 m' first' last' all'
   supporting3_turn m u m' {ms} {all} {all'} {first} {s} {first'} {last} {r} {last'} j n low less h i k g q f l = record {
     rest = others_left a m u j.rest n low m' less;
     size = g.size ∙ j.size;

@@ -1,5 +1,6 @@
 -- The loops that run through the members of a set and unite what each of them gives. Assumes nothing.
-use Rattle.model.specs.Kit.{◌≡◌, refl, sym, ap, ◌∙◌, subst, Bool, true, not, ◌⊎◌, inl, inr, ⊎_elim, List, ℕ, ◌+◌, ◌*◌, ◌^◌, ◌<◌, lt_of_le_of_lt, arith, T, eqb, bit_and, bit_or, count_trailing_zeros, eqb-true}
+use Rattle.model.specs.Kit.{◌≡◌, refl, sym, ap, ◌∙◌, subst, Bool, true, not, ◌⊎◌, inl, inr, ⊎_elim, List, ℕ, ◌+◌, ◌*◌, ◌^◌, ◌<◌, lt_of_le_of_lt, arith, T, eqb, bit_and, bit_or, count_trailing_zeros}
+use Rattle.model.specs.Kit.{eqb-true}
 use Rattle.model.specs.Kit.{eq-eqb, ne_eqb}
 use Rattle.model.specs.{Lists.at, ValueSets.has, ValueSets.mask_of, ValueSets.without_mask, ValueSets.union_mask, ValueSets.lowest_of, ValueSets.one_if}
 use lib.Bits.{and_le_r}

@@ -8,7 +8,8 @@ use Rattle.arrays.specs.Inner.Places.{ENTAILED, OBEYED, FAILED}
 use Rattle.filter.specs.Inner.Scan.{after, Right, Stepped, None, Some, Live, Passed, Remainder, Changed}
 use Rattle.filter.specs.{declared.entry.Step.Step, Marks.NamesGone}
 use Rattle.filter.proofs.Endings.{every_passed, every_changed, ended_every, unchanged, changed_front, front_consistent, front_remainder, kept_ending, gone_entailed}
-use Rattle.prune_symmetries.specs.Inner.Levels.{image_at, ending_at, cut_of, keep_of, levels, own_at, Held, Ready, AtSplit, SplitReached, split_entries, PassResult, pass_failed, pass_obeyed, pass_ended}
+use Rattle.prune_symmetries.specs.Inner.Levels.{image_at, ending_at, cut_of, keep_of, levels, own_at, Held, Ready, AtSplit, SplitReached, split_entries, PassResult, pass_failed, pass_obeyed}
+use Rattle.prune_symmetries.specs.Inner.Levels.{pass_ended}
 use Rattle.prune_symmetries.specs.Inner.Levels.{pass_split, forced_by, SplitResult}
 use Rattle.prune_symmetries.proofs.{Levels.levels_split, CutsMade.from_as, ImageTables.image_inside, ImageTables.image_asks, ImageTables.image_is}
 use Rattle.filter.proofs.Scan

@@ -10,6 +10,7 @@ use Rattle.families_figure.specs.Figure.{families_lent}
 use Rattle.report.specs.{Report.digits, Report.decimal, Report.line, Report.ending_line, Report.result_text, Report.report_for, Report.report_of, ReportExamples.tests_report}
 
 pub examples_report : Each tests_report
-unfolding opened pairs_in forerunners can_follow settled_first settling_order position read write value_of scope_in row_in renamed symmetry_in result_by tables_lent solutions_of widened reached_in family_of
+unfolding opened pairs_in forerunners can_follow settled_first settling_order position read write value_of scope_in row_in renamed symmetry_in result_by tables_lent solutions_of widened reached_in
+    family_of
     is_earliest earliest_of families_of families_lent digits decimal line ending_line result_text report_for report_of
 examples_report = (refl, (refl, tt))

@@ -1,7 +1,8 @@
 -- Prefixes that agree on what is left have the same nodes below them, up to the values settled before. Assumes nothing.
 use Rattle.model.specs.Kit.{◌≡◌, refl, sym, ap, ap₂, ◌∙◌, subst, Bool, true, false, List, [], ◌∷◌, ◌++◌, map, Memᴰ, Memᴰ-of_map, append_assoc, append-nil, ℕ, zero, suc, ◌+◌, ◌-◌, ℕ_discrete}
 use Rattle.model.specs.Kit.{arith, eqb, length, drop, length-append, length-map, ne_eqb}
-use Rattle.model.specs.{Lists.both, Lists.keep, Lists.flat, Lists.at, ValueSets.members, Problem.Problem, Search.sets_at, Search.is_live, Search.nodes_below, Search.is_plan, Run.settled_by, Run.counts_by}
+use Rattle.model.specs.{Lists.both, Lists.keep, Lists.flat, Lists.at, ValueSets.members, Problem.Problem, Search.sets_at, Search.is_live, Search.nodes_below, Search.is_plan, Run.settled_by}
+use Rattle.model.specs.{Run.counts_by}
 use Rattle.model.specs.{Inner.WellFormed.WellFormed}
 use lib.Seq.{drop_at}
 use Rattle.model.proofs.{Lists.map_ext, Lists.map_flat_map, Lists.keep_ext, Tally.tabulate_ext}

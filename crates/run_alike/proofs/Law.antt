@@ -1,7 +1,8 @@
 -- Two live prefixes that leave the same to do have the same subtree (specs/Claims). Assumes nothing.
 use Rattle.model.specs.Kit.{◌≡◌, refl, sym, ap, ap₂, ◌∙◌, subst, Bool, true, false, ◌⊎◌, inl, inr, ⊎_elim, List, ◌++◌, map, Memᴰ, Memᴰ-of_map, ℕ, ◌+◌, ◌-◌, ◌/◌, ◌%◌, ◌^◌, ◌≤◌, ◌<◌, dec_lt}
 use Rattle.model.specs.Kit.{ℕ_discrete, arith, T, eqb, ltb, length, get_or, drop, length-append, ne_eqb}
-use Rattle.model.specs.{Lists.keep, Lists.flat, Lists.up_from, Lists.below, Lists.at, ValueSets.has, ValueSets.members, Problem.Problem, Problem.pair, Nogood.Entry, Nogood.equality, Nogood.disequality}
+use Rattle.model.specs.{Lists.keep, Lists.flat, Lists.up_from, Lists.below, Lists.at, ValueSets.has, ValueSets.members, Problem.Problem, Problem.pair, Nogood.Entry, Nogood.equality}
+use Rattle.model.specs.{Nogood.disequality}
 use Rattle.model.specs.{Nogood.is, Nogood.obeys, Search.entries_at, Search.nogoods_of, Search.sets_at, Search.is_live, Claims.Drawn, Inner.WellFormed.WellFormed}
 use mathlib.Core.List.Memᴰ
 use lib.ListN.{get_or-append}

@@ -1,5 +1,6 @@
 -- One value down a path, a node, and walks one behind the other (specs/Steps). Assumes nothing.
-use Rattle.model.specs.Kit.{◌≡◌, refl, sym, ap, ap₂, ◌∙◌, subst, Bool, true, false, not, List, [], ◌∷◌, ◌++◌, ℕ, ◌+◌, ◌-◌, ◌*◌, ◌^◌, ◌<◌, add-one, arith, bit_and, T, eqb, ltb, eqb→eq, eqb_refl, length}
+use Rattle.model.specs.Kit.{◌≡◌, refl, sym, ap, ap₂, ◌∙◌, subst, Bool, true, false, not, List, [], ◌∷◌, ◌++◌, ℕ, ◌+◌, ◌-◌, ◌*◌, ◌^◌, ◌<◌, add-one, arith, bit_and, T, eqb, ltb, eqb→eq, eqb_refl}
+use Rattle.model.specs.Kit.{length}
 use Rattle.model.specs.Kit.{set, length-set, not-true, not-false}
 use Rattle.model.specs.ValueSets.{has, mask_of, full_mask, members, lowest_of}
 use Rattle.model.specs.{Lists.at, Lists.both, Lists.keep, Lists.below, Problem.Problem, Search.sets_at, Search.is_live, Run.Tally}
@@ -11,7 +12,8 @@ use Rattle.run_cut.specs.Inner.Paths.{nodes_of, candidates_at}
 use Rattle.arrays.specs.Inner.Places.{LIMIT, ROOM, PLANS, LAST, ALL, SPENT, DIAGONAL}
 use Rattle.prune.specs.Inner.Node.{AtNode, Reached, longer}
 use Rattle.prune.proofs.BlockCut.{not_below}
-use Rattle.run_state.specs.{Inner.Walk.with_node, Inner.Walk.walk, Inner.Walk.nodes_for, Inner.Walk.exhausted, Inner.Pair.prefix_of, Inner.Pair.settling, Inner.Pair.order_in, Inner.Pair.own_problem_in}
+use Rattle.run_state.specs.{Inner.Walk.with_node, Inner.Walk.walk, Inner.Walk.nodes_for, Inner.Walk.exhausted, Inner.Pair.prefix_of, Inner.Pair.settling, Inner.Pair.order_in}
+use Rattle.run_state.specs.{Inner.Pair.own_problem_in}
 use Rattle.run_state.specs.Inner.Pair.{state_of, AtPrefix, AtValues, AtValue, Walked, tried, lowest_node}
 use Rattle.run_state.proofs.{Memo.memo_on, Walk.walk_append, Walk.walk_stopped, Walk.visit_spent, Prefix.length_prefix, Prefix.prefix_ext, Prefix.prefix_take}
 use Rattle.run_tree.proofs.Turns.{all_values, prefix_on}

@@ -93,9 +93,11 @@ module _ (p : Problem) where
       ap (λ (l : List (List ℕ)). added (counts_by settled_by (take j ts)) (counts_by settled_by (take i l))) (after_from p path j) ∙ counts_added settled_by (take j ts) (take i (drop j ts))
       ∙ ap (counts_by settled_by) (sym (take-add j i ts))
 
-  pub counts_move : (m j : ℕ) → added (counts_by settled_by (take m (nodes p))) (counts_by settled_by (take j (nodes_after p (last_of [] (take m (nodes p)))))) ≡ counts_by settled_by (take (m + j) (nodes p))
+  pub counts_move : (m j : ℕ) → added (counts_by settled_by (take m (nodes p))) (counts_by settled_by (take j (nodes_after p (last_of [] (take m (nodes p)))))) ≡ counts_by settled_by
+      (take (m + j) (nodes p))
   counts_move m j =
-      ap (λ (l : List (List ℕ)). added (counts_by settled_by (take m (nodes p))) (counts_by settled_by (take j l))) (after_last p m) ∙ counts_added settled_by (take m (nodes p)) (take j (drop m (nodes p)))
+      ap (λ (l : List (List ℕ)). added (counts_by settled_by (take m (nodes p))) (counts_by settled_by (take j l))) (after_last p m)
+      ∙ counts_added settled_by (take m (nodes p)) (take j (drop m (nodes p)))
       ∙ ap (counts_by settled_by) (sym (take-add m j (nodes p)))
 
 pub counts_from_start : CountsFromStart

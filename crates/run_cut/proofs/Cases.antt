@@ -3,7 +3,8 @@ use Rattle.model.specs.Kit.{◌≡◌, refl, [], ◌∷◌, ℕ, replicate}
 use Rattle.model.specs.Lists.{all, any, keep, flat, tabulate, up_from, below, at, same, earlier, ascending, rows_ascend}
 use Rattle.model.specs.ValueSets.{has, mask_below, least, members, any_empty}
 use Rattle.model.specs.Problem.{values_at, satisfies, is_solution, assignments, pair, is_pair, pairs_of, within, takes, doubled, pairs_at, excluded, forbidden, respects}
-use Rattle.model.specs.Sheet.{word, words, header_of, scope_at, rows_at, after_at, constraints_from, table_at, problem_of, sets_verdict, constraint_verdict, constraints_verdict, distinct, permutes_pairs}
+use Rattle.model.specs.Sheet.{word, words, header_of, scope_at, rows_at, after_at, constraints_from, table_at, problem_of, sets_verdict, constraint_verdict, constraints_verdict, distinct}
+use Rattle.model.specs.Sheet.{permutes_pairs}
 use Rattle.model.specs.Sheet.{symmetries_verdict, header_verdict, form_verdict, verdict_of}
 use Rattle.model.specs.Search.{entries_at, nogoods_of, row_with, supported, pruned, narrowed, rounds, sets_at, is_live, nodes_below, nodes, is_plan}
 use Rattle.model.specs.{Nogood.obeys_from, Nogood.obeying, Nogood.used, Nogood.filtered, Run.search, Run.result_of, Run.written, Run.counts_by, Examples.sheet_a}
@@ -13,7 +14,8 @@ use Rattle.run_cut.specs.{Parts.after, Parts.nodes_after, Parts.last_of, Parts.p
 opened : ℕ
 unfolding all any keep flat tabulate up_from below at same earlier ascending rows_ascend has mask_below least members any_empty values_at satisfies is_solution assignments pair is_pair pairs_of within
     takes doubled pairs_at excluded forbidden respects word words header_of scope_at rows_at after_at constraints_from table_at problem_of sets_verdict constraint_verdict constraints_verdict distinct
-    permutes_pairs symmetries_verdict header_verdict form_verdict verdict_of obeys_from obeying used filtered entries_at nogoods_of row_with supported pruned narrowed rounds sets_at is_live nodes_below nodes
+    permutes_pairs symmetries_verdict header_verdict form_verdict verdict_of obeys_from obeying used filtered entries_at nogoods_of row_with supported pruned narrowed rounds sets_at is_live
+    nodes_below nodes
     is_plan search result_of written after nodes_after nodes_between nodes_of last_of go_on added counts_by
 opened = 0
 

@@ -1,7 +1,8 @@
 -- At least m plans (paper 02, #101), asked of a sheet, pairs and a block: what the answer says of the complete list, and its figures. Assumes nothing.
 use Rattle.model.specs.Kit.{◌≡◌, refl, sym, ap, ap₂, ◌∙◌, subst, List, ℕ, ◌*◌, ◌≤◌, ◌<◌, arith, length, length-map}
 use Rattle.model.specs.Run.{Ending, finished, spent, result_of, ended}
-use Rattle.model.specs.{Lists.keep, Problem.Problem, Verdict.Verdict, Verdict.accepted, Verdict.refused, Verdict.reply, Sheet.problem_of, Search.nodes, Search.is_plan, Claims.plans_among, Claims.leaders}
+use Rattle.model.specs.{Lists.keep, Problem.Problem, Verdict.Verdict, Verdict.accepted, Verdict.refused, Verdict.reply, Sheet.problem_of, Search.nodes, Search.is_plan, Claims.plans_among}
+use Rattle.model.specs.{Claims.leaders}
 use Rattle.model.proofs.{Runs.finished_rows, Runs.finishes, Demands.same_test, Demands.reply_so, Tree.plans_of_tree, Accepted.is_accepted_lem}
 use Rattle.order.specs.{Reordered.write, RunBy.result_by, RunBy.leaders_by, RunBy.answer_by}
 use Rattle.order.proofs.{Reordered.respected_reordered, RunBy.w2, RunBy.leaders_by_is, Demanded.ran_by, Demanded.held}

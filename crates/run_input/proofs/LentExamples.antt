@@ -9,7 +9,8 @@ use Rattle.block.specs.Block.{orderings, ordering, factorial, variable_table, in
 use Rattle.run_input.specs.{Lent.verdict_lent, LentExamples.tests_lent}
 
 pub examples_lent : Each tests_lent
-unfolding opened counts_by tally_at pairs_in forerunners can_follow settled_first settling_order settles_all order_verdict position read write value_of scope_in row_in renamed symmetry_in result_by place_counts
+unfolding opened counts_by tally_at pairs_in forerunners can_follow settled_first settling_order settles_all order_verdict position read write value_of scope_in row_in renamed symmetry_in result_by
+    place_counts
     answer_by list_by tallied_by orderings ordering factorial variable_table in_block image_of ordering_table block_tables is_block_at block_verdict tables_lent block_lent verdict_lent
 examples_lent = (
   refl,

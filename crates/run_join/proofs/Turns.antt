@@ -72,8 +72,10 @@ module _ (l s : List ℕ) where
   pub further_first : (best k q m : ℕ) → best ≡ 0 → q ≡ reach_place l k → m ≡ order_of s (path_at l q) → eqb m 1 ≡ after (reach_or l s best) (reach_at l k)
   further_first best k q m z e f = after_is s (path_at l q) m f ∙ ap₂ (λ (i j : ℕ). after (reach_or l s i) (path_at l j)) (sym z) e
 
-  pub further_next : (best k q p m : ℕ) → (best ≡ 0 → ⊥) → q ≡ reach_place l k → p ≡ reach_place l (best - 1) → m ≡ order_of (path_at l p) (path_at l q) → eqb m 1 ≡ after (reach_or l s best) (reach_at l k)
-  further_next best k q p m z e g f = after_is (path_at l p) (path_at l q) m f ∙ ap₂ (λ (i j : ℕ). after (path_at l i) (path_at l j)) g e ∙ ap (λ (t : List ℕ). after t (reach_at l k)) (reach_pred best z)
+  pub further_next : (best k q p m : ℕ) → (best ≡ 0 → ⊥) → q ≡ reach_place l k → p ≡ reach_place l (best - 1) → m ≡ order_of (path_at l p) (path_at l q) →
+      eqb m 1 ≡ after (reach_or l s best) (reach_at l k)
+  further_next best k q p m z e g f = after_is (path_at l p) (path_at l q) m f ∙ ap₂ (λ (i j : ℕ). after (path_at l i) (path_at l j)) g e
+      ∙ ap (λ (t : List ℕ). after t (reach_at l k)) (reach_pred best z)
 
 -- ---- the better of two
 module _ (a b : Bool) (k best : ℕ) where

@@ -10,7 +10,8 @@ use Rattle.run_cut.specs.Parts.{last_of}
 use Rattle.run_alike.specs.{Inner.Alike.moved, Inner.Claims.SameBelow}
 use Rattle.run_passed.specs.Inner.Passed.{plus, noted_all}
 use Rattle.run_passed.proofs.Passed.{walk_by}
-use Rattle.run_state.specs.{Inner.Walk.Summed, Inner.Walk.State, Inner.Walk.walk, Inner.Memo.subtree, Inner.Memo.Stand, Inner.Memo.plans_below, Inner.Memo.Kept, Inner.Pair.prefix_of, Inner.Pair.order_in}
+use Rattle.run_state.specs.{Inner.Walk.Summed, Inner.Walk.State, Inner.Walk.walk, Inner.Memo.subtree, Inner.Memo.Stand, Inner.Memo.plans_below, Inner.Memo.Kept, Inner.Pair.prefix_of}
+use Rattle.run_state.specs.{Inner.Pair.order_in}
 use Rattle.run_state.specs.Inner.Pair.{own_problem_in, state_of, ListRoom, AtPrefix, Walked}
 use Rattle.run_state.proofs.{Memo.tabulate_ext, Memo.memo_stays, Prefix.length_prefix, Prefix.prefix_at, Prefix.prefix_is, Walk.length_write, Written.length_order}
 use Rattle.run_key.specs.Inner.Key.{Placed}

@@ -1,7 +1,8 @@
 -- Parts of a run that are run apart hold together what the run holds (specs/Claims). Assumes nothing.
 use Rattle.model.specs.Kit.{◌≡◌, refl, sym, ap, ap₂, ◌∙◌, subst, ◌⊎◌, inl, inr, List, [], ◌∷◌, ◌++◌, map, Memᴰ-of_map, ℕ, suc, ◌+◌, ◌*◌, ◌≤◌, mul-le-mul_right, arith, T, length, take, drop, replicate}
 use Rattle.model.specs.Kit.{length-append, length-map, take-append-drop, take_all, length-take-le}
-use Rattle.model.specs.Run.{Ending, finished, spent, full, plans_in, nodes_in, Result, search, result_of, Answer, refusal, answered, ended, written, Tally, tally_for, settled_by, counts_by, listed_plans}
+use Rattle.model.specs.Run.{Ending, finished, spent, full, plans_in, nodes_in, Result, search, result_of, Answer, refusal, answered, ended, written, Tally, tally_for, settled_by, counts_by}
+use Rattle.model.specs.Run.{listed_plans}
 use Rattle.model.specs.{Lists.keep, Lists.flat, Lists.at, Lists.total, Problem.Problem, Search.nodes, Search.is_plan, Verdict.Verdict, Verdict.accepted, Verdict.reply, Verdict.kept, Sheet.problem_of}
 use lib.Seq.{take-append_seam, take-append-le}
 use Rattle.model.proofs.{Lists.keep_append, Lists.map_append, Runs.Ended, Runs.Walk, Runs.walk, Demands.read_back, Accepted.is_accepted_lem}
@@ -300,7 +301,8 @@ module _ (p : Problem) (limit room : ℕ) (xs ys : List (List ℕ)) (so : limit 
 
   fewer : (k : ℕ) → k ≤ length xs → length (keep (is_plan p) (take k (xs ++ ys))) ≤ length (keep (is_plan p) xs)
   fewer k l =
-      let e : keep (is_plan p) xs ≡ keep (is_plan p) (take k xs) ++ keep (is_plan p) (drop k xs) = ap (keep (is_plan p)) (sym (take-append-drop k xs)) ∙ keep_append (is_plan p) (take k xs) (drop k xs) in
+      let e : keep (is_plan p) xs ≡ keep (is_plan p) (take k xs) ++ keep (is_plan p) (drop k xs) = ap (keep (is_plan p)) (sym (take-append-drop k xs))
+      ∙ keep_append (is_plan p) (take k xs) (drop k xs) in
       let n = ap length e ∙ length-append (keep (is_plan p) (take k xs)) (keep (is_plan p) (drop k xs)) in
       let t : length (keep (is_plan p) (take k (xs ++ ys))) ≡ length (keep (is_plan p) (take k xs)) = ap (λ (l : List (List ℕ)). length (keep (is_plan p) l)) (take-append-le k xs ys l) in
       omega arith

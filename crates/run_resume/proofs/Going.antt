@@ -15,7 +15,8 @@ use Rattle.run_cut.specs.Parts.{after, nodes_after, last_of, Progress, go_on, ma
 use Rattle.run_cut.proofs.{Resume.node_values, Resume.last_in, Resume.taken, Counts.counts_none, Anywhere.no_fewer}
 use Rattle.arrays.specs.Inner.Places.{LIMIT, ROOM, PLANS, LAST, ALL, DEEPER, WORK}
 use Rattle.sheet.specs.Meaning.{compilable}
-use Rattle.run_state.specs.Inner.{Walk.State, Walk.no_nodes, Walk.all_noted, Walk.walk, Walk.stop_in, Walk.tally_by, Pair.prefix_of, Pair.order_in, Pair.own_problem_in, Pair.state_of, Pair.AtPrefix, Pair.Walked}
+use Rattle.run_state.specs.Inner.{Walk.State, Walk.no_nodes, Walk.all_noted, Walk.walk, Walk.stop_in, Walk.tally_by, Pair.prefix_of, Pair.order_in, Pair.own_problem_in, Pair.state_of, Pair.AtPrefix}
+use Rattle.run_state.specs.Inner.{Pair.Walked}
 use Rattle.run_state.proofs.{Outcome.noted_all_none, Outcome.noted_all_over, Outcome.outcome_on, Prefix.length_prefix, Prefix.prefix_at, Prefix.prefix_ext, Prefix.prefix_zero, Prefix.prefix_is}
 use Rattle.run_search.proofs.Prepared.{room_fits, room_most}
 use Rattle.run_ranges.specs.Inner.Within.{within}

@@ -99,7 +99,8 @@ pub retyped_lent : RetypedLent
 retyped_lent b c pairs block hb hc s = same_runs b c pairs block (lent_passed b pairs block (is_accepted_lem (verdict_lent b pairs block) hb)).sheet s hb hc
 
 -- ---- one accepted, the other too
-block_other : (p : Problem) (gs : List (List ℕ)) → WellFormed p → WellFormed (with_symmetries p gs) → (block : List ℕ) → block_lent p block ≡ accepted → block_lent (with_symmetries p gs) block ≡ accepted
+block_other : (p : Problem) (gs : List (List ℕ)) → WellFormed p → WellFormed (with_symmetries p gs) → (block : List ℕ) → block_lent p block ≡ accepted →
+    block_lent (with_symmetries p gs) block ≡ accepted
 unfolding block_lent ordering_table variable_table is_pair pair
 block_other p gs w v [] h = refl
 block_other p gs w v (first ∷ []) h = h

@@ -1,7 +1,8 @@
 -- Paper 02, #109, sheets: two accepted sheets that differ only in the order of their exchanges have the same runs. Assumes nothing.
 use Rattle.model.specs.Kit.{◌≡◌, refl, sym, ap, ap₂, ◌∙◌, subst, not, List, [], ◌∷◌, map, Memᴰ, Memᴰ-head, Memᴰ-tail, Memᴰ-map, Memᴰ-of_map, ℕ, zero, suc, ◌+◌, ◌*◌, ◌^◌, ◌≤◌, ◌<◌}
 use Rattle.model.specs.Kit.{arith, T, leb, ltb, eqb, leb→le, length, take, drop, get_or-drop}
-use Rattle.model.specs.Sheet.{Header, word, words, header_of, scope_at, rows_at, after_at, constraints_from, table_at, problem_of, sets_verdict, constraint_verdict, constraints_verdict, header_verdict}
+use Rattle.model.specs.Sheet.{Header, word, words, header_of, scope_at, rows_at, after_at, constraints_from, table_at, problem_of, sets_verdict, constraint_verdict, constraints_verdict}
+use Rattle.model.specs.Sheet.{header_verdict}
 use Rattle.model.specs.Sheet.{form_verdict, permutes_pairs, symmetries_verdict, verdict_of}
 use Rattle.model.specs.{Lists.all, Lists.both, Lists.at, Lists.below, Lists.ascending, Lists.rows_ascend, Problem.Problem, Problem.respects, Problem.with_symmetries, Verdict.Verdict, Verdict.accepted}
 use Rattle.model.specs.{Verdict.ask, Verdict.is_accepted, Inner.WellFormed.WellFormed, Inner.WellFormed.Respected}

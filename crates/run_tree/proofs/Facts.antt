@@ -59,7 +59,8 @@ module _ (p : Problem) (stack work supports tables numbers list : List ℕ) (tal
               subst (λ (t : Tally). AtValues p stack' work' supports tables numbers list' t (k + 1) values) (sym is_next)
               (subst (AtValues p stack' work' supports tables numbers list' next (k + 1)) (sym all) (values_ask p stack' work' supports tables numbers list' next (k + 1) (w.next e)))
 
-          pub next_goes : (stack'' work'' list'' : List ℕ) (tally'' : Tally) (stop : ℕ) → Walked p (tried p work' (k + 1) values) stack' work' numbers list' tally' (k + 1) stack'' work'' list'' tally'' stop →
+          pub next_goes : (stack'' work'' list'' : List ℕ) (tally'' : Tally) (stop : ℕ) →
+              Walked p (tried p work' (k + 1) values) stack' work' numbers list' tally' (k + 1) stack'' work'' list'' tally'' stop →
               Walked p (lowest_tried p work k m) stack work numbers list tally k stack'' work'' list'' tally'' stop
           next_goes stack'' work'' list'' tally'' stop v =
               w.then e stack'' work'' list'' tally'' stop

@@ -1,6 +1,7 @@
 -- What one value does: the walk along the nodes of a set of values, by its lowest member. Assumes nothing.
 use Rattle.model.specs.Kit.{◌≡◌, refl, ap, ap₂, ◌∙◌, Bool, true, false, List, [], ◌∷◌, ◌++◌, map, ℕ, suc, ◌^◌, ◌<◌, arith, eqb, length, eq-eqb, ne_eqb}
-use Rattle.model.specs.{Lists.both, Lists.at, Lists.flat, ValueSets.without_mask, ValueSets.lowest_of, Problem.Problem, Search.sets_at, Search.is_live, Search.is_plan, Search.nodes_below, Run.settled_by}
+use Rattle.model.specs.{Lists.both, Lists.at, Lists.flat, ValueSets.without_mask, ValueSets.lowest_of, Problem.Problem, Search.sets_at, Search.is_live, Search.is_plan, Search.nodes_below}
+use Rattle.model.specs.{Run.settled_by}
 use Rattle.model.proofs.{Sets.members_of_none, Lowest.members_lowest, Lists.both_false}
 use Rattle.order.specs.Reordered.{write}
 use Rattle.arrays.specs.Inner.Places.{ALL}

@@ -151,7 +151,8 @@ module _ (p : Problem) (stack work supports tables numbers list : List ℕ) (tal
             (h.inside v (both_l (has m v) _ (mask_e _ v t).1));
       }
 
-      pub turn_goes : stop ≡ ALL → (stack'' work'' list'' : List ℕ) (tally'' : Tally) (stop'' : ℕ) → Walked p (tried p work' k more) stack' work' numbers list' tally' k stack'' work'' list'' tally'' stop'' →
+      pub turn_goes : stop ≡ ALL → (stack'' work'' list'' : List ℕ) (tally'' : Tally) (stop'' : ℕ) →
+          Walked p (tried p work' k more) stack' work' numbers list' tally' k stack'' work'' list'' tally'' stop'' →
           Walked p (tried p work k m) stack work numbers list tally k stack'' work'' list'' tally'' stop''
       turn_goes g stack'' work'' list'' tally'' stop'' w = record {
         state = w.state ∙ ap₂ (λ (q : List ℕ) (s : State). walk p order limit room (nodes_for p left q more) s) same_prefix (ap (λ (s : ℕ). state_of tally' work' s list') (sym g) ∙ d.state)

@@ -1,6 +1,7 @@
 -- Bytes that pass questions 1 to 15 (specs/Meaning, `compilable`): their problem is well formed, and an accepted sheet is one of them. Assumes nothing.
 use Rattle.model.specs.Kit.{◌≡◌, refl, sym, ap, ◌∙◌, subst, Bool, true, false, not, List, [], ◌∷◌, Memᴰ-of_map, ℕ, zero, suc, ◌+◌, ◌*◌, ◌^◌, T, leb, ltb, eqb, length}
-use Rattle.model.specs.Sheet.{Header, word, header_of, header_verdict, offsets_fit, sets_verdict, scope_at, rows_at, after_at, constraint_verdict, constraints_verdict, table_at, problem_of, permutes_pairs}
+use Rattle.model.specs.Sheet.{Header, word, header_of, header_verdict, offsets_fit, sets_verdict, scope_at, rows_at, after_at, constraint_verdict, constraints_verdict, table_at, problem_of}
+use Rattle.model.specs.Sheet.{permutes_pairs}
 use Rattle.model.specs.Sheet.{tables_fit, form_verdict, symmetries_verdict, verdict_of}
 use Rattle.model.specs.{Lists.all, Lists.both, Lists.below, Lists.ascending, Lists.rows_ascend, Verdict.Verdict, Verdict.accepted, Verdict.ask, Verdict.is_accepted, Inner.WellFormed.WellFormed}
 use Rattle.model.proofs.{Lists.all_e, Lists.all_i, Accepted.length_words, Accepted.symmetries_e}

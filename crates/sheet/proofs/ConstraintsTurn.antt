@@ -14,7 +14,8 @@ pub record ConstraintsTo (b : List ℕ) (c : ℕ) (numbers supports : List ℕ) 
   pub supported : supports' ≡ supports_to b (header_of b).second k supports
   pub passed : (later : Verdict) → constraints_verdict b (header_of b) c 0 (header_of b).second later ≡ constraints_verdict b (header_of b) (c - k) k o later
 
-pub constraints_none : (b : List ℕ) (c o : ℕ) (numbers supports : List ℕ) → o ≡ (header_of b).second → (header_of b).second ≤ (header_of b).third → ConstraintsTo b c numbers supports 0 o numbers supports
+pub constraints_none : (b : List ℕ) (c o : ℕ) (numbers supports : List ℕ) → o ≡ (header_of b).second → (header_of b).second ≤ (header_of b).third →
+    ConstraintsTo b c numbers supports 0 o numbers supports
 unfolding offset_at numbers_to supports_to
 constraints_none b c o numbers supports e l =
     record {

@@ -55,7 +55,8 @@ table_at_lem b e q h = at_words b (table_offset b e) ((header_of b).variables * 
 abbrev pub permuted_at : List ℕ → ℕ → Bool
 permuted_at b e = permutes_pairs (problem_of b) (table_at b (header_of b) e)
 
-in_table : (b : List ℕ) (e : ℕ) → permuted_at b e ≡ true → (q : ℕ) → q < (header_of b).variables * (header_of b).values → word b (table_offset b e + 2 * q) < (header_of b).variables * (header_of b).values
+in_table : (b : List ℕ) (e : ℕ) → permuted_at b e ≡ true → (q : ℕ) → q < (header_of b).variables * (header_of b).values →
+    word b (table_offset b e + 2 * q) < (header_of b).variables * (header_of b).values
 unfolding problem_of
 in_table b e t q h = subst (λ (y : ℕ). y < (header_of b).variables * (header_of b).values) (table_at_lem b e q h) (inside (problem_of b) (table_at b (header_of b) e) (T_of (permuted_at b e) t) q h)
 
@@ -131,7 +132,8 @@ module _ (b : List ℕ) (v : FormPassed b) (e o : ℕ) (new : List ℕ) (t : Ima
       asked f m true x = ap (permuted_at b) (eqb-true f e x) ∙ z
       asked f m false x = let n : f ≡ e → ⊥ = eqb-false f e x in t.permuted f (omega arith)
 
-      slot : (g q : ℕ) → g < e + 1 → q < (header_of b).variables * (header_of b).values → (s : Bool) → eqb g e ≡ s → at next (192 * g + pair_code_of (header_of b).values q) ≡ pair_code_of (header_of b).values
+      slot : (g q : ℕ) → g < e + 1 → q < (header_of b).variables * (header_of b).values → (s : Bool) → eqb g e ≡ s →
+          at next (192 * g + pair_code_of (header_of b).values q) ≡ pair_code_of (header_of b).values
           (word b (table_offset b g + 2 * q))
       slot g q m h true x =
           let y : g ≡ e = eqb-true g e x in

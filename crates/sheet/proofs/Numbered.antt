@@ -1,6 +1,7 @@
 -- The numbers and the support sets of a sheet that passed questions 1 to 14. Assumes nothing.
 use Rattle.model.specs.Kit.{◌≡◌, sym, ap, ap₂, ◌∙◌, subst, Bool, List, [], ◌∷◌, ◌++◌, map, ℕ, suc, ◌+◌, ◌*◌, ◌/◌, ◌%◌, ◌^◌, ◌<◌, arith, eqb, length, set, length-set, lt-ltb}
-use Rattle.model.specs.{Lists.at, Lists.both, Lists.either, Lists.any, Lists.below, Lists.same, ValueSets.has, ValueSets.mask_of, Problem.Constraint, Problem.constraint_at, Sheet.header_of, Sheet.word}
+use Rattle.model.specs.{Lists.at, Lists.both, Lists.either, Lists.any, Lists.below, Lists.same, ValueSets.has, ValueSets.mask_of, Problem.Constraint, Problem.constraint_at, Sheet.header_of}
+use Rattle.model.specs.{Sheet.word}
 use Rattle.model.specs.{Sheet.scope_at, Sheet.rows_at, Sheet.problem_of, Sheet.table_at}
 use Rattle.model.proofs.{Lists.length_below, Lists.at_set, Lists.at_set_other, Sets.has_none, Accepted.length_words, Accepted.at_words, Accepted.length_constraints}
 use Rattle.arrays.specs.{Inner.Layout.Numbers, Inner.Layout.Supports, Inner.Layout.place, Inner.Places.SUPPORTS, Inner.Places.NUMBERS}

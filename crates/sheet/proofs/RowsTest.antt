@@ -64,7 +64,8 @@ module _ (b : List ℕ) (from a d : ℕ) (d16 : d ≤ 16) where
     unfolding least_key
     least_of h zero l = omega arith
     least_of h (suc j) l =
-        let q : row_key b from a j < row_key b from a (suc j) = ltb→lt (row_key b from a j) (row_key b from a (suc j)) (subst T (row_earlier j (suc j) (fits j (omega arith)) (fits (suc j) l)) (h j l)) in
+        let q : row_key b from a j < row_key b from a (suc j) =
+        ltb→lt (row_key b from a j) (row_key b from a (suc j)) (subst T (row_earlier j (suc j) (fits j (omega arith)) (fits (suc j) l)) (h j l)) in
         omega arith
 
     pub rows_ascend_lem : order b from a n ≡ 0 → rows_ascend (map (λ i. words b (from + 2 * (i * a)) a) (below n)) ≡ true

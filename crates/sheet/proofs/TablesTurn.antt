@@ -28,7 +28,8 @@ tables_none b o q =
     }
 
 -- each table stands whole before the end
-pub table_room : (b : List ℕ) (e : ℕ) → length b ≡ table_offset b (header_of b).symmetries → e < (header_of b).symmetries → table_offset b e + 2 * ((header_of b).variables * (header_of b).values) ≤ length b
+pub table_room : (b : List ℕ) (e : ℕ) → length b ≡ table_offset b (header_of b).symmetries → e < (header_of b).symmetries →
+    table_offset b e + 2 * ((header_of b).variables * (header_of b).values) ≤ length b
 table_room b e f l =
     let nd = (header_of b).variables * (header_of b).values in
     let h : suc e * nd ≤ (header_of b).symmetries * nd = mul-le-mul_right nd l in

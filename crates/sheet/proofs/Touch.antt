@@ -1,5 +1,6 @@
 -- What the scopes leave in the numbers. Assumes nothing.
-use Rattle.model.specs.Kit.{◌≡◌, refl, sym, ap, ap₂, ◌∙◌, subst, Bool, true, false, List, ℕ, zero, suc, ◌+◌, ◌*◌, ◌/◌, ◌%◌, ◌^◌, ◌≤◌, ◌<◌, arith, not-suc-le-zero, lt_of_lt_of_le, bit_or, or_lt, pow-lt}
+use Rattle.model.specs.Kit.{◌≡◌, refl, sym, ap, ap₂, ◌∙◌, subst, Bool, true, false, List, ℕ, zero, suc, ◌+◌, ◌*◌, ◌/◌, ◌%◌, ◌^◌, ◌≤◌, ◌<◌, arith, not-suc-le-zero, lt_of_lt_of_le, bit_or, or_lt}
+use Rattle.model.specs.Kit.{pow-lt}
 use Rattle.model.specs.Kit.{T, eqb, ltb, length, set, length-set, eqb-true, eqb-false, lt-ltb, le-ltb, ltb-true, ltb-false}
 use Rattle.model.specs.{Lists.at, Lists.both, Lists.either, Lists.any, Lists.ascending, ValueSets.has, Sheet.word, Sheet.words, Sheet.scope_at}
 use lib.Pow.{pow_mono}

@@ -40,7 +40,8 @@ compile_no b numbers supports images r n i e a = record { answers = a; compiled 
 
 -- ---- the tables
 -- question 15 was asked with the verdict on the tables, or was not asked yet
-pub tables_asked : (b numbers supports : List ℕ) (r : Answer) → Formed b numbers supports → r ≡ Accepted → means r ≡ symmetries_verdict (problem_of b) 0 (problem_of b).symmetries → Tabled b numbers true
+pub tables_asked : (b numbers supports : List ℕ) (r : Answer) → Formed b numbers supports → r ≡ Accepted → means r ≡ symmetries_verdict (problem_of b) 0 (problem_of b).symmetries →
+    Tabled b numbers true
 tables_asked b numbers supports r f e q =
     let p = problem_of b in
     record {

@@ -11,7 +11,8 @@ use Rattle.sheet_small.specs.Inner.Inner.{shape_no, table_no}
 use Rattle.sheet_small.proofs.{Lists.keep_map, Stating.stated, Stating.table_verdict, Stating.table_fits, Stating.table_fits_lem}
 
 plain : length plain_sheets ≡ 144
-unfolding plain_sheets shapes sheet_of front_of rows_of is_sheet all keep flat up_from below at earlier ascending rows_ascend has members word words header_of scope_at rows_at after_at constraints_from
+unfolding plain_sheets shapes sheet_of front_of rows_of is_sheet all keep flat up_from below at earlier ascending rows_ascend has members word words header_of scope_at rows_at after_at
+    constraints_from
     table_at problem_of sets_verdict constraint_verdict constraints_verdict symmetries_verdict header_verdict form_verdict verdict_of
 plain = refl
 

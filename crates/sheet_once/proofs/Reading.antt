@@ -1,7 +1,8 @@
 -- An accepted sheet of that kind is the sheet of its shape and its tables. Assumes nothing.
 use Rattle.model.specs.Kit.{◌≡◌, refl, sym, ap, ap₂, ◌∙◌, subst, Bool, true, false, List, [], ◌∷◌, ◌++◌, map, Memᴰ, Memᴰ-map, ℕ, zero, suc, ◌+◌, ◌-◌, ◌*◌, ◌/◌, ◌%◌, ◌^◌, ◌≤◌, ◌<◌, arith, T, leb}
 use Rattle.model.specs.Kit.{ltb, eqb, leb→le, eqb→eq, ltb→lt, length, get_or, length-map, ltb-true, ltb-false}
-use Rattle.model.specs.Sheet.{word, words, Header, header_of, scope_at, rows_at, after_at, constraints_from, table_at, problem_of, distinct, permutes_pairs, constraints_verdict, verdict_of, constraint_verdict}
+use Rattle.model.specs.Sheet.{word, words, Header, header_of, scope_at, rows_at, after_at, constraints_from, table_at, problem_of, distinct, permutes_pairs, constraints_verdict, verdict_of}
+use Rattle.model.specs.Sheet.{constraint_verdict}
 use Rattle.model.specs.{Lists.all, Lists.keep, Lists.flat, Lists.up_from, Lists.below, Lists.at, Lists.both, Lists.ascending, Lists.rows_ascend, Bytes.two_bytes, Problem.Problem, Problem.Constraint}
 use Rattle.model.specs.{Problem.assignments, Problem.is_pair, ValueSets.has, ValueSets.members, Verdict.Verdict, Verdict.is_accepted, Inner.WellFormed.GoodSymmetry}
 use Rattle.model.proofs.Lists.{all_e, below_i, up_from_i, length_below, flat_i, keep_i, both_l, both_r}

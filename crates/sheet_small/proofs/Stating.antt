@@ -1,7 +1,8 @@
 -- The verdict on a candidate with a table goes by what it states: its bytes are read once for each shape. Assumes nothing.
 use Rattle.model.specs.Kit.{◌≡◌, refl, ap, ap₂, ◌∙◌, Bool, List, [], ◌∷◌, map, ℕ, ◌+◌, ◌*◌, ◌/◌, ◌%◌, ◌<◌, arith}
 use Rattle.model.specs.{Lists.all, Lists.keep, Lists.flat, Lists.up_from, Lists.below, Lists.at, Lists.earlier, Lists.ascending, Lists.rows_ascend, ValueSets.has, ValueSets.members, Problem.Problem}
-use Rattle.model.specs.{Verdict.Verdict, Verdict.is_accepted, Sheet.word, Sheet.words, Sheet.header_of, Sheet.scope_at, Sheet.rows_at, Sheet.after_at, Sheet.constraints_from, Sheet.table_at, Sheet.problem_of}
+use Rattle.model.specs.{Verdict.Verdict, Verdict.is_accepted, Sheet.word, Sheet.words, Sheet.header_of, Sheet.scope_at, Sheet.rows_at, Sheet.after_at, Sheet.constraints_from, Sheet.table_at}
+use Rattle.model.specs.{Sheet.problem_of}
 use Rattle.model.specs.{Sheet.sets_verdict, Sheet.constraints_verdict, Sheet.symmetries_verdict, Sheet.verdict_of, Sheet.constraint_verdict, Sheet.header_verdict, Sheet.form_verdict}
 use Rattle.sheet_small.specs.{Small.Shape, Small.rows_of, Small.front_of, Small.sheet_of, Small.is_sheet, Inner.Inner.shape_no, Inner.Inner.table_no}
 use Rattle.sheet_small.proofs.Lists.{same_below}
@@ -26,7 +27,8 @@ abbrev back : ℕ → ℕ
 back w = w % 256 + 256 * (w / 256)
 
 verdicts : (a b c d : ℕ) → map (λ i. verdict_of (sheet_of (shape_no i) ((a ∷ b ∷ c ∷ d ∷ []) ∷ []))) (below 144) ≡ map (λ i. table_verdict i (back a ∷ back b ∷ back c ∷ back d ∷ [])) (below 144)
-unfolding stated table_verdict shape_no sheet_of front_of rows_of all keep flat up_from below at earlier ascending rows_ascend has members word words header_of scope_at rows_at after_at constraints_from
+unfolding stated table_verdict shape_no sheet_of front_of rows_of all keep flat up_from below at earlier ascending rows_ascend has members word words header_of scope_at rows_at after_at
+    constraints_from
     table_at problem_of sets_verdict constraint_verdict constraints_verdict header_verdict form_verdict verdict_of
 verdicts a b c d = refl
 

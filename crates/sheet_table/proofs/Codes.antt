@@ -4,7 +4,8 @@ use Rattle.model.specs.{Lists.at, Lists.all, Lists.below, ValueSets.has, Problem
 use native.Mathlib.Nat.{div-add-mod', div-lt_iff_lt-mul, mod-lt}
 use lib.Pow.{pow_mono}
 use Rattle.model.specs.Inner.WellFormed.{Stated, GoodConstraint}
-use Rattle.model.proofs.{Lists.both_l, Lists.all_e, Lists.below_i, Pairs.init_lt, Pairs.pair_of, Pairs.pair_lt, Pairs.pair_first, Pairs.pair_second, Pairs.is_pair_i, Pairs.is_pair_lt, Pairs.is_pair_has}
+use Rattle.model.proofs.{Lists.both_l, Lists.all_e, Lists.below_i, Pairs.init_lt, Pairs.pair_of, Pairs.pair_lt, Pairs.pair_first, Pairs.pair_second, Pairs.is_pair_i, Pairs.is_pair_lt}
+use Rattle.model.proofs.{Pairs.is_pair_has}
 use Rattle.arrays.specs.Inner.Layout.{pair_code_of}
 use Rattle.arrays.proofs.Links.{is_one}
 use Rattle.sheet_table.specs.Inner.Forbidden.{number_of, PairCode, MaybePair, Decoded}

@@ -186,7 +186,8 @@ four_after s (call owner key a) o l = go (eqb owner o) refl
   where
     go : (b : Bool) → eqb owner o ≡ b → length (keys_of (store_after s (call owner key a) o)) ≤ 4
     go true e =
-        subst (λ (z : ℕ). length (keys_of (s z)) ≤ 4 → length (keys_of (store_after s (call owner key a) z)) ≤ 4) (eqb-true owner o e) (four_own s owner key a (call_verdict s (call owner key a)) refl) l
+        subst (λ (z : ℕ). length (keys_of (s z)) ≤ 4 → length (keys_of (store_after s (call owner key a) z)) ≤ 4) (eqb-true owner o e)
+        (four_own s owner key a (call_verdict s (call owner key a)) refl) l
     go false e = subst (λ (es : Entries). length (keys_of es) ≤ 4) (sym (other_after s (call owner key a) o e)) l
 
 four_end : (s : Store) (xs : List StoreCall) (o : ℕ) → length (keys_of (s o)) ≤ 4 → length (keys_of (store_end s xs o)) ≤ 4
@@ -205,6 +206,7 @@ four_keys xs o = (four_end empty_store xs o (let e = ap length (keep_none (λ k.
     accepts k t l m h =
         let u : either (is_table (es k)) (ltb (length (keys_of es)) 4) ≡ true =
         ⊎_elim {C = either (is_table (es k)) (ltb (length (keys_of es)) 4) ≡ true}
-        (λ f. of_T _ (either_r (is_table (es k)) (ltb (length (keys_of es)) 4) (T_of _ (lt-ltb (length (keys_of es)) 4 f)))) (λ f. of_T _ (either_l (is_table (es k)) (ltb (length (keys_of es)) 4) f)) h in
+        (λ f. of_T _ (either_r (is_table (es k)) (ltb (length (keys_of es)) 4) (T_of _ (lt-ltb (length (keys_of es)) 4 f)))) (λ f. of_T _ (either_l (is_table (es k)) (ltb (length (keys_of es)) 4) f))
+        h in
         ap₂ (λ (a b : Bool). ask a 31 0 (ask b 33 0 (ask (either (is_table (es k)) (ltb (length (keys_of es)) 4)) 32 0 accepted))) (lt-ltb o 4 l) (le-leb (length t) 2048 m)
         ∙ ap (λ (b : Bool). ask b 32 0 accepted) u

@@ -1,7 +1,8 @@
 -- The item of a refusal is below 256, so that its number and its item stand in one code. Assumes nothing.
 use Rattle.model.specs.Kit.{◌≡◌, refl, subst, Bool, true, false, not, List, [], ◌∷◌, ℕ, zero, suc, ◌+◌, ◌*◌, ◌^◌, ◌≤◌, ◌<◌, arith, leb, ltb, eqb, length, leb-true}
 use Rattle.model.specs.{Lists.both, Lists.all, Lists.ascending, Lists.rows_ascend, Lists.up_from, Lists.below, Problem.Problem, Problem.respects, Verdict.Verdict, Verdict.accepted, Verdict.refused}
-use Rattle.model.specs.{Verdict.ask, Sheet.Header, Sheet.header_of, Sheet.problem_of, Sheet.word, Sheet.scope_at, Sheet.rows_at, Sheet.after_at, Sheet.permutes_pairs, Sheet.header_verdict, Sheet.sets_verdict}
+use Rattle.model.specs.{Verdict.ask, Sheet.Header, Sheet.header_of, Sheet.problem_of, Sheet.word, Sheet.scope_at, Sheet.rows_at, Sheet.after_at, Sheet.permutes_pairs, Sheet.header_verdict}
+use Rattle.model.specs.{Sheet.sets_verdict}
 use Rattle.model.specs.{Sheet.constraint_verdict, Sheet.constraints_verdict, Sheet.form_verdict, Sheet.symmetries_verdict, Sheet.verdict_of}
 use Rattle.model.proofs.{Lists.both_second, Accepted.symmetries_are}
 

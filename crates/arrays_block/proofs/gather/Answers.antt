@@ -14,7 +14,11 @@ unfolding at
 loop-i-preserved c =
     let e = sym (c.is_inside.ensures ∙ ap (in_block _ _) c.wide.ensures.0) in (
       search rules,
-      (elim c.if-is_inside.branch [ then-is_inside w ↦ subst (Gathered _ _) (sym w.set-is) (gather_one _ _ _ c.loop-i.invariant.1 (search rules) (e ∙ w.if-is_inside.true)) | else-is_inside w ↦ subst (Gathered _ _) (sym w.set-is) (gather_none _ _ _ c.loop-i.invariant.1 (e ∙ w.if-is_inside.false)) ]),
+      (elim c.if-is_inside.branch [
+        | then-is_inside w ↦ subst (Gathered _ _) (sym w.set-is) (gather_one _ _ _ c.loop-i.invariant.1 (search rules) (e ∙ w.if-is_inside.true))
+        | else-is_inside w ↦
+            subst (Gathered _ _) (sym w.set-is) (gather_none _ _ _ c.loop-i.invariant.1 (e ∙ w.if-is_inside.false))
+      ]),
     )
 
 pub returns : goal.returns

@@ -11,19 +11,22 @@ loop-q-init c = (omega arith, λ p b. filled_begin _ _ _)
 
 pub pair_code-requires : goal.pair_code-requires
 pair_code-requires c =
-    let inside : (p : Problem) → BlockRow p c.args.rows.now c.args.row c.args.first c.args.m c.args.numbers.now → c.loop-q.q < p.variables * p.values = λ p b. subst (λ (n : ℕ). c.loop-q.q < n) (size_is p _ _ _ _ _ b) c.loop-q-test.true in
+    let inside : (p : Problem) → BlockRow p c.args.rows.now c.args.row c.args.first c.args.m c.args.numbers.now → c.loop-q.q < p.variables * p.values =
+    λ p b. subst (λ (n : ℕ). c.loop-q.q < n) (size_is p _ _ _ _ _ b) c.loop-q-test.true in
     let l = inside c.requires.0.0 c.requires.0.1 in
-    coded c.requires.0.0 _ _ _ _ _ c.requires.0.1 _ (subst (λ (y : ℕ). y < c.requires.0.0.variables * c.requires.0.0.values) (sym (c.moved-y.ensures c.requires.0.0 c.requires.0.1 l).0) (to_lt c.requires.0.0 _ _ _ _ _ c.requires.0.1 _ l))
+    coded c.requires.0.0 _ _ _ _ _ c.requires.0.1 _ (subst (λ (y : ℕ). y < c.requires.0.0.variables * c.requires.0.0.values) (sym (c.moved-y.ensures c.requires.0.0 c.requires.0.1 l).0)
+    (to_lt c.requires.0.0 _ _ _ _ _ c.requires.0.1 _ l))
 
 pub overflow_add-q : goal.overflow_add-q
 overflow_add-q c =
-    let inside : (p : Problem) → BlockRow p c.args.rows.now c.args.row c.args.first c.args.m c.args.numbers.now → c.loop-q.q < p.variables * p.values = λ p b. subst (λ (n : ℕ). c.loop-q.q < n) (size_is p _ _ _ _ _ b) c.loop-q-test.true in
+    let inside : (p : Problem) → BlockRow p c.args.rows.now c.args.row c.args.first c.args.m c.args.numbers.now → c.loop-q.q < p.variables * p.values =
+    λ p b. subst (λ (n : ℕ). c.loop-q.q < n) (size_is p _ _ _ _ _ b) c.loop-q-test.true in
     omega (arith, inside c.requires.0.0 c.requires.0.1, size_few c.requires.0.0 _ _ _ _ _ c.requires.0.1)
 
 pub loop-q-preserved : goal.loop-q-preserved
 loop-q-preserved c =
-    let inside : (p : Problem) → BlockRow p c.args.rows.now c.args.row c.args.first c.args.m c.args.numbers.now → c.loop-q.q < p.variables * p.values = λ p b. subst (λ (n : ℕ). c.loop-q.q < n) (size_is p _ _ _ _ _ b) c.loop-q-test.true in
-    (
+    let inside : (p : Problem) → BlockRow p c.args.rows.now c.args.row c.args.first c.args.m c.args.numbers.now → c.loop-q.q < p.variables * p.values =
+    λ p b. subst (λ (n : ℕ). c.loop-q.q < n) (size_is p _ _ _ _ _ b) c.loop-q-test.true in (
       omega (arith, c.loop-q-test.true),
       λ p b. row_more p _ _ _ _ _ b _ _ _ _ _ _ _ c.requires.1 c.requires.2
           (c.moved-y.ensures p b (inside p b)).0 c.pair_code-in-loop-q.ensures c.pair_code.ensures.0
@@ -38,7 +41,8 @@ overflow_mul-size c = omega (arith, size_is c.requires.0.0 _ _ _ _ _ c.requires.
 
 pub moved-y-requires : goal.moved-y-requires
 moved-y-requires c =
-    let inside : (p : Problem) → BlockRow p c.args.rows.now c.args.row c.args.first c.args.m c.args.numbers.now → c.loop-q.q < p.variables * p.values = λ p b. subst (λ (n : ℕ). c.loop-q.q < n) (size_is p _ _ _ _ _ b) c.loop-q-test.true in
+    let inside : (p : Problem) → BlockRow p c.args.rows.now c.args.row c.args.first c.args.m c.args.numbers.now → c.loop-q.q < p.variables * p.values =
+    λ p b. subst (λ (n : ℕ). c.loop-q.q < n) (size_is p _ _ _ _ _ b) c.loop-q-test.true in
     (c.requires.0.0, c.requires.0.1, inside c.requires.0.0 c.requires.0.1)
 
 pub overflow_cast-images : goal.overflow_cast-images
@@ -46,7 +50,8 @@ overflow_cast-images c = omega (arith, c.pair_code.ensures.1)
 
 pub pair_code-requires-in-loop-q : goal.pair_code-requires-in-loop-q
 pair_code-requires-in-loop-q c =
-    let inside : (p : Problem) → BlockRow p c.args.rows.now c.args.row c.args.first c.args.m c.args.numbers.now → c.loop-q.q < p.variables * p.values = λ p b. subst (λ (n : ℕ). c.loop-q.q < n) (size_is p _ _ _ _ _ b) c.loop-q-test.true in
+    let inside : (p : Problem) → BlockRow p c.args.rows.now c.args.row c.args.first c.args.m c.args.numbers.now → c.loop-q.q < p.variables * p.values =
+    λ p b. subst (λ (n : ℕ). c.loop-q.q < n) (size_is p _ _ _ _ _ b) c.loop-q-test.true in
     coded c.requires.0.0 _ _ _ _ _ c.requires.0.1 _ (inside c.requires.0.0 c.requires.0.1)
 
 pub overflow_add-images : goal.overflow_add-images

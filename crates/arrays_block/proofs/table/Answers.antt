@@ -9,7 +9,8 @@ loop-q-init c = λ p b. (omega arith, filled_none p _ _ _)
 
 pub loop-q-preserved : goal.loop-q-preserved
 loop-q-preserved c =
-    let inside : (p : Problem) → BlockRow p c.args.rows.now c.args.row c.args.first c.args.m c.args.numbers.now → c.loop-q.q < p.variables * p.values = λ p b. subst (λ (n : ℕ). c.loop-q.q < n) (size_is p _ _ _ _ _ b) c.loop-q-test.true in
+    let inside : (p : Problem) → BlockRow p c.args.rows.now c.args.row c.args.first c.args.m c.args.numbers.now → c.loop-q.q < p.variables * p.values =
+    λ p b. subst (λ (n : ℕ). c.loop-q.q < n) (size_is p _ _ _ _ _ b) c.loop-q-test.true in
     let small : c.loop-q.q < 192 = omega (arith, inside c.requires.0 c.requires.1, size_few c.requires.0 _ _ _ _ _ c.requires.1) in
     λ p b. let l = inside p b in (omega arith, filled_more p _ _ _ _ _ _ (c.loop-q.invariant p b).1 small (c.moved.ensures p b l).0)
 
@@ -22,29 +23,34 @@ overflow_mul-size c = omega (arith, size_is c.requires.0 _ _ _ _ _ c.requires.1,
 
 pub moved-requires : goal.moved-requires
 moved-requires c =
-    let inside : (p : Problem) → BlockRow p c.args.rows.now c.args.row c.args.first c.args.m c.args.numbers.now → c.loop-q.q < p.variables * p.values = λ p b. subst (λ (n : ℕ). c.loop-q.q < n) (size_is p _ _ _ _ _ b) c.loop-q-test.true in
+    let inside : (p : Problem) → BlockRow p c.args.rows.now c.args.row c.args.first c.args.m c.args.numbers.now → c.loop-q.q < p.variables * p.values =
+    λ p b. subst (λ (n : ℕ). c.loop-q.q < n) (size_is p _ _ _ _ _ b) c.loop-q-test.true in
     (c.requires.0, c.requires.1, inside c.requires.0 c.requires.1)
 
 pub overflow_cast-bytes : goal.overflow_cast-bytes
 overflow_cast-bytes c =
-    let inside : (p : Problem) → BlockRow p c.args.rows.now c.args.row c.args.first c.args.m c.args.numbers.now → c.loop-q.q < p.variables * p.values = λ p b. subst (λ (n : ℕ). c.loop-q.q < n) (size_is p _ _ _ _ _ b) c.loop-q-test.true in
+    let inside : (p : Problem) → BlockRow p c.args.rows.now c.args.row c.args.first c.args.m c.args.numbers.now → c.loop-q.q < p.variables * p.values =
+    λ p b. subst (λ (n : ℕ). c.loop-q.q < n) (size_is p _ _ _ _ _ b) c.loop-q-test.true in
     omega (arith, (c.moved.ensures c.requires.0 c.requires.1 (inside c.requires.0 c.requires.1)).1)
 
 pub overflow_mul-bytes : goal.overflow_mul-bytes
 overflow_mul-bytes c =
-    let inside : (p : Problem) → BlockRow p c.args.rows.now c.args.row c.args.first c.args.m c.args.numbers.now → c.loop-q.q < p.variables * p.values = λ p b. subst (λ (n : ℕ). c.loop-q.q < n) (size_is p _ _ _ _ _ b) c.loop-q-test.true in
+    let inside : (p : Problem) → BlockRow p c.args.rows.now c.args.row c.args.first c.args.m c.args.numbers.now → c.loop-q.q < p.variables * p.values =
+    λ p b. subst (λ (n : ℕ). c.loop-q.q < n) (size_is p _ _ _ _ _ b) c.loop-q-test.true in
     let small : c.loop-q.q < 192 = omega (arith, inside c.requires.0 c.requires.1, size_few c.requires.0 _ _ _ _ _ c.requires.1) in
     omega (arith, small)
 
 pub bounds-bytes-q : goal.bounds-bytes-q
 bounds-bytes-q c =
-    let inside : (p : Problem) → BlockRow p c.args.rows.now c.args.row c.args.first c.args.m c.args.numbers.now → c.loop-q.q < p.variables * p.values = λ p b. subst (λ (n : ℕ). c.loop-q.q < n) (size_is p _ _ _ _ _ b) c.loop-q-test.true in
+    let inside : (p : Problem) → BlockRow p c.args.rows.now c.args.row c.args.first c.args.m c.args.numbers.now → c.loop-q.q < p.variables * p.values =
+    λ p b. subst (λ (n : ℕ). c.loop-q.q < n) (size_is p _ _ _ _ _ b) c.loop-q-test.true in
     let small : c.loop-q.q < 192 = omega (arith, inside c.requires.0 c.requires.1, size_few c.requires.0 _ _ _ _ _ c.requires.1) in
     omega (arith, small)
 
 pub overflow_add-q : goal.overflow_add-q
 overflow_add-q c =
-    let inside : (p : Problem) → BlockRow p c.args.rows.now c.args.row c.args.first c.args.m c.args.numbers.now → c.loop-q.q < p.variables * p.values = λ p b. subst (λ (n : ℕ). c.loop-q.q < n) (size_is p _ _ _ _ _ b) c.loop-q-test.true in
+    let inside : (p : Problem) → BlockRow p c.args.rows.now c.args.row c.args.first c.args.m c.args.numbers.now → c.loop-q.q < p.variables * p.values =
+    λ p b. subst (λ (n : ℕ). c.loop-q.q < n) (size_is p _ _ _ _ _ b) c.loop-q-test.true in
     let small : c.loop-q.q < 192 = omega (arith, inside c.requires.0 c.requires.1, size_few c.requires.0 _ _ _ _ _ c.requires.1) in
     omega (arith, small)
 

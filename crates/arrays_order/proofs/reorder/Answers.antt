@@ -20,14 +20,13 @@ rename-requires c =
 
 pub rename-requires-2 : goal.rename-requires-2
 unfolding at
-rename-requires-2 c =
-    (
-      few_constraints _ _ _ _ _ c.requires.1,
-      few_values _ _ _ _ _ c.requires.1,
-      scopes _ _ _ _ _ c.requires.1 _ _ c.positions.ensures _ c.move_sets.ensures,
-      c.move_sets.ensures.size ∙ c.requires.1.numbers_length,
-      c.requires.1.supports_length,
-    )
+rename-requires-2 c = (
+  few_constraints _ _ _ _ _ c.requires.1,
+  few_values _ _ _ _ _ c.requires.1,
+  scopes _ _ _ _ _ c.requires.1 _ _ c.positions.ensures _ c.move_sets.ensures,
+  c.move_sets.ensures.size ∙ c.requires.1.numbers_length,
+  c.requires.1.supports_length,
+)
 
 pub returns : goal.returns
 unfolding at

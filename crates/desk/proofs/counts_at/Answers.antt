@@ -17,12 +17,11 @@ loop-x-init c = (omega arith, filled_begin _ _ _)
 
 pub loop-x-preserved : goal.loop-x-preserved
 unfolding at
-loop-x-preserved c =
-    (
-      omega (arith, c.loop-x-test.true),
-      filled_turn (λ i. i) _ _ _ c.loop-x.x _ _ c.loop-x.invariant.1 refl (omega (arith, c.loop-x-test.true)) (λ v k e. omega arith)
-          (c.capped.ensures ∙ ap₂ min c.nodes_at-nodes.ensures c.read_long.ensures),
-    )
+loop-x-preserved c = (
+  omega (arith, c.loop-x-test.true),
+  filled_turn (λ i. i) _ _ _ c.loop-x.x _ _ c.loop-x.invariant.1 refl (omega (arith, c.loop-x-test.true)) (λ v k e. omega arith)
+      (c.capped.ensures ∙ ap₂ min c.nodes_at-nodes.ensures c.read_long.ensures),
+)
 
 pub returns : goal.returns
 returns c =

@@ -15,12 +15,11 @@ returns-then-waits c =
 
 pub loop-i-preserved : goal.loop-i-preserved
 unfolding at
-loop-i-preserved c =
-    (
-      omega (arith, c.loop-i-test.true),
-      quiet_more c.args.queue.now c.loop-i.i c.loop-i.invariant.1
-          (sym c.waits.ensures ∙ c.if-waits.false),
-    )
+loop-i-preserved c = (
+  omega (arith, c.loop-i-test.true),
+  quiet_more c.args.queue.now c.loop-i.i c.loop-i.invariant.1
+      (sym c.waits.ensures ∙ c.if-waits.false),
+)
 
 pub returns : goal.returns
 returns c =

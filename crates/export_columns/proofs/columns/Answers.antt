@@ -25,7 +25,8 @@ three-requires c =
 
 pub returns-in-Refused : goal.returns-in-Refused
 returns-in-Refused c =
-    right_answer (columns_verdict c.args.variables c.args.rows.now (length c.args.out.now)) (columns_of c.args.variables c.args.rows.now) c.args.out.now c.args.answer.now (refusal c.in-Refused.number c.in-Refused.item)
+    right_answer (columns_verdict c.args.variables c.args.rows.now (length c.args.out.now)) (columns_of c.args.variables c.args.rows.now) c.args.out.now c.args.answer.now
+    (refusal c.in-Refused.number c.in-Refused.item)
     c.code.result c.to_columns-r.new.room c.args.answer.now c.if-answer-ne12.false (sym (ap means c.in-Refused.is) ∙ c.to_columns-r.ensures.0)
     c.code.ensures c.to_columns-r.ensures.1 refl
 

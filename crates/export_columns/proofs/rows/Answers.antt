@@ -25,7 +25,8 @@ three-requires c =
 
 pub returns-in-Refused : goal.returns-in-Refused
 returns-in-Refused c =
-    right_answer (rows_verdict c.args.store.now (length c.args.out.now)) (rows_of c.args.store.now) c.args.out.now c.args.answer.now (refusal c.in-Refused.number c.in-Refused.item) c.code.result c.to_rows-r.new.room
+    right_answer (rows_verdict c.args.store.now (length c.args.out.now)) (rows_of c.args.store.now) c.args.out.now c.args.answer.now (refusal c.in-Refused.number c.in-Refused.item) c.code.result
+    c.to_rows-r.new.room
     c.args.answer.now c.if-answer-ne12.false (sym (ap means c.in-Refused.is) ∙ c.to_rows-r.ensures.0) c.code.ensures c.to_rows-r.ensures.1 refl
 
 pub returns-in-Written : goal.returns-in-Written

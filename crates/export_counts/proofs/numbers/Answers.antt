@@ -10,13 +10,13 @@ loop-i-init c =
 
 pub loop-i-preserved : goal.loop-i-preserved
 unfolding four_bytes
-loop-i-preserved c =
-    (
-      omega arith,
-      c.four-at.auto.out ∙ c.loop-i.invariant.1,
-      omega (arith, c.four-at.ensures.ends, c.loop-i.invariant.2),
-      numbers_turn c.args.start c.loop-i.i c.args.counts (omega (arith, c.requires.1.long)) (omega (arith, c.loop-i.invariant.2, c.loop-i.invariant.0, c.requires.0)) c.loop-i.invariant.3 c.four-at.ensures,
-    )
+loop-i-preserved c = (
+  omega arith,
+  c.four-at.auto.out ∙ c.loop-i.invariant.1,
+  omega (arith, c.four-at.ensures.ends, c.loop-i.invariant.2),
+  numbers_turn c.args.start c.loop-i.i c.args.counts (omega (arith, c.requires.1.long)) (omega (arith, c.loop-i.invariant.2, c.loop-i.invariant.0, c.requires.0)) c.loop-i.invariant.3
+      c.four-at.ensures,
+)
 
 pub returns : goal.returns
 returns c =

@@ -19,5 +19,6 @@ told-requires c =
 
 pub returns : goal.returns
 returns c =
-    release_done c.args.queue.now c.args.slot c.args.room.now c.args.answer.now c.if-answer-ne12.false _ c.release-r.ensures.answers c.told.result _ _ c.told.new.answer (c.told.ensures.value ∙ code_any c.release-r.result _) c.release-r.ensures.leaves
+    release_done c.args.queue.now c.args.slot c.args.room.now c.args.answer.now c.if-answer-ne12.false _ c.release-r.ensures.answers c.told.result _ _ c.told.new.answer (c.told.ensures.value
+    ∙ code_any c.release-r.result _) c.release-r.ensures.leaves
     c.release-r.ensures.writes (c.told.ensures.answer_after ∙ answer_any c.release-r.result _ c.args.answer.now)

@@ -12,13 +12,12 @@ returns-then-answer-ne64 c = status_short c.args.queue.now c.args.slot c.args.an
 
 pub seen-requires : goal.seen-requires
 unfolding at
-seen-requires c =
-    (
-      subst (StatusFits (means c.status-s.result.answer [])) (sym c.if-answer-ne64.false)
-          (subst (λ (q : QueueReply). StatusFits q 64) (sym c.status-s.ensures.answers) (status_reply c.args.queue.now (λ i. (c.shared_slice_known-1.given i).fits)
-          c.args.slot)),
-      subst Twelve (sym c.status-s.ensures.counts) (status_twelve c.args.queue.now (λ i. (c.shared_slice_known-1.given i).fits) c.args.slot),
-    )
+seen-requires c = (
+  subst (StatusFits (means c.status-s.result.answer [])) (sym c.if-answer-ne64.false)
+      (subst (λ (q : QueueReply). StatusFits q 64) (sym c.status-s.ensures.answers) (status_reply c.args.queue.now (λ i. (c.shared_slice_known-1.given i).fits)
+      c.args.slot)),
+  subst Twelve (sym c.status-s.ensures.counts) (status_twelve c.args.queue.now (λ i. (c.shared_slice_known-1.given i).fits) c.args.slot),
+)
 
 pub returns : goal.returns
 returns c =

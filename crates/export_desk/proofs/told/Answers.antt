@@ -37,23 +37,37 @@ three-requires-in-Released c =
     (h.0, omega arith, h.1, omega arith)
 
 pub returns-in-Refused : goal.returns-in-Refused
-returns-in-Refused c = let e = sym c.in-Refused.is in record { value = c.code.ensures ∙ ap (λ (q : Answer). reply_code (means q [])) e; answer_after = ap (λ (q : Answer). reply_answer (means q []) c.args.answer.now) e }
+returns-in-Refused c = let e = sym c.in-Refused.is in
+    record { value = c.code.ensures ∙ ap (λ (q : Answer). reply_code (means q [])) e; answer_after = ap (λ (q : Answer). reply_answer (means q []) c.args.answer.now) e }
 
 pub returns-in-Queued : goal.returns-in-Queued
-returns-in-Queued c = let e = sym c.in-Queued.is in record { value = ap (λ (q : Answer). reply_code (means q [])) e; answer_after = c.three.ensures ∙ ap
-          (λ (q : Answer). reply_answer (means q []) c.args.answer.now) e }
+returns-in-Queued c = let e = sym c.in-Queued.is in record {
+  value = ap (λ (q : Answer). reply_code (means q [])) e;
+  answer_after = c.three.ensures ∙ ap
+      (λ (q : Answer). reply_answer (means q []) c.args.answer.now) e;
+}
 
 pub returns-in-Idle : goal.returns-in-Idle
 returns-in-Idle c = let e = sym c.in-Idle.is in let h = subst (λ (q : Answer). ReplyFits (means q []) (length c.args.answer.now)) c.in-Idle.is
-    c.requires in record { value = ap (λ (q : Answer). reply_code (means q [])) e; answer_after = all_four 0 0 0 0 h c.numbers.ensures ∙ ap
-          (λ (q : Answer). reply_answer (means q []) c.args.answer.now) e }
+    c.requires in record {
+      value = ap (λ (q : Answer). reply_code (means q [])) e;
+      answer_after = all_four 0 0 0 0 h c.numbers.ensures ∙ ap
+          (λ (q : Answer). reply_answer (means q []) c.args.answer.now) e;
+    }
 
 pub returns-in-Stands : goal.returns-in-Stands
-returns-in-Stands c = let e = sym c.in-Stands.is in let k = c.kind.ensures.0 c.in-Stands.plans c.in-Stands.nodes in let h = subst (λ (q : Answer). ReplyFits (means q []) (length c.args.answer.now)) c.in-Stands.is
-    c.requires in record { value = ap (λ (q : Answer). reply_code (means q [])) e; answer_after = all_four _ c.in-Stands.slot c.in-Stands.plans c.in-Stands.nodes h.0 c.numbers-in-Stands.ensures ∙ ap
+returns-in-Stands c = let e = sym c.in-Stands.is in let k = c.kind.ensures.0 c.in-Stands.plans c.in-Stands.nodes in
+    let h = subst (λ (q : Answer). ReplyFits (means q []) (length c.args.answer.now)) c.in-Stands.is
+    c.requires in record {
+      value = ap (λ (q : Answer). reply_code (means q [])) e;
+      answer_after = all_four _ c.in-Stands.slot c.in-Stands.plans c.in-Stands.nodes h.0 c.numbers-in-Stands.ensures ∙ ap
           (λ (i : ℕ). four_numbers i c.in-Stands.slot c.in-Stands.plans c.in-Stands.nodes) k ∙ ap (λ (q : Answer). reply_answer (means q [])
-          c.args.answer.now) e }
+          c.args.answer.now) e;
+    }
 
 pub returns-in-Released : goal.returns-in-Released
-returns-in-Released c = let e = sym c.in-Released.is in record { value = ap (λ (q : Answer). reply_code (means q [])) e; answer_after = c.three-in-Released.ensures ∙ ap
-          (λ (q : Answer). reply_answer (means q []) c.args.answer.now) e }
+returns-in-Released c = let e = sym c.in-Released.is in record {
+  value = ap (λ (q : Answer). reply_code (means q [])) e;
+  answer_after = c.three-in-Released.ensures ∙ ap
+      (λ (q : Answer). reply_answer (means q []) c.args.answer.now) e;
+}

@@ -18,7 +18,8 @@ returns-then-n-gt12 c =
     let twice : length c.args.sets.now ≡ 2 * n = omega arith in
     let e = many c.args.sets.now c.args.index.now c.args.equal.now c.args.not_equal.now n twice c.if-n-gt12.true in
     record {
-      answers = sym (ap filter_answer_code (answer_refused c.args.sets.now c.args.index.now c.args.equal.now c.args.not_equal.now 17 0 e)) ∙ even_code c.args.sets.now c.args.index.now c.args.equal.now c.args.not_equal.now c.if-sets-ne0.false;
+      answers = sym (ap filter_answer_code (answer_refused c.args.sets.now c.args.index.now c.args.equal.now c.args.not_equal.now 17 0 e))
+          ∙ even_code c.args.sets.now c.args.index.now c.args.equal.now c.args.not_equal.now c.if-sets-ne0.false;
       leaves = refused_bytes c.args.sets.now c.args.index.now c.args.equal.now c.args.not_equal.now n 17 0 twice (λ i. (c.slice_known-1.given i).fits) e
           ∙ even_bytes c.args.sets.now c.args.index.now c.args.equal.now c.args.not_equal.now c.if-sets-ne0.false;
     }

@@ -20,11 +20,13 @@ returns-in-Refused c =
 pub returns-in-Joined : goal.returns-in-Joined
 returns-in-Joined c =
     right_size c.args.heads.now c.args.answer.now Joined 0 c.put_zeros.new.out c.if-answer-ne152.false (said c.args.heads.now c.join-r.result c.join-r.ensures Joined c.in-Joined.is tt) refl
-    (pieces c.args.heads.now c.join-r.result c.join-r.ensures Joined c.in-Joined.is tt 1 (replicate 13 0) (replicate 13 0) c.if-answer-ne152.false c.put_sums.ensures c.put_none.ensures c.put_zeros.ensures)
+    (pieces c.args.heads.now c.join-r.result c.join-r.ensures Joined c.in-Joined.is tt 1 (replicate 13 0) (replicate 13 0) c.if-answer-ne152.false c.put_sums.ensures c.put_none.ensures
+    c.put_zeros.ensures)
 
 pub returns-in-Missing : goal.returns-in-Missing
 returns-in-Missing c =
     let m = Missing c.in-Missing.stand c.in-Missing.near in
     right_size c.args.heads.now c.args.answer.now m 0 c.put_zeros-in-Missing.new.out c.if-answer-ne152.false (said c.args.heads.now c.join-r.result c.join-r.ensures m c.in-Missing.is tt) refl
-    (pieces c.args.heads.now c.join-r.result c.join-r.ensures m c.in-Missing.is tt 2 (stand_bytes c.args.heads.now c.in-Missing.stand) (begin_bytes c.args.heads.now c.in-Missing.near) c.if-answer-ne152.false c.put_sums-in-Missing.ensures
+    (pieces c.args.heads.now c.join-r.result c.join-r.ensures m c.in-Missing.is tt 2 (stand_bytes c.args.heads.now c.in-Missing.stand) (begin_bytes c.args.heads.now c.in-Missing.near)
+    c.if-answer-ne152.false c.put_sums-in-Missing.ensures
     c.put_range.ensures c.put_zeros-in-Missing.ensures)

@@ -36,6 +36,7 @@ returns-in-Refused c =
 pub returns-in-Ended : goal.returns-in-Ended
 returns-in-Ended c =
     let so = sym c.run_counted-r.ensures.0 ∙ ap means c.in-Ended.is in
-    let same = counts_of c.args.sheet.now c.args.pairs.now c.args.block.now c.args.limit c.args.list.now (ending_of c.in-Ended.e) no_nodes (tally_in c.run_counted-r.result.tally) so c.run_counted-r.ensures.2 in
+    let same = counts_of c.args.sheet.now c.args.pairs.now c.args.block.now c.args.limit c.args.list.now (ending_of c.in-Ended.e) no_nodes (tally_in c.run_counted-r.result.tally) so
+    c.run_counted-r.ensures.2 in
     right_answer c.args.sheet.now c.args.pairs.now c.args.block.now c.args.limit c.args.list.now c.args.answer.now 0 c.run_counted-r.new.list c.ending.new.out (ended (ending_of c.in-Ended.e))
     c.if-answer-ne60.false so refl c.run_counted-r.ensures.1 (c.ending.ensures ∙ ap (λ (l : List ℕ). ending_bytes (ending_of c.in-Ended.e) ++ numbers_of l) same)

@@ -23,7 +23,8 @@ returns-in-Refused c =
 
 pub returns-in-Written : goal.returns-in-Written
 returns-in-Written c =
-    right_answer c.args.variables c.args.pairs.now c.args.first.now c.args.second.now c.args.out.now c.args.answer.now (wrote c.in-Written.count) 0 c.merge-r.new.room c.three.new.out c.if-answer-ne12.false
+    right_answer c.args.variables c.args.pairs.now c.args.first.now c.args.second.now c.args.out.now c.args.answer.now (wrote c.in-Written.count) 0 c.merge-r.new.room c.three.new.out
+    c.if-answer-ne12.false
     (sym (ap means c.in-Written.is) ∙ c.merge-r.ensures.answers) refl c.merge-r.ensures.leaves c.three.ensures
 
 pub three-requires : goal.three-requires

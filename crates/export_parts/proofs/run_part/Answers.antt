@@ -24,7 +24,8 @@ put_ending-requires c =
     let so = sym c.run_part-r.ensures.answers ∙ ap means c.in-Ended.is in (
       c.if-answer-ne115.false,
       counted c.args.sheet.now c.args.pairs.now c.args.block.now c.args.from.now c.args.upto.now c.args.limit c.args.list.now (ending_of c.in-Ended.e) so c.ranges.limit.fits,
-      counts_fit c.args.sheet.now c.args.pairs.now c.args.block.now c.args.from.now c.args.upto.now c.args.limit c.args.list.now (ending_of c.in-Ended.e) so c.ranges.limit.fits c.run_part-r.result.tally.counts
+      counts_fit c.args.sheet.now c.args.pairs.now c.args.block.now c.args.from.now c.args.upto.now c.args.limit c.args.list.now (ending_of c.in-Ended.e) so c.ranges.limit.fits
+          c.run_part-r.result.tally.counts
           (ap (λ (t : Tally). t.counts) c.run_part-r.ensures.counts),
     )
 

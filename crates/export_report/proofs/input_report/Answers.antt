@@ -6,7 +6,8 @@ use Rattle.export_report.proofs.input_report.Goals as goal
 
 pub returns-then-input-le65536 : goal.returns-then-input-le65536
 returns-then-input-le65536 c =
-    subst (λ (b : List ℕ). Fitted c.args.out.now (report_for (verdict_of b) b) c.sheet_report.new.out c.sheet_report.result) (sym (take_all 65536 c.args.input.now c.if-input-le65536.true)) c.sheet_report.ensures
+    subst (λ (b : List ℕ). Fitted c.args.out.now (report_for (verdict_of b) b) c.sheet_report.new.out c.sheet_report.result) (sym (take_all 65536 c.args.input.now c.if-input-le65536.true))
+    c.sheet_report.ensures
 
 pub returns : goal.returns
 returns c = c.sheet_report-2.ensures

@@ -16,12 +16,11 @@ code-requires c =
     refused_small (verdict_of c.args.sheet.now) c.in-Refused.number c.in-Refused.item v (verdict_small c.args.sheet.now)
 
 pub ending-requires : goal.ending-requires
-ending-requires c =
-    (
-      c.if-answer-ne12.false,
-      counted c.args.sheet.now c.args.limit c.args.list.now (ending_of c.in-Ended.e) c.ranges.limit.fits
-          (sym c.run-r.ensures.answers ∙ ap means c.in-Ended.is),
-    )
+ending-requires c = (
+  c.if-answer-ne12.false,
+  counted c.args.sheet.now c.args.limit c.args.list.now (ending_of c.in-Ended.e) c.ranges.limit.fits
+      (sym c.run-r.ensures.answers ∙ ap means c.in-Ended.is),
+)
 
 pub returns-in-Refused : goal.returns-in-Refused
 returns-in-Refused c =

@@ -14,14 +14,13 @@ code-requires c =
     omega (arith, refusal_item c.args.k c.args.out.now c.in-Refused.number c.in-Refused.item (sym (ap means c.in-Refused.is) ∙ c.small_sheet-r.ensures.0))
 
 pub three-requires : goal.three-requires
-three-requires c =
-    (
-      c.if-answer-ne12.false,
-      omega arith,
-      omega
-          (arith, wrote_few c.args.k c.args.out.now c.in-Written.bytes (sym (ap means c.in-Written.is) ∙ c.small_sheet-r.ensures.0)),
-      omega arith,
-    )
+three-requires c = (
+  c.if-answer-ne12.false,
+  omega arith,
+  omega
+      (arith, wrote_few c.args.k c.args.out.now c.in-Written.bytes (sym (ap means c.in-Written.is) ∙ c.small_sheet-r.ensures.0)),
+  omega arith,
+)
 
 pub returns-in-Refused : goal.returns-in-Refused
 returns-in-Refused c =
@@ -30,4 +29,5 @@ returns-in-Refused c =
 
 pub returns-in-Written : goal.returns-in-Written
 returns-in-Written c =
-    answered c.args.k c.args.out.now c.args.answer.now (wrote c.in-Written.bytes) 0 _ _ c.if-answer-ne12.false (sym (ap means c.in-Written.is) ∙ c.small_sheet-r.ensures.0) refl c.small_sheet-r.ensures.1 c.three.ensures
+    answered c.args.k c.args.out.now c.args.answer.now (wrote c.in-Written.bytes) 0 _ _ c.if-answer-ne12.false (sym (ap means c.in-Written.is) ∙ c.small_sheet-r.ensures.0) refl
+    c.small_sheet-r.ensures.1 c.three.ensures

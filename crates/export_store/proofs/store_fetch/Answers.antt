@@ -10,12 +10,11 @@ returns-then-answer-ne12 c =
     unfetched c.args.store.now c.args.owner c.args.key c.args.room.now c.args.answer.now c.if-answer-ne12.true
 
 pub told-requires : goal.told-requires
-told-requires c =
-    (
-      c.if-answer-ne12.false,
-      subst OutcomeFits (sym c.fetch-r.ensures.0)
-          (reply_holds c.args.store.now (call c.args.owner c.args.key (fetch c.args.room.now))),
-    )
+told-requires c = (
+  c.if-answer-ne12.false,
+  subst OutcomeFits (sym c.fetch-r.ensures.0)
+      (reply_holds c.args.store.now (call c.args.owner c.args.key (fetch c.args.room.now))),
+)
 
 pub returns : goal.returns
 returns c =

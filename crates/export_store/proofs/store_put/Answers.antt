@@ -10,12 +10,11 @@ returns-then-answer-ne12 c =
     unanswered c.args.store.now (call c.args.owner c.args.key (put c.args.table.now)) c.args.answer.now c.if-answer-ne12.true
 
 pub told-requires : goal.told-requires
-told-requires c =
-    (
-      c.if-answer-ne12.false,
-      subst OutcomeFits (sym c.put-r.ensures.0)
-          (reply_holds c.args.store.now (call c.args.owner c.args.key (put c.args.table.now))),
-    )
+told-requires c = (
+  c.if-answer-ne12.false,
+  subst OutcomeFits (sym c.put-r.ensures.0)
+      (reply_holds c.args.store.now (call c.args.owner c.args.key (put c.args.table.now))),
+)
 
 pub returns : goal.returns
 returns c =

@@ -15,11 +15,15 @@ three-requires c = (
 )
 
 pub returns-in-Refused : goal.returns-in-Refused
-returns-in-Refused c = let e = sym c.in-Refused.is in record { value = c.code.ensures ∙ ap (λ (q : Answer). outcome_code (means q)) e; answer_after = ap (λ (q : Answer). outcome_answer (means q) c.args.answer.now) e }
+returns-in-Refused c = let e = sym c.in-Refused.is in
+    record { value = c.code.ensures ∙ ap (λ (q : Answer). outcome_code (means q)) e; answer_after = ap (λ (q : Answer). outcome_answer (means q) c.args.answer.now) e }
 
 pub returns-in-Done : goal.returns-in-Done
-returns-in-Done c = let e = sym c.in-Done.is in record { value = ap (λ (q : Answer). outcome_code (means q)) e; answer_after = c.three.ensures ∙ ap
-          (λ (q : Answer). outcome_answer (means q) c.args.answer.now) e }
+returns-in-Done c = let e = sym c.in-Done.is in record {
+  value = ap (λ (q : Answer). outcome_code (means q)) e;
+  answer_after = c.three.ensures ∙ ap
+      (λ (q : Answer). outcome_answer (means q) c.args.answer.now) e;
+}
 
 pub code-requires : goal.code-requires
 code-requires c = subst (λ (q : Answer). OutcomeFits (means q)) c.in-Refused.is c.requires.1

@@ -20,4 +20,5 @@ returns-in-Refused c =
 pub returns-in-Given : goal.returns-in-Given
 returns-in-Given c =
     let e = ap means_rounds c.in-Given.is in
-    rounded c.args.queue.now c.args.turns c.args.answer.now c.if-answer-ne12.false _ (sym e ∙ c.rounds-r.ensures.answers) 0 c.rounds-r.new.queue c.three.new.out refl c.rounds-r.ensures.leaves c.three.ensures
+    rounded c.args.queue.now c.args.turns c.args.answer.now c.if-answer-ne12.false _ (sym e ∙ c.rounds-r.ensures.answers) 0 c.rounds-r.new.queue c.three.new.out refl c.rounds-r.ensures.leaves
+    c.three.ensures

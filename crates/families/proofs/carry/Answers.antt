@@ -15,7 +15,13 @@ overflow_cast-code c =
     let Facts : Type 0 = (at c.args.rows.now (c.args.i * c.args.variables + c.loop-x.x) < 16)
     × (192 * c.args.k + 16 * c.loop-x.x + at c.args.rows.now (c.args.i * c.args.variables + c.loop-x.x) < length c.args.images.now)
     × (code / 16 < c.args.variables) × (c.args.variables ≤ 12) × (c.loop-x.r < 281474976710656) in
-    let facts : Facts = (imaging_value c.requires.1 c.loop-x.x c.loop-x-test.true, imaging_index c.requires.1 c.loop-x.x c.loop-x-test.true, imaging_variable c.requires.1 c.loop-x.x c.loop-x-test.true, (imaging_bounds c.requires.1).0, carrying_small (c.loop-x.invariant c.requires.0 c.requires.1 c.requires.2)) in
+    let facts : Facts = (
+      imaging_value c.requires.1 c.loop-x.x c.loop-x-test.true,
+      imaging_index c.requires.1 c.loop-x.x c.loop-x-test.true,
+      imaging_variable c.requires.1 c.loop-x.x c.loop-x-test.true,
+      (imaging_bounds c.requires.1).0,
+      carrying_small (c.loop-x.invariant c.requires.0 c.requires.1 c.requires.2),
+    ) in
     omega (arith, facts)
 
 pub overflow_add-code-in-loop-x-2 : goal.overflow_add-code-in-loop-x-2
@@ -25,7 +31,13 @@ overflow_add-code-in-loop-x-2 c =
     let Facts : Type 0 = (at c.args.rows.now (c.args.i * c.args.variables + c.loop-x.x) < 16)
     × (192 * c.args.k + 16 * c.loop-x.x + at c.args.rows.now (c.args.i * c.args.variables + c.loop-x.x) < length c.args.images.now)
     × (code / 16 < c.args.variables) × (c.args.variables ≤ 12) × (c.loop-x.r < 281474976710656) in
-    let facts : Facts = (imaging_value c.requires.1 c.loop-x.x c.loop-x-test.true, imaging_index c.requires.1 c.loop-x.x c.loop-x-test.true, imaging_variable c.requires.1 c.loop-x.x c.loop-x-test.true, (imaging_bounds c.requires.1).0, carrying_small (c.loop-x.invariant c.requires.0 c.requires.1 c.requires.2)) in
+    let facts : Facts = (
+      imaging_value c.requires.1 c.loop-x.x c.loop-x-test.true,
+      imaging_index c.requires.1 c.loop-x.x c.loop-x-test.true,
+      imaging_variable c.requires.1 c.loop-x.x c.loop-x-test.true,
+      (imaging_bounds c.requires.1).0,
+      carrying_small (c.loop-x.invariant c.requires.0 c.requires.1 c.requires.2),
+    ) in
     omega (arith, facts)
 
 pub bounds-images-base : goal.bounds-images-base
@@ -35,7 +47,13 @@ bounds-images-base c =
     let Facts : Type 0 = (at c.args.rows.now (c.args.i * c.args.variables + c.loop-x.x) < 16)
     × (192 * c.args.k + 16 * c.loop-x.x + at c.args.rows.now (c.args.i * c.args.variables + c.loop-x.x) < length c.args.images.now)
     × (code / 16 < c.args.variables) × (c.args.variables ≤ 12) × (c.loop-x.r < 281474976710656) in
-    let facts : Facts = (imaging_value c.requires.1 c.loop-x.x c.loop-x-test.true, imaging_index c.requires.1 c.loop-x.x c.loop-x-test.true, imaging_variable c.requires.1 c.loop-x.x c.loop-x-test.true, (imaging_bounds c.requires.1).0, carrying_small (c.loop-x.invariant c.requires.0 c.requires.1 c.requires.2)) in
+    let facts : Facts = (
+      imaging_value c.requires.1 c.loop-x.x c.loop-x-test.true,
+      imaging_index c.requires.1 c.loop-x.x c.loop-x-test.true,
+      imaging_variable c.requires.1 c.loop-x.x c.loop-x-test.true,
+      (imaging_bounds c.requires.1).0,
+      carrying_small (c.loop-x.invariant c.requires.0 c.requires.1 c.requires.2),
+    ) in
     facts.1
 
 pub overflow_cast-r : goal.overflow_cast-r
@@ -45,7 +63,13 @@ overflow_cast-r c =
     let Facts : Type 0 = (at c.args.rows.now (c.args.i * c.args.variables + c.loop-x.x) < 16)
     × (192 * c.args.k + 16 * c.loop-x.x + at c.args.rows.now (c.args.i * c.args.variables + c.loop-x.x) < length c.args.images.now)
     × (code / 16 < c.args.variables) × (c.args.variables ≤ 12) × (c.loop-x.r < 281474976710656) in
-    let facts : Facts = (imaging_value c.requires.1 c.loop-x.x c.loop-x-test.true, imaging_index c.requires.1 c.loop-x.x c.loop-x-test.true, imaging_variable c.requires.1 c.loop-x.x c.loop-x-test.true, (imaging_bounds c.requires.1).0, carrying_small (c.loop-x.invariant c.requires.0 c.requires.1 c.requires.2)) in
+    let facts : Facts = (
+      imaging_value c.requires.1 c.loop-x.x c.loop-x-test.true,
+      imaging_index c.requires.1 c.loop-x.x c.loop-x-test.true,
+      imaging_variable c.requires.1 c.loop-x.x c.loop-x-test.true,
+      (imaging_bounds c.requires.1).0,
+      carrying_small (c.loop-x.invariant c.requires.0 c.requires.1 c.requires.2),
+    ) in
     omega (arith, facts)
 
 pub offset_bounds-weights-code : goal.offset_bounds-weights-code
@@ -55,7 +79,13 @@ offset_bounds-weights-code c =
     let Facts : Type 0 = (at c.args.rows.now (c.args.i * c.args.variables + c.loop-x.x) < 16)
     × (192 * c.args.k + 16 * c.loop-x.x + at c.args.rows.now (c.args.i * c.args.variables + c.loop-x.x) < length c.args.images.now)
     × (code / 16 < c.args.variables) × (c.args.variables ≤ 12) × (c.loop-x.r < 281474976710656) in
-    let facts : Facts = (imaging_value c.requires.1 c.loop-x.x c.loop-x-test.true, imaging_index c.requires.1 c.loop-x.x c.loop-x-test.true, imaging_variable c.requires.1 c.loop-x.x c.loop-x-test.true, (imaging_bounds c.requires.1).0, carrying_small (c.loop-x.invariant c.requires.0 c.requires.1 c.requires.2)) in
+    let facts : Facts = (
+      imaging_value c.requires.1 c.loop-x.x c.loop-x-test.true,
+      imaging_index c.requires.1 c.loop-x.x c.loop-x-test.true,
+      imaging_variable c.requires.1 c.loop-x.x c.loop-x-test.true,
+      (imaging_bounds c.requires.1).0,
+      carrying_small (c.loop-x.invariant c.requires.0 c.requires.1 c.requires.2),
+    ) in
     omega (arith, facts)
 
 pub bounds-weights-code : goal.bounds-weights-code
@@ -65,7 +95,13 @@ bounds-weights-code c =
     let Facts : Type 0 = (at c.args.rows.now (c.args.i * c.args.variables + c.loop-x.x) < 16)
     × (192 * c.args.k + 16 * c.loop-x.x + at c.args.rows.now (c.args.i * c.args.variables + c.loop-x.x) < length c.args.images.now)
     × (code / 16 < c.args.variables) × (c.args.variables ≤ 12) × (c.loop-x.r < 281474976710656) in
-    let facts : Facts = (imaging_value c.requires.1 c.loop-x.x c.loop-x-test.true, imaging_index c.requires.1 c.loop-x.x c.loop-x-test.true, imaging_variable c.requires.1 c.loop-x.x c.loop-x-test.true, (imaging_bounds c.requires.1).0, carrying_small (c.loop-x.invariant c.requires.0 c.requires.1 c.requires.2)) in
+    let facts : Facts = (
+      imaging_value c.requires.1 c.loop-x.x c.loop-x-test.true,
+      imaging_index c.requires.1 c.loop-x.x c.loop-x-test.true,
+      imaging_variable c.requires.1 c.loop-x.x c.loop-x-test.true,
+      (imaging_bounds c.requires.1).0,
+      carrying_small (c.loop-x.invariant c.requires.0 c.requires.1 c.requires.2),
+    ) in
     omega (arith, facts)
 
 pub overflow_add-r : goal.overflow_add-r
@@ -75,7 +111,13 @@ overflow_add-r c =
     let Facts : Type 0 = (at c.args.rows.now (c.args.i * c.args.variables + c.loop-x.x) < 16)
     × (192 * c.args.k + 16 * c.loop-x.x + at c.args.rows.now (c.args.i * c.args.variables + c.loop-x.x) < length c.args.images.now)
     × (code / 16 < c.args.variables) × (c.args.variables ≤ 12) × (c.loop-x.r < 281474976710656) in
-    let facts : Facts = (imaging_value c.requires.1 c.loop-x.x c.loop-x-test.true, imaging_index c.requires.1 c.loop-x.x c.loop-x-test.true, imaging_variable c.requires.1 c.loop-x.x c.loop-x-test.true, (imaging_bounds c.requires.1).0, carrying_small (c.loop-x.invariant c.requires.0 c.requires.1 c.requires.2)) in
+    let facts : Facts = (
+      imaging_value c.requires.1 c.loop-x.x c.loop-x-test.true,
+      imaging_index c.requires.1 c.loop-x.x c.loop-x-test.true,
+      imaging_variable c.requires.1 c.loop-x.x c.loop-x-test.true,
+      (imaging_bounds c.requires.1).0,
+      carrying_small (c.loop-x.invariant c.requires.0 c.requires.1 c.requires.2),
+    ) in
     let digit : ℕ = code % 16 * 2 ^ (4 * (c.args.variables - 1 - code / 16)) in
     let adds : at c.args.weights.now code ≡ digit = c.requires.2 code (omega (arith, facts)) in
     let small : digit < 281474976710656 = digit_small c.args.variables (code / 16) (code % 16) facts.3 (omega arith) in
@@ -88,7 +130,13 @@ loop-x-preserved c =
     let Facts : Type 0 = (at c.args.rows.now (c.args.i * c.args.variables + c.loop-x.x) < 16)
     × (192 * c.args.k + 16 * c.loop-x.x + at c.args.rows.now (c.args.i * c.args.variables + c.loop-x.x) < length c.args.images.now)
     × (code / 16 < c.args.variables) × (c.args.variables ≤ 12) × (c.loop-x.r < 281474976710656) in
-    let facts : Facts = (imaging_value c.requires.1 c.loop-x.x c.loop-x-test.true, imaging_index c.requires.1 c.loop-x.x c.loop-x-test.true, imaging_variable c.requires.1 c.loop-x.x c.loop-x-test.true, (imaging_bounds c.requires.1).0, carrying_small (c.loop-x.invariant c.requires.0 c.requires.1 c.requires.2)) in
+    let facts : Facts = (
+      imaging_value c.requires.1 c.loop-x.x c.loop-x-test.true,
+      imaging_index c.requires.1 c.loop-x.x c.loop-x-test.true,
+      imaging_variable c.requires.1 c.loop-x.x c.loop-x-test.true,
+      (imaging_bounds c.requires.1).0,
+      carrying_small (c.loop-x.invariant c.requires.0 c.requires.1 c.requires.2),
+    ) in
     let digit : ℕ = code % 16 * 2 ^ (4 * (c.args.variables - 1 - code / 16)) in
     let adds : at c.args.weights.now code ≡ digit = c.requires.2 code (omega (arith, facts)) in
     λ p m w.

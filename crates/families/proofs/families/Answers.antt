@@ -30,7 +30,12 @@ unfolding at
 loop-i-preserved c =
     λ p n.
     let t = c.loop-i.invariant p n in
-    (elim c.if-seen-i-eq0.branch [ then-seen-i-eq0 w ↦ counting_flooded t c.loop-i-test.true (w.flood-tail.ensures p _ _ (counting_start t c.loop-i-test.true w.if-seen-i-eq0.true)) w.seen-is w.queue-is w.count-is w.tail-is | else-seen-i-eq0 w ↦ counting_known t c.loop-i-test.true w.if-seen-i-eq0.false w.seen-is w.queue-is w.count-is w.tail-is ])
+    (elim c.if-seen-i-eq0.branch [
+      | then-seen-i-eq0 w ↦
+          counting_flooded t c.loop-i-test.true (w.flood-tail.ensures p _ _ (counting_start t c.loop-i-test.true w.if-seen-i-eq0.true)) w.seen-is w.queue-is w.count-is w.tail-is
+      | else-seen-i-eq0 w ↦
+          counting_known t c.loop-i-test.true w.if-seen-i-eq0.false w.seen-is w.queue-is w.count-is w.tail-is
+    ])
 
 pub returns : goal.returns
 returns c = λ p n. counting_end (c.loop-i.invariant p n) c.loop-i-test.false

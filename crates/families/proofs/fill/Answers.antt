@@ -14,7 +14,8 @@ overflow_cast-keys c =
     let Bounds : Type 0 = (c.loop-i.i < length (solutions_of c.requires.0)) × (c.loop-i.i < 4096) × (c.loop-i.i * c.args.variables + c.args.variables ≤ length c.args.rows.now) in
     let bounds : Bounds = let m : c.loop-i.i < length (solutions_of c.requires.0) = omega arith in
     (m, omega arith, listed_row c.requires.1 c.loop-i.i m) in
-    let link : at c.loop-i.heads (c.key-own.result % 1021) < 4096 = chained_link c.requires.1 c.loop-i.i bounds.0 (c.loop-i.invariant.3 c.requires.0 c.requires.1 c.requires.2 c.requires.4) c.key-own.ensures in
+    let link : at c.loop-i.heads (c.key-own.result % 1021) < 4096 =
+    chained_link c.requires.1 c.loop-i.i bounds.0 (c.loop-i.invariant.3 c.requires.0 c.requires.1 c.requires.2 c.requires.4) c.key-own.ensures in
     omega (arith, link)
 
 pub overflow_add-keys : goal.overflow_add-keys
@@ -25,7 +26,8 @@ overflow_add-keys c =
     (m, omega arith, listed_row c.requires.1 c.loop-i.i m) in
     let short : c.key-own.result < 281474976710656 = let s = key_small c.args.variables _ (listed_twelve c.requires.1) (listed_small c.requires.1 c.loop-i.i bounds.0) in
     omega arith in
-    let link : at c.loop-i.heads (c.key-own.result % 1021) < 4096 = chained_link c.requires.1 c.loop-i.i bounds.0 (c.loop-i.invariant.3 c.requires.0 c.requires.1 c.requires.2 c.requires.4) c.key-own.ensures in
+    let link : at c.loop-i.heads (c.key-own.result % 1021) < 4096 =
+    chained_link c.requires.1 c.loop-i.i bounds.0 (c.loop-i.invariant.3 c.requires.0 c.requires.1 c.requires.2 c.requires.4) c.key-own.ensures in
     omega (arith, short, link)
 
 pub loop-i-preserved : goal.loop-i-preserved
@@ -33,8 +35,7 @@ unfolding at
 loop-i-preserved c =
     let Bounds : Type 0 = (c.loop-i.i < length (solutions_of c.requires.0)) × (c.loop-i.i < 4096) × (c.loop-i.i * c.args.variables + c.args.variables ≤ length c.args.rows.now) in
     let bounds : Bounds = let m : c.loop-i.i < length (solutions_of c.requires.0) = omega arith in
-    (m, omega arith, listed_row c.requires.1 c.loop-i.i m) in
-    (
+    (m, omega arith, listed_row c.requires.1 c.loop-i.i m) in (
       omega arith,
       length-set c.loop-i.keys c.loop-i.i _ ∙ c.loop-i.invariant.1,
       length-set c.loop-i.heads _ _ ∙ c.loop-i.invariant.2,

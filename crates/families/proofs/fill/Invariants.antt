@@ -5,7 +5,8 @@ use Rattle.families.proofs.fill.Given as goal
 
 abbrev pub invariant-loop-i : goal.invariant-loop-i
 invariant-loop-i l =
-    (l.i ≤ l.solutions) × (length l.keys ≡ 4096) × (length l.heads ≡ 1021) × ((p : Problem) → Listed p l.rows l.variables → l.solutions ≡ length (solutions_of p) → Unlinked l.initial.heads → Chained p l.keys l.heads l.i)
+    (l.i ≤ l.solutions) × (length l.keys ≡ 4096) × (length l.heads ≡ 1021)
+    × ((p : Problem) → Listed p l.rows l.variables → l.solutions ≡ length (solutions_of p) → Unlinked l.initial.heads → Chained p l.keys l.heads l.i)
 
 abbrev pub decreases-loop-i : goal.decreases-loop-i
 decreases-loop-i l = l.solutions - l.i

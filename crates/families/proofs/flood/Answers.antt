@@ -18,18 +18,21 @@ returns c = λ p starts count f. flooding_end (c.loop-first.invariant p starts c
 
 pub spread-end-requires : goal.spread-end-requires
 spread-end-requires c =
-    let AtTurn : Type 0 = Spreading c.requires.0 c.args.rows.now c.args.images.now c.args.keys.now c.args.heads.now c.args.weights.now c.args.variables c.args.symmetries c.loop-first.seen c.loop-first.queue c.requires.1 c.requires.2 c.loop-first.first c.loop-first.end in
+    let AtTurn : Type 0 = Spreading c.requires.0 c.args.rows.now c.args.images.now c.args.keys.now c.args.heads.now c.args.weights.now c.args.variables c.args.symmetries c.loop-first.seen
+    c.loop-first.queue c.requires.1 c.requires.2 c.loop-first.first c.loop-first.end in
     let spreading : AtTurn = flooding_spread (c.loop-first.invariant c.requires.0 c.requires.1 c.requires.2 c.requires.3) c.loop-first-test.true in
     (_, _, _, spreading)
 
 pub overflow_add-first : goal.overflow_add-first
 overflow_add-first c =
-    let AtTurn : Type 0 = Spreading c.requires.0 c.args.rows.now c.args.images.now c.args.keys.now c.args.heads.now c.args.weights.now c.args.variables c.args.symmetries c.loop-first.seen c.loop-first.queue c.requires.1 c.requires.2 c.loop-first.first c.loop-first.end in
+    let AtTurn : Type 0 = Spreading c.requires.0 c.args.rows.now c.args.images.now c.args.keys.now c.args.heads.now c.args.weights.now c.args.variables c.args.symmetries c.loop-first.seen
+    c.loop-first.queue c.requires.1 c.requires.2 c.loop-first.first c.loop-first.end in
     let spreading : AtTurn = flooding_spread (c.loop-first.invariant c.requires.0 c.requires.1 c.requires.2 c.requires.3) c.loop-first-test.true in
     omega (arith, spread_head spreading)
 
 pub loop-first-smaller : goal.loop-first-smaller
 loop-first-smaller c =
-    let AtTurn : Type 0 = Spreading c.requires.0 c.args.rows.now c.args.images.now c.args.keys.now c.args.heads.now c.args.weights.now c.args.variables c.args.symmetries c.loop-first.seen c.loop-first.queue c.requires.1 c.requires.2 c.loop-first.first c.loop-first.end in
+    let AtTurn : Type 0 = Spreading c.requires.0 c.args.rows.now c.args.images.now c.args.keys.now c.args.heads.now c.args.weights.now c.args.variables c.args.symmetries c.loop-first.seen
+    c.loop-first.queue c.requires.1 c.requires.2 c.loop-first.first c.loop-first.end in
     let spreading : AtTurn = flooding_spread (c.loop-first.invariant c.requires.0 c.requires.1 c.requires.2 c.requires.3) c.loop-first-test.true in
     omega (arith, spread_head spreading)

@@ -40,14 +40,17 @@ bounds-queue-end c =
 
 pub loop-k-preserved : goal.loop-k-preserved
 unfolding at
-loop-k-preserved c =
-    (
-      omega arith,
-      λ p starts count s.
-          let t = c.loop-k.invariant.1 p starts count s in
-          let e = c.image-j.ensures p (turning_numbering t c.loop-k-test.true) in
-          (elim c.if-seen-j-eq0.branch [ then-seen-j-eq0 w ↦ turning_pushed t c.loop-k-test.true e w.if-seen-j-eq0.true w.seen-is w.queue-is w.end-is | else-seen-j-eq0 w ↦ turning_stayed t c.loop-k-test.true e w.if-seen-j-eq0.false w.seen-is w.queue-is w.end-is ]),
-    )
+loop-k-preserved c = (
+  omega arith,
+  λ p starts count s.
+      let t = c.loop-k.invariant.1 p starts count s in
+      let e = c.image-j.ensures p (turning_numbering t c.loop-k-test.true) in
+      (elim c.if-seen-j-eq0.branch [
+        | then-seen-j-eq0 w ↦ turning_pushed t c.loop-k-test.true e w.if-seen-j-eq0.true w.seen-is w.queue-is w.end-is
+        | else-seen-j-eq0 w ↦
+            turning_stayed t c.loop-k-test.true e w.if-seen-j-eq0.false w.seen-is w.queue-is w.end-is
+      ]),
+)
 
 pub returns : goal.returns
 returns c = λ p starts count s. turning_end (c.loop-k.invariant.1 p starts count s) (omega arith)

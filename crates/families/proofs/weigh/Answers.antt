@@ -10,14 +10,14 @@ loop-c-init c = (omega arith, c.requires.1, λ d l. absurd (omega arith))
 
 pub loop-c-preserved : goal.loop-c-preserved
 unfolding at
-loop-c-preserved c =
-    (
-      omega arith,
-      length-set c.loop-c.weights c.loop-c.c _ ∙ c.loop-c.invariant.1,
-      λ d h.
-          let new = digit_shifted c.args.variables (c.loop-c.c / 16) (c.loop-c.c % 16) c.requires.0 (omega arith) in
-          set_each (λ (d w : ℕ). w ≡ d % 16 * 2 ^ (4 * (c.args.variables - 1 - d / 16))) c.loop-c.weights c.loop-c.c _ d (omega (arith, c.loop-c.invariant.1)) new (λ n. c.loop-c.invariant.2 d (omega arith)),
-    )
+loop-c-preserved c = (
+  omega arith,
+  length-set c.loop-c.weights c.loop-c.c _ ∙ c.loop-c.invariant.1,
+  λ d h.
+      let new = digit_shifted c.args.variables (c.loop-c.c / 16) (c.loop-c.c % 16) c.requires.0 (omega arith) in
+      set_each (λ (d w : ℕ). w ≡ d % 16 * 2 ^ (4 * (c.args.variables - 1 - d / 16))) c.loop-c.weights c.loop-c.c _ d (omega (arith, c.loop-c.invariant.1)) new
+      (λ n. c.loop-c.invariant.2 d (omega arith)),
+)
 
 pub returns : goal.returns
 returns c = λ d l. c.loop-c.invariant.2 d (omega arith)

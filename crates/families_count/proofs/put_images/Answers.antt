@@ -15,8 +15,11 @@ put_images-symmetries-requires c =
 
 pub reorder-requires : goal.reorder-requires
 unfolding at
-reorder-requires c =
-    (_, movable _ _ _ _ _ _ _ c.requires.0.1 _ _ (c.put_images-symmetries.ensures _ (lent_images _ _ _ _ _ _ _ c.requires.0.1 _ _ c.widen.ensures c.requires.1) (lent_block _ _ _ _ _ _ _ c.requires.0.1)).put)
+reorder-requires c = (
+  _,
+  movable _ _ _ _ _ _ _ c.requires.0.1 _ _
+      (c.put_images-symmetries.ensures _ (lent_images _ _ _ _ _ _ _ c.requires.0.1 _ _ c.widen.ensures c.requires.1) (lent_block _ _ _ _ _ _ _ c.requires.0.1)).put,
+)
 
 pub returns-then-pairs-ne0 : goal.returns-then-pairs-ne0
 unfolding at

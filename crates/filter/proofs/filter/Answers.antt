@@ -12,4 +12,5 @@ returns-in-Accepted c =
     c.question-verdict.result c.question-verdict.ensures c.apply.new.sets c.apply.result c.in-Accepted.is c.apply.ensures
 
 pub returns-in-Refused : goal.returns-in-Refused
-returns-in-Refused c = after_refused c.args.sets.now c.args.index.now c.args.equal.now c.args.not_equal.now c.question-verdict.result c.question-verdict.ensures c.in-Refused.number c.in-Refused.item c.in-Refused.is
+returns-in-Refused c = after_refused c.args.sets.now c.args.index.now c.args.equal.now c.args.not_equal.now c.question-verdict.result c.question-verdict.ensures c.in-Refused.number c.in-Refused.item
+    c.in-Refused.is

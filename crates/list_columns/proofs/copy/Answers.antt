@@ -13,7 +13,8 @@ loop-i-init c =
 pub loop-i-preserved : goal.loop-i-preserved
 unfolding at
 loop-i-preserved c =
-    let inside : (c.args.at + c.loop-i.i * c.args.step < length c.args.out.now) × (c.args.from + c.loop-i.i * c.args.stride < length c.args.cells.now) = (c.requires.1 c.loop-i.i c.loop-i-test.true, c.requires.2 c.loop-i.i c.loop-i-test.true) in
+    let inside : (c.args.at + c.loop-i.i * c.args.step < length c.args.out.now) × (c.args.from + c.loop-i.i * c.args.stride < length c.args.cells.now) =
+    (c.requires.1 c.loop-i.i c.loop-i-test.true, c.requires.2 c.loop-i.i c.loop-i-test.true) in
     (search rules, simp length-set c.loop-i.invariant.1, copied_turn c.requires.0 (omega (arith, inside.0)) c.loop-i.invariant.2)
 
 pub returns : goal.returns
@@ -22,32 +23,38 @@ returns c =
 
 pub overflow_mul-out : goal.overflow_mul-out
 overflow_mul-out c =
-    let inside : (c.args.at + c.loop-i.i * c.args.step < length c.args.out.now) × (c.args.from + c.loop-i.i * c.args.stride < length c.args.cells.now) = (c.requires.1 c.loop-i.i c.loop-i-test.true, c.requires.2 c.loop-i.i c.loop-i-test.true) in
+    let inside : (c.args.at + c.loop-i.i * c.args.step < length c.args.out.now) × (c.args.from + c.loop-i.i * c.args.stride < length c.args.cells.now) =
+    (c.requires.1 c.loop-i.i c.loop-i-test.true, c.requires.2 c.loop-i.i c.loop-i-test.true) in
     omega (arith, inside.1)
 
 pub overflow_add-out : goal.overflow_add-out
 overflow_add-out c =
-    let inside : (c.args.at + c.loop-i.i * c.args.step < length c.args.out.now) × (c.args.from + c.loop-i.i * c.args.stride < length c.args.cells.now) = (c.requires.1 c.loop-i.i c.loop-i-test.true, c.requires.2 c.loop-i.i c.loop-i-test.true) in
+    let inside : (c.args.at + c.loop-i.i * c.args.step < length c.args.out.now) × (c.args.from + c.loop-i.i * c.args.stride < length c.args.cells.now) =
+    (c.requires.1 c.loop-i.i c.loop-i-test.true, c.requires.2 c.loop-i.i c.loop-i-test.true) in
     omega (arith, inside.1)
 
 pub bounds-cells-from : goal.bounds-cells-from
 bounds-cells-from c =
-    let inside : (c.args.at + c.loop-i.i * c.args.step < length c.args.out.now) × (c.args.from + c.loop-i.i * c.args.stride < length c.args.cells.now) = (c.requires.1 c.loop-i.i c.loop-i-test.true, c.requires.2 c.loop-i.i c.loop-i-test.true) in
+    let inside : (c.args.at + c.loop-i.i * c.args.step < length c.args.out.now) × (c.args.from + c.loop-i.i * c.args.stride < length c.args.cells.now) =
+    (c.requires.1 c.loop-i.i c.loop-i-test.true, c.requires.2 c.loop-i.i c.loop-i-test.true) in
     inside.1
 
 pub overflow_mul-out-in-loop-i : goal.overflow_mul-out-in-loop-i
 overflow_mul-out-in-loop-i c =
-    let inside : (c.args.at + c.loop-i.i * c.args.step < length c.args.out.now) × (c.args.from + c.loop-i.i * c.args.stride < length c.args.cells.now) = (c.requires.1 c.loop-i.i c.loop-i-test.true, c.requires.2 c.loop-i.i c.loop-i-test.true) in
+    let inside : (c.args.at + c.loop-i.i * c.args.step < length c.args.out.now) × (c.args.from + c.loop-i.i * c.args.stride < length c.args.cells.now) =
+    (c.requires.1 c.loop-i.i c.loop-i-test.true, c.requires.2 c.loop-i.i c.loop-i-test.true) in
     omega (arith, inside.0)
 
 pub overflow_add-out-in-loop-i : goal.overflow_add-out-in-loop-i
 overflow_add-out-in-loop-i c =
-    let inside : (c.args.at + c.loop-i.i * c.args.step < length c.args.out.now) × (c.args.from + c.loop-i.i * c.args.stride < length c.args.cells.now) = (c.requires.1 c.loop-i.i c.loop-i-test.true, c.requires.2 c.loop-i.i c.loop-i-test.true) in
+    let inside : (c.args.at + c.loop-i.i * c.args.step < length c.args.out.now) × (c.args.from + c.loop-i.i * c.args.stride < length c.args.cells.now) =
+    (c.requires.1 c.loop-i.i c.loop-i-test.true, c.requires.2 c.loop-i.i c.loop-i-test.true) in
     omega (arith, inside.0)
 
 pub bounds-out-at : goal.bounds-out-at
 bounds-out-at c =
-    let inside : (c.args.at + c.loop-i.i * c.args.step < length c.args.out.now) × (c.args.from + c.loop-i.i * c.args.stride < length c.args.cells.now) = (c.requires.1 c.loop-i.i c.loop-i-test.true, c.requires.2 c.loop-i.i c.loop-i-test.true) in
+    let inside : (c.args.at + c.loop-i.i * c.args.step < length c.args.out.now) × (c.args.from + c.loop-i.i * c.args.stride < length c.args.cells.now) =
+    (c.requires.1 c.loop-i.i c.loop-i-test.true, c.requires.2 c.loop-i.i c.loop-i-test.true) in
     omega (arith, inside.0)
 
 pub shape_of-out : goal.shape_of-out

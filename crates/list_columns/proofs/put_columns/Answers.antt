@@ -16,25 +16,24 @@ overflow_add-at c =
     omega (arith, suc-mul c.loop-x.x c.args.plans, mul-le-mul_right c.args.plans c.loop-x-test.true, c.requires)
 
 pub copy-requires : goal.copy-requires
-copy-requires c =
-    (
-      search rules,
-      column_fits c.args.at c.args.rows.now c.args.variables c.args.plans c.args.out.now c.requires.0 c.requires.1 c.loop-x.x _ c.loop-x-test.true c.loop-x.invariant.1.same,
-      column_inside c.args.at c.args.rows.now
-          c.args.variables c.args.plans c.args.out.now c.requires.0 c.requires.1 c.loop-x.x c.loop-x-test.true,
-    )
+copy-requires c = (
+  search rules,
+  column_fits c.args.at c.args.rows.now c.args.variables c.args.plans c.args.out.now c.requires.0 c.requires.1 c.loop-x.x _ c.loop-x-test.true c.loop-x.invariant.1.same,
+  column_inside c.args.at c.args.rows.now
+      c.args.variables c.args.plans c.args.out.now c.requires.0 c.requires.1 c.loop-x.x c.loop-x-test.true,
+)
 
 pub loop-x-preserved : goal.loop-x-preserved
-loop-x-preserved c =
-    (
-      search rules,
-      column_turn c.args.at c.args.rows.now c.args.variables c.args.plans c.args.out.now c.requires.0 c.requires.1 c.loop-x.x c.loop-x-test.true c.copy.auto.out
-          c.copy.ensures c.loop-x.invariant.1,
-    )
+loop-x-preserved c = (
+  search rules,
+  column_turn c.args.at c.args.rows.now c.args.variables c.args.plans c.args.out.now c.requires.0 c.requires.1 c.loop-x.x c.loop-x-test.true c.copy.auto.out
+      c.copy.ensures c.loop-x.invariant.1,
+)
 
 pub returns : goal.returns
 returns c =
-    columns_whole c.args.at c.args.rows.now c.args.variables c.args.plans c.args.out.now c.requires.0 c.requires.1 c.loop-x.x (le_antisymm c.loop-x.invariant.0 c.loop-x-test.false) c.loop-x.invariant.1
+    columns_whole c.args.at c.args.rows.now c.args.variables c.args.plans c.args.out.now c.requires.0 c.requires.1 c.loop-x.x (le_antisymm c.loop-x.invariant.0 c.loop-x-test.false)
+    c.loop-x.invariant.1
 
 pub shape_of-out : goal.shape_of-out
 shape_of-out c = c.loop-x.invariant.1.same

@@ -13,7 +13,16 @@ put_word-fourth-requires c =
 
 pub put_word-requires : goal.put_word-requires
 put_word-requires c =
-    omega (arith, c.put_word-second.ensures.ends, c.put_word-second.auto.out, c.put_word-third.ensures.ends, c.put_word-third.auto.out, c.put_word-fourth.ensures.ends, c.put_word-fourth.auto.out, c.requires)
+    omega (
+      arith,
+      c.put_word-second.ensures.ends,
+      c.put_word-second.auto.out,
+      c.put_word-third.ensures.ends,
+      c.put_word-third.auto.out,
+      c.put_word-fourth.ensures.ends,
+      c.put_word-fourth.auto.out,
+      c.requires,
+    )
 
 pub returns : goal.returns
 returns c =

@@ -12,21 +12,19 @@ overflow_mul-x c =
     omega (arith, suc-mul c.loop-x.x c.args.plans, mul-le-mul_right c.args.plans c.loop-x-test.true, c.requires)
 
 pub copy-requires : goal.copy-requires
-copy-requires c =
-    (
-      search rules,
-      row_fits c.args.columns.now c.args.variables c.args.plans c.args.out.now c.requires.0 c.requires.1 c.loop-x.x _ c.loop-x-test.true c.loop-x.invariant.1.same,
-      row_inside c.args.columns.now c.args.variables
-          c.args.plans c.args.out.now c.requires.0 c.requires.1 c.loop-x.x c.loop-x-test.true,
-    )
+copy-requires c = (
+  search rules,
+  row_fits c.args.columns.now c.args.variables c.args.plans c.args.out.now c.requires.0 c.requires.1 c.loop-x.x _ c.loop-x-test.true c.loop-x.invariant.1.same,
+  row_inside c.args.columns.now c.args.variables
+      c.args.plans c.args.out.now c.requires.0 c.requires.1 c.loop-x.x c.loop-x-test.true,
+)
 
 pub loop-x-preserved : goal.loop-x-preserved
-loop-x-preserved c =
-    (
-      search rules,
-      row_turn c.args.columns.now c.args.variables c.args.plans c.args.out.now c.requires.0 c.requires.1 c.loop-x.x c.loop-x-test.true c.copy.auto.out
-          c.copy.ensures c.loop-x.invariant.1,
-    )
+loop-x-preserved c = (
+  search rules,
+  row_turn c.args.columns.now c.args.variables c.args.plans c.args.out.now c.requires.0 c.requires.1 c.loop-x.x c.loop-x-test.true c.copy.auto.out
+      c.copy.ensures c.loop-x.invariant.1,
+)
 
 pub returns : goal.returns
 returns c =

@@ -8,12 +8,12 @@ pub loop-i-init : goal.loop-i-init
 loop-i-init c = (search rules, ((λ k l. absurd (omega arith)), λ f. omega arith))
 
 pub loop-i-preserved : goal.loop-i-preserved
-loop-i-preserved c =
-    (
-      search rules,
-      most_turn c.args.bytes.now c.loop-i.i c.loop-i.most c.if-most-bytes.most ((elim c.if-most-bytes.branch [ then-most-bytes w ↦ omega arith | else-most-bytes w ↦ omega arith ]))
-          ((elim c.if-most-bytes.branch [ then-most-bytes w ↦ omega arith | else-most-bytes w ↦ omega arith ])) (λ a b. (elim c.if-most-bytes.branch [ then-most-bytes w ↦ omega arith | else-most-bytes w ↦ omega arith ])) c.loop-i.invariant.1,
-    )
+loop-i-preserved c = (
+  search rules,
+  most_turn c.args.bytes.now c.loop-i.i c.loop-i.most c.if-most-bytes.most ((elim c.if-most-bytes.branch [ then-most-bytes w ↦ omega arith | else-most-bytes w ↦ omega arith ]))
+      ((elim c.if-most-bytes.branch [ then-most-bytes w ↦ omega arith | else-most-bytes w ↦ omega arith ]))
+      (λ a b. (elim c.if-most-bytes.branch [ then-most-bytes w ↦ omega arith | else-most-bytes w ↦ omega arith ])) c.loop-i.invariant.1,
+)
 
 pub returns : goal.returns
 returns c = small_is c.args.bytes.now c.loop-i.most c.loop-i.i (omega arith) c.loop-i.invariant.1

@@ -13,21 +13,24 @@ returns-then-number-ne0 c = refused_out _ _ (columns_of c.args.n c.args.rows.now
 
 pub put_columns-requires : goal.put_columns-requires
 put_columns-requires c =
-    let none : bytes_verdict c.args.n c.args.rows.now (8 + length c.args.rows.now) (length c.args.room.now) ≡ accepted = none_accepted c.question-number.result _ c.if-number-ne0.false c.question-number.ensures in
+    let none : bytes_verdict c.args.n c.args.rows.now (8 + length c.args.rows.now) (length c.args.room.now) ≡ accepted =
+    none_accepted c.question-number.result _ c.if-number-ne0.false c.question-number.ensures in
     let sound : Passed c.args.n c.args.rows.now (8 + length c.args.rows.now) (length c.args.room.now) = passed _ _ _ _ none in
     let f = columns_fit sound c.put_heading-at.result _ c.put_heading-at.ensures.ends in
     (f.0, omega (arith, f.1, c.put_heading-at.auto.out))
 
 pub overflow_add-result : goal.overflow_add-result
 overflow_add-result c =
-    let none : bytes_verdict c.args.n c.args.rows.now (8 + length c.args.rows.now) (length c.args.room.now) ≡ accepted = none_accepted c.question-number.result _ c.if-number-ne0.false c.question-number.ensures in
+    let none : bytes_verdict c.args.n c.args.rows.now (8 + length c.args.rows.now) (length c.args.room.now) ≡ accepted =
+    none_accepted c.question-number.result _ c.if-number-ne0.false c.question-number.ensures in
     let sound : Passed c.args.n c.args.rows.now (8 + length c.args.rows.now) (length c.args.room.now) = passed _ _ _ _ none in
     omega (arith, c.put_heading-at.ensures.ends, heading_length c.args.n (length c.args.rows.now / c.args.n), few_bytes sound.rows)
 
 pub returns : goal.returns
 unfolding columns_verdict
 returns c =
-    let none : bytes_verdict c.args.n c.args.rows.now (8 + length c.args.rows.now) (length c.args.room.now) ≡ accepted = none_accepted c.question-number.result _ c.if-number-ne0.false c.question-number.ensures in
+    let none : bytes_verdict c.args.n c.args.rows.now (8 + length c.args.rows.now) (length c.args.room.now) ≡ accepted =
+    none_accepted c.question-number.result _ c.if-number-ne0.false c.question-number.ensures in
     let sound : Passed c.args.n c.args.rows.now (8 + length c.args.rows.now) (length c.args.room.now) = passed _ _ _ _ none in
     let fits : c.put_heading-at.result ≤ length c.args.room.now = omega (arith, sound.fits, heading_length c.args.n (length c.args.rows.now / c.args.n), c.put_heading-at.ensures.ends) in
     let f = store_fronted c.args.n c.args.rows.now (cells sound.rows) fits c.put_heading-at.ensures c.put_columns.ensures in
@@ -35,12 +38,14 @@ returns c =
 
 pub nonzero_div-plans : goal.nonzero_div-plans
 nonzero_div-plans c =
-    let none : bytes_verdict c.args.n c.args.rows.now (8 + length c.args.rows.now) (length c.args.room.now) ≡ accepted = none_accepted c.question-number.result _ c.if-number-ne0.false c.question-number.ensures in
+    let none : bytes_verdict c.args.n c.args.rows.now (8 + length c.args.rows.now) (length c.args.room.now) ≡ accepted =
+    none_accepted c.question-number.result _ c.if-number-ne0.false c.question-number.ensures in
     let sound : Passed c.args.n c.args.rows.now (8 + length c.args.rows.now) (length c.args.room.now) = passed _ _ _ _ none in
     omega (arith, sound.rows.some)
 
 pub put_heading-at-requires : goal.put_heading-at-requires
 put_heading-at-requires c =
-    let none : bytes_verdict c.args.n c.args.rows.now (8 + length c.args.rows.now) (length c.args.room.now) ≡ accepted = none_accepted c.question-number.result _ c.if-number-ne0.false c.question-number.ensures in
+    let none : bytes_verdict c.args.n c.args.rows.now (8 + length c.args.rows.now) (length c.args.room.now) ≡ accepted =
+    none_accepted c.question-number.result _ c.if-number-ne0.false c.question-number.ensures in
     let sound : Passed c.args.n c.args.rows.now (8 + length c.args.rows.now) (length c.args.room.now) = passed _ _ _ _ none in
     heading_fits sound

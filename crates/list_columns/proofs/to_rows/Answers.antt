@@ -12,20 +12,24 @@ returns-then-not-is_store c = not_a_store _ _ (rows_of c.args.store.now) _ (sym 
 pub returns-then-number-ne0 : goal.returns-then-number-ne0
 returns-then-number-ne0 c =
     let store : is_store c.args.store.now ≡ true = sym c.is_store.ensures ∙ c.if-not-is_store.false in
-    rows_refused c.args.store.now store (take (length c.args.store.now - 8) (drop 8 c.args.store.now)) c.word_at-variables.result c.word_at-plans.result (body_is c.args.store.now) c.word_at-variables.ensures.0
+    rows_refused c.args.store.now store (take (length c.args.store.now - 8) (drop 8 c.args.store.now)) c.word_at-variables.result c.word_at-plans.result (body_is c.args.store.now)
+    c.word_at-variables.ensures.0
     c.word_at-plans.ensures.0 c.args.room.now c.question-number.result c.if-number-ne0.true c.question-number.ensures
 
 pub put_rows-requires : goal.put_rows-requires
 put_rows-requires c =
     let store : is_store c.args.store.now ≡ true = sym c.is_store.ensures ∙ c.if-not-is_store.false in
-    let none : bytes_verdict c.word_at-variables.result (take (length c.args.store.now - 8) (drop 8 c.args.store.now)) (0 + length (take (length c.args.store.now - 8) (drop 8 c.args.store.now))) (length c.args.room.now) ≡ accepted = none_accepted c.question-number.result _ c.if-number-ne0.false c.question-number.ensures in
-    rows_fit c.args.store.now store (take (length c.args.store.now - 8) (drop 8 c.args.store.now)) c.word_at-variables.result c.word_at-plans.result (body_is c.args.store.now) c.word_at-variables.ensures.0
+    let none : bytes_verdict c.word_at-variables.result (take (length c.args.store.now - 8) (drop 8 c.args.store.now)) (0 + length (take (length c.args.store.now - 8) (drop 8 c.args.store.now)))
+    (length c.args.room.now) ≡ accepted = none_accepted c.question-number.result _ c.if-number-ne0.false c.question-number.ensures in
+    rows_fit c.args.store.now store (take (length c.args.store.now - 8) (drop 8 c.args.store.now)) c.word_at-variables.result c.word_at-plans.result (body_is c.args.store.now)
+    c.word_at-variables.ensures.0
     c.word_at-plans.ensures.0 c.args.room.now none
 
 pub returns : goal.returns
 returns c =
     let store : is_store c.args.store.now ≡ true = sym c.is_store.ensures ∙ c.if-not-is_store.false in
-    let none : bytes_verdict c.word_at-variables.result (take (length c.args.store.now - 8) (drop 8 c.args.store.now)) (0 + length (take (length c.args.store.now - 8) (drop 8 c.args.store.now))) (length c.args.room.now) ≡ accepted = none_accepted c.question-number.result _ c.if-number-ne0.false c.question-number.ensures in
+    let none : bytes_verdict c.word_at-variables.result (take (length c.args.store.now - 8) (drop 8 c.args.store.now)) (0 + length (take (length c.args.store.now - 8) (drop 8 c.args.store.now)))
+    (length c.args.room.now) ≡ accepted = none_accepted c.question-number.result _ c.if-number-ne0.false c.question-number.ensures in
     rows_wrote c.args.store.now store (take (length c.args.store.now - 8) (drop 8 c.args.store.now)) c.word_at-variables.result c.word_at-plans.result (body_is c.args.store.now)
     c.word_at-variables.ensures.0 c.word_at-plans.ensures.0 c.args.room.now _ none
     c.put_rows.ensures

@@ -45,30 +45,48 @@ pub by_places-way-requires : goal.by_places-way-requires
 by_places-way-requires c =
     let after = take (length c.loop-rest.rest.now - c.args.n) (drop c.args.n c.loop-rest.rest.now) in
     λ x m. (
-      subst (λ (k : ℕ). x < k) (front_a c.args.n c.args.order.now c.loop-rest.rest.now after c.requires.0 c.loop-rest.invariant.0 c.loop-rest-test.true (part_is c.loop-rest.rest.now c.args.n)) (c.requires.1.inside x m),
+      subst (λ (k : ℕ). x < k) (front_a c.args.n c.args.order.now c.loop-rest.rest.now after c.requires.0 c.loop-rest.invariant.0 c.loop-rest-test.true (part_is c.loop-rest.rest.now c.args.n))
+          (c.requires.1.inside x m),
       subst (λ (k : ℕ). x < k)
-          (front_after c.args.n c.args.order.now c.loop-rest.rest.now after c.requires.0 c.loop-rest.invariant.0 c.loop-rest-test.true (part_is c.loop-rest.rest.now c.args.n)) (c.requires.1.inside x m),
+          (front_after c.args.n c.args.order.now c.loop-rest.rest.now after c.requires.0 c.loop-rest.invariant.0 c.loop-rest-test.true (part_is c.loop-rest.rest.now c.args.n))
+          (c.requires.1.inside x m),
     )
 
 pub returns-in-Same : goal.returns-in-Same
 returns-in-Same c =
-    let stood : c.if-plain.way' ≡ way_of (earlier_by c.args.order.now (take c.args.n c.loop-rest.rest.now) (take c.args.n (take (length c.loop-rest.rest.now - c.args.n) (drop c.args.n c.loop-rest.rest.now)))) (earlier_by c.args.order.now (take c.args.n (take (length c.loop-rest.rest.now - c.args.n) (drop c.args.n c.loop-rest.rest.now))) (take c.args.n c.loop-rest.rest.now)) = let after = take (length c.loop-rest.rest.now - c.args.n) (drop c.args.n c.loop-rest.rest.now) in
+    let stood : c.if-plain.way' ≡ way_of
+    (earlier_by c.args.order.now (take c.args.n c.loop-rest.rest.now) (take c.args.n (take (length c.loop-rest.rest.now - c.args.n) (drop c.args.n c.loop-rest.rest.now))))
+    (earlier_by c.args.order.now (take c.args.n (take (length c.loop-rest.rest.now - c.args.n) (drop c.args.n c.loop-rest.rest.now))) (take c.args.n c.loop-rest.rest.now)) = let after =
+    take (length c.loop-rest.rest.now - c.args.n) (drop c.args.n c.loop-rest.rest.now) in
     let ea = front_a c.args.n c.args.order.now c.loop-rest.rest.now after c.requires.0 c.loop-rest.invariant.0 c.loop-rest-test.true (part_is c.loop-rest.rest.now c.args.n) in
     let eb = front_after c.args.n c.args.order.now c.loop-rest.rest.now after c.requires.0 c.loop-rest.invariant.0 c.loop-rest-test.true (part_is c.loop-rest.rest.now c.args.n) in
-    (elim c.if-plain.branch [ then-plain w ↦ let p = c.requires.3.words w.if-plain.true in w.way'-is ∙ w.by_words-way.ensures ∙ ap₂ way_of (plain_way c.args.n c.args.order.now p (take c.args.n c.loop-rest.rest.now) (take c.args.n after) ea eb)
-    (plain_way c.args.n c.args.order.now p (take c.args.n after) (take c.args.n c.loop-rest.rest.now) eb ea) | else-plain w ↦ w.way'-is ∙ w.by_places-way.ensures ]) in
+    (elim c.if-plain.branch [
+      | then-plain w ↦ let p = c.requires.3.words w.if-plain.true in
+          w.way'-is ∙ w.by_words-way.ensures ∙ ap₂ way_of (plain_way c.args.n c.args.order.now p (take c.args.n c.loop-rest.rest.now) (take c.args.n after) ea eb)
+          (plain_way c.args.n c.args.order.now p (take c.args.n after) (take c.args.n c.loop-rest.rest.now) eb ea)
+      | else-plain w ↦ w.way'-is ∙ w.by_places-way.ensures
+    ]) in
     let after = take (length c.loop-rest.rest.now - c.args.n) (drop c.args.n c.loop-rest.rest.now) in
-    sym (c.loop-rest.invariant.1 ∙ equal_rows c.args.n c.args.order.now c.loop-rest.rest.now after c.requires.0 c.loop-rest.invariant.0 c.loop-rest-test.true (part_is c.loop-rest.rest.now c.args.n) c.if-plain.way' stood c.in-Same.is)
+    sym (c.loop-rest.invariant.1 ∙ equal_rows c.args.n c.args.order.now c.loop-rest.rest.now after c.requires.0 c.loop-rest.invariant.0 c.loop-rest-test.true (part_is c.loop-rest.rest.now c.args.n)
+    c.if-plain.way' stood c.in-Same.is)
 
 pub returns-in-After : goal.returns-in-After
 returns-in-After c =
-    let stood : c.if-plain.way' ≡ way_of (earlier_by c.args.order.now (take c.args.n c.loop-rest.rest.now) (take c.args.n (take (length c.loop-rest.rest.now - c.args.n) (drop c.args.n c.loop-rest.rest.now)))) (earlier_by c.args.order.now (take c.args.n (take (length c.loop-rest.rest.now - c.args.n) (drop c.args.n c.loop-rest.rest.now))) (take c.args.n c.loop-rest.rest.now)) = let after = take (length c.loop-rest.rest.now - c.args.n) (drop c.args.n c.loop-rest.rest.now) in
+    let stood : c.if-plain.way' ≡ way_of
+    (earlier_by c.args.order.now (take c.args.n c.loop-rest.rest.now) (take c.args.n (take (length c.loop-rest.rest.now - c.args.n) (drop c.args.n c.loop-rest.rest.now))))
+    (earlier_by c.args.order.now (take c.args.n (take (length c.loop-rest.rest.now - c.args.n) (drop c.args.n c.loop-rest.rest.now))) (take c.args.n c.loop-rest.rest.now)) = let after =
+    take (length c.loop-rest.rest.now - c.args.n) (drop c.args.n c.loop-rest.rest.now) in
     let ea = front_a c.args.n c.args.order.now c.loop-rest.rest.now after c.requires.0 c.loop-rest.invariant.0 c.loop-rest-test.true (part_is c.loop-rest.rest.now c.args.n) in
     let eb = front_after c.args.n c.args.order.now c.loop-rest.rest.now after c.requires.0 c.loop-rest.invariant.0 c.loop-rest-test.true (part_is c.loop-rest.rest.now c.args.n) in
-    (elim c.if-plain.branch [ then-plain w ↦ let p = c.requires.3.words w.if-plain.true in w.way'-is ∙ w.by_words-way.ensures ∙ ap₂ way_of (plain_way c.args.n c.args.order.now p (take c.args.n c.loop-rest.rest.now) (take c.args.n after) ea eb)
-    (plain_way c.args.n c.args.order.now p (take c.args.n after) (take c.args.n c.loop-rest.rest.now) eb ea) | else-plain w ↦ w.way'-is ∙ w.by_places-way.ensures ]) in
+    (elim c.if-plain.branch [
+      | then-plain w ↦ let p = c.requires.3.words w.if-plain.true in
+          w.way'-is ∙ w.by_words-way.ensures ∙ ap₂ way_of (plain_way c.args.n c.args.order.now p (take c.args.n c.loop-rest.rest.now) (take c.args.n after) ea eb)
+          (plain_way c.args.n c.args.order.now p (take c.args.n after) (take c.args.n c.loop-rest.rest.now) eb ea)
+      | else-plain w ↦ w.way'-is ∙ w.by_places-way.ensures
+    ]) in
     let after = take (length c.loop-rest.rest.now - c.args.n) (drop c.args.n c.loop-rest.rest.now) in
-    sym (c.loop-rest.invariant.1 ∙ falls c.args.n c.args.order.now c.loop-rest.rest.now after c.requires.0 c.loop-rest.invariant.0 c.loop-rest-test.true (part_is c.loop-rest.rest.now c.args.n) c.if-plain.way' stood c.in-After.is)
+    sym (c.loop-rest.invariant.1 ∙ falls c.args.n c.args.order.now c.loop-rest.rest.now after c.requires.0 c.loop-rest.invariant.0 c.loop-rest-test.true (part_is c.loop-rest.rest.now c.args.n)
+    c.if-plain.way' stood c.in-After.is)
 
 pub loop-rest-smaller : goal.loop-rest-smaller
 loop-rest-smaller c =
@@ -77,13 +95,19 @@ loop-rest-smaller c =
 
 pub loop-rest-preserved : goal.loop-rest-preserved
 loop-rest-preserved c =
-    let stood : c.if-plain.way' ≡ way_of (earlier_by c.args.order.now (take c.args.n c.loop-rest.rest.now) (take c.args.n (take (length c.loop-rest.rest.now - c.args.n) (drop c.args.n c.loop-rest.rest.now)))) (earlier_by c.args.order.now (take c.args.n (take (length c.loop-rest.rest.now - c.args.n) (drop c.args.n c.loop-rest.rest.now))) (take c.args.n c.loop-rest.rest.now)) = let after = take (length c.loop-rest.rest.now - c.args.n) (drop c.args.n c.loop-rest.rest.now) in
+    let stood : c.if-plain.way' ≡ way_of
+    (earlier_by c.args.order.now (take c.args.n c.loop-rest.rest.now) (take c.args.n (take (length c.loop-rest.rest.now - c.args.n) (drop c.args.n c.loop-rest.rest.now))))
+    (earlier_by c.args.order.now (take c.args.n (take (length c.loop-rest.rest.now - c.args.n) (drop c.args.n c.loop-rest.rest.now))) (take c.args.n c.loop-rest.rest.now)) = let after =
+    take (length c.loop-rest.rest.now - c.args.n) (drop c.args.n c.loop-rest.rest.now) in
     let ea = front_a c.args.n c.args.order.now c.loop-rest.rest.now after c.requires.0 c.loop-rest.invariant.0 c.loop-rest-test.true (part_is c.loop-rest.rest.now c.args.n) in
     let eb = front_after c.args.n c.args.order.now c.loop-rest.rest.now after c.requires.0 c.loop-rest.invariant.0 c.loop-rest-test.true (part_is c.loop-rest.rest.now c.args.n) in
-    (elim c.if-plain.branch [ then-plain w ↦ let p = c.requires.3.words w.if-plain.true in w.way'-is ∙ w.by_words-way.ensures ∙ ap₂ way_of (plain_way c.args.n c.args.order.now p (take c.args.n c.loop-rest.rest.now) (take c.args.n after) ea eb)
-    (plain_way c.args.n c.args.order.now p (take c.args.n after) (take c.args.n c.loop-rest.rest.now) eb ea) | else-plain w ↦ w.way'-is ∙ w.by_places-way.ensures ]) in
-    let after = take (length c.loop-rest.rest.now - c.args.n) (drop c.args.n c.loop-rest.rest.now) in
-    (
+    (elim c.if-plain.branch [
+      | then-plain w ↦ let p = c.requires.3.words w.if-plain.true in
+          w.way'-is ∙ w.by_words-way.ensures ∙ ap₂ way_of (plain_way c.args.n c.args.order.now p (take c.args.n c.loop-rest.rest.now) (take c.args.n after) ea eb)
+          (plain_way c.args.n c.args.order.now p (take c.args.n after) (take c.args.n c.loop-rest.rest.now) eb ea)
+      | else-plain w ↦ w.way'-is ∙ w.by_places-way.ensures
+    ]) in
+    let after = take (length c.loop-rest.rest.now - c.args.n) (drop c.args.n c.loop-rest.rest.now) in (
       whole_after c.args.n c.args.order.now c.loop-rest.rest.now after c.requires.0 c.loop-rest.invariant.0 c.loop-rest-test.true (part_is c.loop-rest.rest.now c.args.n),
       c.loop-rest.invariant.1 ∙ goes_on_lem c.args.n c.args.order.now c.loop-rest.rest.now after c.requires.0 c.loop-rest.invariant.0 c.loop-rest-test.true (part_is c.loop-rest.rest.now c.args.n)
           c.if-plain.way' stood c.in-Before.is,

@@ -7,7 +7,8 @@ use Rattle.list_merge.proofs.{Stepping.way_same, Reading.onwards, Reading.come_e
 use Rattle.list_merge.proofs.by_places.Goals as goal
 
 -- the place k decides, where the rows agree before it
-decided : (order a b : List ℕ) (k x y : ℕ) → k < length order → earlier_by order a b ≡ onwards order a b k → earlier_by order b a ≡ onwards order b a k → x ≡ get_or a (get_or order k 0) 0 → y ≡ get_or b
+decided : (order a b : List ℕ) (k x y : ℕ) → k < length order → earlier_by order a b ≡ onwards order a b k → earlier_by order b a ≡ onwards order b a k → x ≡ get_or a (get_or order k 0) 0 →
+    y ≡ get_or b
     (get_or order k 0) 0 → (x ≡ y → length order ≤ k + 1) → way_of (ltb x y) (ltb y x) ≡ way_of (earlier_by order a b) (earlier_by order b a)
 decided order a b k x y h p q ex ey last =
     ap₂ way_of (ap₂ ltb ex ey ∙ sym (come_way order a b k h (λ z. last (ex ∙ z ∙ sym ey))) ∙ sym p) (ap₂ ltb ey ex ∙ sym (come_way order b a k h (λ z. last (ex ∙ sym z ∙ sym ey))) ∙ sym q)
@@ -56,17 +57,22 @@ at_place-w-requires c = (
 pub returns-then-z-w : goal.returns-then-z-w
 returns-then-z-w c =
     c.way_of-then-z-w.ensures
-    ∙ decided c.args.order.now c.args.a.now c.args.b.now (c.loop-i.i + 1) _ _ (omega arith) (onward c.args.order.now c.args.a.now c.args.b.now c.loop-i.i (c.loop-i.i + 1) _ _ (omega arith) refl c.loop-i.invariant.1 c.at_place-x.ensures c.at_place-y.ensures c.if-x-y.false)
-    (onward c.args.order.now c.args.b.now c.args.a.now c.loop-i.i (c.loop-i.i + 1) _ _ (omega arith) refl c.loop-i.invariant.2 c.at_place-y.ensures c.at_place-x.ensures (sym c.if-x-y.false)) c.at_place-z.ensures c.at_place-w.ensures
+    ∙ decided c.args.order.now c.args.a.now c.args.b.now (c.loop-i.i + 1) _ _ (omega arith)
+    (onward c.args.order.now c.args.a.now c.args.b.now c.loop-i.i (c.loop-i.i + 1) _ _ (omega arith) refl c.loop-i.invariant.1 c.at_place-x.ensures c.at_place-y.ensures c.if-x-y.false)
+    (onward c.args.order.now c.args.b.now c.args.a.now c.loop-i.i (c.loop-i.i + 1) _ _ (omega arith) refl c.loop-i.invariant.2 c.at_place-y.ensures c.at_place-x.ensures (sym c.if-x-y.false))
+    c.at_place-z.ensures c.at_place-w.ensures
     (λ z. absurd (c.if-z-w.true z))
 
 pub loop-i-preserved : goal.loop-i-preserved
-loop-i-preserved c =
-    (
-      omega arith,
-      onward c.args.order.now c.args.a.now c.args.b.now (c.loop-i.i + 1) (c.loop-i.i + 2) _ _ (omega arith) (omega arith) (onward c.args.order.now c.args.a.now c.args.b.now c.loop-i.i (c.loop-i.i + 1) _ _ (omega arith) refl c.loop-i.invariant.1 c.at_place-x.ensures c.at_place-y.ensures c.if-x-y.false) c.at_place-z.ensures c.at_place-w.ensures c.if-z-w.false,
-      onward c.args.order.now c.args.b.now c.args.a.now (c.loop-i.i + 1) (c.loop-i.i + 2) _ _ (omega arith) (omega arith) (onward c.args.order.now c.args.b.now c.args.a.now c.loop-i.i (c.loop-i.i + 1) _ _ (omega arith) refl c.loop-i.invariant.2 c.at_place-y.ensures c.at_place-x.ensures (sym c.if-x-y.false)) c.at_place-w.ensures c.at_place-z.ensures (sym c.if-z-w.false),
-    )
+loop-i-preserved c = (
+  omega arith,
+  onward c.args.order.now c.args.a.now c.args.b.now (c.loop-i.i + 1) (c.loop-i.i + 2) _ _ (omega arith) (omega arith)
+      (onward c.args.order.now c.args.a.now c.args.b.now c.loop-i.i (c.loop-i.i + 1) _ _ (omega arith) refl c.loop-i.invariant.1 c.at_place-x.ensures c.at_place-y.ensures c.if-x-y.false)
+      c.at_place-z.ensures c.at_place-w.ensures c.if-z-w.false,
+  onward c.args.order.now c.args.b.now c.args.a.now (c.loop-i.i + 1) (c.loop-i.i + 2) _ _ (omega arith) (omega arith)
+      (onward c.args.order.now c.args.b.now c.args.a.now c.loop-i.i (c.loop-i.i + 1) _ _ (omega arith) refl c.loop-i.invariant.2 c.at_place-y.ensures c.at_place-x.ensures (sym c.if-x-y.false))
+      c.at_place-w.ensures c.at_place-z.ensures (sym c.if-z-w.false),
+)
 
 pub at_place-requires : goal.at_place-requires
 at_place-requires c = (

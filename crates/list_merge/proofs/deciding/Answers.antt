@@ -5,7 +5,8 @@ use Rattle.list_merge.proofs.deciding.Goals as goal
 
 pub returns-then-eight : goal.returns-then-eight
 returns-then-eight c =
-    last_four c.args.a.now c.args.b.now c.eight.ensures.bytes c.eight-2.ensures.bytes c.args.n c.requires.some c.requires.most (sym c.eight.ensures.is ∙ c.if-eight.true ∙ c.eight-2.ensures.is) _ (omega arith)
+    last_four c.args.a.now c.args.b.now c.eight.ensures.bytes c.eight-2.ensures.bytes c.args.n c.requires.some c.requires.most (sym c.eight.ensures.is ∙ c.if-eight.true ∙ c.eight-2.ensures.is) _
+    (omega arith)
 
 pub returns-then-word : goal.returns-then-word
 returns-then-word c =

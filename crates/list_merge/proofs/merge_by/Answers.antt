@@ -7,7 +7,8 @@ use Rattle.list_merge.proofs.{Asking.no_25, Asking.no_26, Asking.no_27, Asking.w
 use Rattle.list_merge.proofs.merge_by.Goals as goal
 
 pub returns-then-not-ascend : goal.returns-then-not-ascend
-returns-then-not-ascend c = let r = no_25 c.args.n c.args.order.now c.args.first.now c.args.second.now c.args.room.now (sym c.ascend.ensures ∙ c.if-not-ascend.true) in record { result_value = c.refused.ensures ∙ r.0; room_after = r.1 }
+returns-then-not-ascend c = let r = no_25 c.args.n c.args.order.now c.args.first.now c.args.second.now c.args.room.now (sym c.ascend.ensures ∙ c.if-not-ascend.true) in
+    record { result_value = c.refused.ensures ∙ r.0; room_after = r.1 }
 
 pub returns-then-not-ascend-2 : goal.returns-then-not-ascend-2
 returns-then-not-ascend-2 c =
@@ -27,8 +28,7 @@ walk-requires c =
     let first_ascends : ascends c.args.order.now (rows_in c.args.n c.args.first.now) ≡ true = sym c.ascend.ensures ∙ c.if-not-ascend.false in
     let second_ascends : ascends c.args.order.now (rows_in c.args.n c.args.second.now) ≡ true = sym c.ascend-2.ensures ∙ c.if-not-ascend-2.false in
     let sorted : Sorts c.args.n c.args.order.now c.args.first.now c.args.second.now = record { rests = c.requires.0; first = T_of _ first_ascends; second = T_of _ second_ascends } in
-    let fitting : leb (length (merged_by c.args.n c.args.order.now c.args.first.now c.args.second.now)) (length c.args.room.now) ≡ true = sym c.fits.ensures.0 ∙ c.if-not-fits.false in
-    (
+    let fitting : leb (length (merged_by c.args.n c.args.order.now c.args.first.now c.args.second.now)) (length c.args.room.now) ≡ true = sym c.fits.ensures.0 ∙ c.if-not-fits.false in (
       sorted,
       c.by_place-plain.ensures,
       λ z. subst
@@ -42,7 +42,7 @@ returns c =
     let second_ascends : ascends c.args.order.now (rows_in c.args.n c.args.second.now) ≡ true = sym c.ascend-2.ensures ∙ c.if-not-ascend-2.false in
     let fitting : leb (length (merged_by c.args.n c.args.order.now c.args.first.now c.args.second.now)) (length c.args.room.now) ≡ true = sym c.fits.ensures.0 ∙ c.if-not-fits.false in
     let r = wrote_all c.args.n c.args.order.now c.args.first.now c.args.second.now c.args.room.now first_ascends
-        second_ascends fitting _ _ _ c.fits.ensures.1 c.walk.ensures in
+    second_ascends fitting _ _ _ c.fits.ensures.1 c.walk.ensures in
     record { result_value = r.0; room_after = r.1 }
 
 pub fits-requires : goal.fits-requires

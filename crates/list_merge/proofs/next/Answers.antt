@@ -16,8 +16,12 @@ slice_bounds-result-end-in-Same c =
     sym (length-take-le c.args.n _ (omega (arith, f.0, f.1)))
 
 pub returns-then-first-eq0 : goal.returns-then-first-eq0
-returns-then-first-eq0 c = record { result_value = sym (take_all c.args.n c.args.first.now (omega (arith, c.if-first-eq0.true))) ∙ ap (take c.args.n) (chosen_rest _ c.in-After.is _ _) ∙ next_is c.args.n c.args.order.now c.args.first.now c.args.second.now c.requires.0
-      c.args.way c.requires.1; ref_ptr_value = chosen_rest _ c.in-After.is _ _ ∙ which_is c.args.n c.args.order.now c.args.first.now c.args.second.now c.requires.0 c.args.way c.requires.1 _ _ }
+returns-then-first-eq0 c = record {
+  result_value = sym (take_all c.args.n c.args.first.now (omega (arith, c.if-first-eq0.true))) ∙ ap (take c.args.n) (chosen_rest _ c.in-After.is _ _)
+      ∙ next_is c.args.n c.args.order.now c.args.first.now c.args.second.now c.requires.0
+      c.args.way c.requires.1;
+  ref_ptr_value = chosen_rest _ c.in-After.is _ _ ∙ which_is c.args.n c.args.order.now c.args.first.now c.args.second.now c.requires.0 c.args.way c.requires.1 _ _;
+}
 
 pub slice_bounds-result-end-in-After : goal.slice_bounds-result-end-in-After
 slice_bounds-result-end-in-After c = sym
@@ -25,13 +29,27 @@ slice_bounds-result-end-in-After c = sym
     (fronts c.args.n c.args.order.now c.args.first.now c.args.second.now c.requires.0 c.args.way c.requires.1) c.if-first-eq0.false))
 
 pub returns-in-Before : goal.returns-in-Before
-returns-in-Before c = record { result_value = ap (take c.args.n) (chosen_second _ c.in-Before.is _ _) ∙ next_is c.args.n c.args.order.now c.args.first.now c.args.second.now c.requires.0 c.args.way c.requires.1; ref_ptr_value = chosen_second _ c.in-Before.is _ _ ∙ which_is c.args.n
-      c.args.order.now c.args.first.now c.args.second.now c.requires.0 c.args.way c.requires.1 _ _ }
+returns-in-Before c =
+    record {
+      result_value = ap (take c.args.n) (chosen_second _ c.in-Before.is _ _)
+          ∙ next_is c.args.n c.args.order.now c.args.first.now c.args.second.now c.requires.0 c.args.way c.requires.1;
+      ref_ptr_value = chosen_second _ c.in-Before.is _ _ ∙ which_is c.args.n
+          c.args.order.now c.args.first.now c.args.second.now c.requires.0 c.args.way c.requires.1 _ _;
+    }
 
 pub returns-in-Same : goal.returns-in-Same
-returns-in-Same c = record { result_value = ap (take c.args.n) (chosen_first _ c.in-Same.is _ _) ∙ next_is c.args.n c.args.order.now c.args.first.now c.args.second.now c.requires.0 c.args.way c.requires.1; ref_ptr_value = chosen_first _ c.in-Same.is _ _ ∙ which_is c.args.n
-      c.args.order.now c.args.first.now c.args.second.now c.requires.0 c.args.way c.requires.1 _ _ }
+returns-in-Same c = record {
+  result_value = ap (take c.args.n) (chosen_first _ c.in-Same.is _ _)
+      ∙ next_is c.args.n c.args.order.now c.args.first.now c.args.second.now c.requires.0 c.args.way c.requires.1;
+  ref_ptr_value = chosen_first _ c.in-Same.is _ _ ∙ which_is c.args.n
+      c.args.order.now c.args.first.now c.args.second.now c.requires.0 c.args.way c.requires.1 _ _;
+}
 
 pub returns-else-first-eq0 : goal.returns-else-first-eq0
-returns-else-first-eq0 c = record { result_value = ap (take c.args.n) (chosen_rest _ c.in-After.is _ _) ∙ next_is c.args.n c.args.order.now c.args.first.now c.args.second.now c.requires.0 c.args.way c.requires.1; ref_ptr_value = chosen_rest _ c.in-After.is _ _ ∙ which_is c.args.n
-      c.args.order.now c.args.first.now c.args.second.now c.requires.0 c.args.way c.requires.1 _ _ }
+returns-else-first-eq0 c =
+    record {
+      result_value = ap (take c.args.n) (chosen_rest _ c.in-After.is _ _)
+          ∙ next_is c.args.n c.args.order.now c.args.first.now c.args.second.now c.requires.0 c.args.way c.requires.1;
+      ref_ptr_value = chosen_rest _ c.in-After.is _ _ ∙ which_is c.args.n
+          c.args.order.now c.args.first.now c.args.second.now c.requires.0 c.args.way c.requires.1 _ _;
+    }

@@ -24,7 +24,8 @@ returns-then-plain c =
     let p = c.requires.1.words c.if-plain.true in
     let ea = front_length c.args.n c.args.first.now c.requires.0.first c.if-first-eq0.false in
     let eb = front_length c.args.n c.args.second.now c.requires.0.second c.if-second-eq0.false in
-    c.by_words.ensures ∙ ap₂ way_of (plain_way c.args.n _ p (take c.args.n c.args.second.now) (take c.args.n c.args.first.now) eb ea) (plain_way c.args.n _ p (take c.args.n c.args.first.now) (take c.args.n c.args.second.now) ea eb) ∙ stand_rows c.args.n _ c.args.first.now c.args.second.now
+    c.by_words.ensures ∙ ap₂ way_of (plain_way c.args.n _ p (take c.args.n c.args.second.now) (take c.args.n c.args.first.now) eb ea)
+    (plain_way c.args.n _ p (take c.args.n c.args.first.now) (take c.args.n c.args.second.now) ea eb) ∙ stand_rows c.args.n _ c.args.first.now c.args.second.now
     c.if-second-eq0.false c.if-first-eq0.false
 
 pub by_places-requires : goal.by_places-requires

@@ -18,8 +18,7 @@ returns-then-row-eq0 c =
 
 pub put_row-requires : goal.put_row-requires
 put_row-requires c =
-    let row_is : c.next-row.result.now ≡ next_row c.args.n c.args.order.now c.loop-a.a.now c.loop-a.b.now = c.next-row.ensures.result_value in
-    (
+    let row_is : c.next-row.result.now ≡ next_row c.args.n c.args.order.now c.loop-a.a.now c.loop-a.b.now = c.next-row.ensures.result_value in (
       has_room c.args.n c.args.order.now c.args.writes c.args.out.now _ c.loop-a.a.now c.loop-a.b.now c.loop-a.out c.loop-a.at c.loop-a.invariant c.next-row.result.now
           row_is c.if-row-eq0.false (c.requires.2 c.if-writes.true),
       omega (
@@ -50,7 +49,7 @@ overflow_add-at c =
     c.stand-way.ensures c.next-row.result.now row_is
     c.if-row-eq0.false in
     let put : Put c.args.n c.args.writes c.next-row.result.now c.loop-a.out c.loop-a.at c.if-writes.out = elim c.if-writes.branch [
-      then-writes w ↦ inl (
+      | then-writes w ↦ inl (
         w.if-writes.true,
         (w.put_row.result, subst (λ (o : List ℕ). Written c.loop-a.out c.loop-a.at c.next-row.result.now o w.put_row.result) (sym w.out-is) w.put_row.ensures),
       )
@@ -60,7 +59,9 @@ overflow_add-at c =
       arith,
       (on c.args.n c.args.order.now c.args.writes c.args.out.now _ c.loop-a.a.now c.loop-a.b.now c.loop-a.out c.loop-a.at c.loop-a.invariant
           c.next-row.result.now row_is c.if-row-eq0.false c.past_first-i.result c.past_second-j.result of_first of_second
-          (take (length c.loop-a.a.now - c.past_first-i.result) (drop c.past_first-i.result c.loop-a.a.now)) (take (length c.loop-a.b.now - c.past_second-j.result) (drop c.past_second-j.result c.loop-a.b.now)) (part_is c.loop-a.a.now c.past_first-i.result) (part_is c.loop-a.b.now c.past_second-j.result) c.requires.2 c.if-writes.out put).0,
+          (take (length c.loop-a.a.now - c.past_first-i.result) (drop c.past_first-i.result c.loop-a.a.now))
+          (take (length c.loop-a.b.now - c.past_second-j.result) (drop c.past_second-j.result c.loop-a.b.now)) (part_is c.loop-a.a.now c.past_first-i.result)
+          (part_is c.loop-a.b.now c.past_second-j.result) c.requires.2 c.if-writes.out put).0,
     )
 
 pub loop-a-smaller : goal.loop-a-smaller
@@ -74,7 +75,9 @@ loop-a-smaller c =
     c.stand-way.ensures c.next-row.result.now row_is
     c.if-row-eq0.false in
     fewer c.args.n c.args.order.now c.loop-a.a.now c.loop-a.b.now c.loop-a.invariant.rests c.next-row.result.now row_is
-    c.if-row-eq0.false c.past_first-i.result c.past_second-j.result of_first of_second (take (length c.loop-a.a.now - c.past_first-i.result) (drop c.past_first-i.result c.loop-a.a.now)) (take (length c.loop-a.b.now - c.past_second-j.result) (drop c.past_second-j.result c.loop-a.b.now)) (part_is c.loop-a.a.now c.past_first-i.result) (part_is c.loop-a.b.now c.past_second-j.result)
+    c.if-row-eq0.false c.past_first-i.result c.past_second-j.result of_first of_second (take (length c.loop-a.a.now - c.past_first-i.result) (drop c.past_first-i.result c.loop-a.a.now))
+    (take (length c.loop-a.b.now - c.past_second-j.result) (drop c.past_second-j.result c.loop-a.b.now)) (part_is c.loop-a.a.now c.past_first-i.result)
+    (part_is c.loop-a.b.now c.past_second-j.result)
 
 pub loop-a-preserved : goal.loop-a-preserved
 loop-a-preserved c =
@@ -87,7 +90,7 @@ loop-a-preserved c =
     c.stand-way.ensures c.next-row.result.now row_is
     c.if-row-eq0.false in
     let put : Put c.args.n c.args.writes c.next-row.result.now c.loop-a.out c.loop-a.at c.if-writes.out = elim c.if-writes.branch [
-      then-writes w ↦ inl (
+      | then-writes w ↦ inl (
         w.if-writes.true,
         (w.put_row.result, subst (λ (o : List ℕ). Written c.loop-a.out c.loop-a.at c.next-row.result.now o w.put_row.result) (sym w.out-is) w.put_row.ensures),
       )
@@ -95,7 +98,8 @@ loop-a-preserved c =
     ] in
     (on c.args.n c.args.order.now c.args.writes c.args.out.now _ c.loop-a.a.now c.loop-a.b.now c.loop-a.out c.loop-a.at c.loop-a.invariant c.next-row.result.now
     row_is c.if-row-eq0.false c.past_first-i.result c.past_second-j.result of_first of_second (take (length c.loop-a.a.now - c.past_first-i.result) (drop c.past_first-i.result c.loop-a.a.now))
-    (take (length c.loop-a.b.now - c.past_second-j.result) (drop c.past_second-j.result c.loop-a.b.now)) (part_is c.loop-a.a.now c.past_first-i.result) (part_is c.loop-a.b.now c.past_second-j.result) c.requires.2 c.if-writes.out put).1
+    (take (length c.loop-a.b.now - c.past_second-j.result) (drop c.past_second-j.result c.loop-a.b.now)) (part_is c.loop-a.a.now c.past_first-i.result) (part_is c.loop-a.b.now c.past_second-j.result)
+    c.requires.2 c.if-writes.out put).1
 
 pub stand-way-requires : goal.stand-way-requires
 stand-way-requires c = (c.loop-a.invariant.rests.rests, c.requires.1)

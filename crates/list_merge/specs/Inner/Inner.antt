@@ -28,7 +28,8 @@ pub record Number (l : List ℕ) (value r : ℕ) : Type 0 where
 -- the first eight bytes, the first lowest
 unfoldable pub eight_of : List ℕ → ℕ
 eight_of l =
-    get_or l 0 0 + get_or l 1 0 * 256 + get_or l 2 0 * 65536 + get_or l 3 0 * 16777216 + get_or l 4 0 * 4294967296 + get_or l 5 0 * 1099511627776 + get_or l 6 0 * 281474976710656 + get_or l 7 0 * 72057594037927936
+    get_or l 0 0 + get_or l 1 0 * 256 + get_or l 2 0 * 65536 + get_or l 3 0 * 16777216 + get_or l 4 0 * 4294967296 + get_or l 5 0 * 1099511627776 + get_or l 6 0 * 281474976710656 + get_or l 7
+    0 * 72057594037927936
 
 -- four bytes, the first highest
 unfoldable pub word_of : List ℕ → ℕ → ℕ

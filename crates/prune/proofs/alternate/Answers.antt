@@ -23,7 +23,9 @@ returns-then-filters c = λ p gs s b n₀.
 
 pub returns-then-changed-eq0 : goal.returns-then-changed-eq0
 returns-then-changed-eq0 c =
-    let all_filtered : (p : Problem) (gs : List (List ℕ)) → ArraysHold p c.args.supports.now c.args.tables.now c.args.numbers.now → Blocked p gs c.args.numbers.now → BeforeFixpoint p gs c.loop-old.work c.args.numbers.now c.loop-old.sets c.args.k 0 0 → AllFilteredOr p c.args.k c.loop-old.work c.loop-old.sets c.filters.new.work c.filters.new.sets false = λ p gs s b n. subst (AllFilteredOr p _ _ _ _ _) c.if-filters.false (c.filters.ensures p _ s n.startable.prefix_held n.startable.live n.startable.marking) in
+    let all_filtered : (p : Problem) (gs : List (List ℕ)) → ArraysHold p c.args.supports.now c.args.tables.now c.args.numbers.now → Blocked p gs c.args.numbers.now →
+    BeforeFixpoint p gs c.loop-old.work c.args.numbers.now c.loop-old.sets c.args.k 0 0 → AllFilteredOr p c.args.k c.loop-old.work c.loop-old.sets c.filters.new.work c.filters.new.sets false =
+    λ p gs s b n. subst (AllFilteredOr p _ _ _ _ _) c.if-filters.false (c.filters.ensures p _ s n.startable.prefix_held n.startable.live n.startable.marking) in
     λ p gs s b n₀.
     let i = c.loop-old.invariant p gs s b n₀ in
     let f = all_filtered p gs s b i.0 in
@@ -33,16 +35,29 @@ returns-then-changed-eq0 c =
 pub constrain-requires : goal.constrain-requires
 unfolding at
 constrain-requires c =
-    let all_filtered : (p : Problem) (gs : List (List ℕ)) → ArraysHold p c.args.supports.now c.args.tables.now c.args.numbers.now → Blocked p gs c.args.numbers.now → BeforeFixpoint p gs c.loop-old.work c.args.numbers.now c.loop-old.sets c.args.k 0 0 → AllFilteredOr p c.args.k c.loop-old.work c.loop-old.sets c.filters.new.work c.filters.new.sets false = λ p gs s b n. subst (AllFilteredOr p _ _ _ _ _) c.if-filters.false (c.filters.ensures p _ s n.startable.prefix_held n.startable.live n.startable.marking) in
-    let turned : (p : Problem) (gs : List (List ℕ)) → ArraysHold p c.args.supports.now c.args.tables.now c.args.numbers.now → Blocked p gs c.args.numbers.now → BeforeFixpoint p gs c.loop-old.work c.args.numbers.now c.loop-old.sets c.args.k 0 0 → BeforeFixpoint p gs c.filters.new.work c.args.numbers.now c.filters.new.sets c.args.k c.touched-left.result (bit_and c.difference-changed.result (at c.args.numbers.now LINKED)) = λ p gs s b n. let f = all_filtered p gs s b n in fixpoint_turn s b n (f.all_filtered refl) (f.marking refl) f.kept
-    c.difference-changed.ensures c.touched-left.ensures refl in
-    (c.requires.0, c.requires.2, (turned c.requires.0 c.requires.1 c.requires.2 c.requires.3 (c.loop-old.invariant c.requires.0 c.requires.1 c.requires.2 c.requires.3 c.requires.4).0).startable.pending)
+    let all_filtered : (p : Problem) (gs : List (List ℕ)) → ArraysHold p c.args.supports.now c.args.tables.now c.args.numbers.now → Blocked p gs c.args.numbers.now →
+    BeforeFixpoint p gs c.loop-old.work c.args.numbers.now c.loop-old.sets c.args.k 0 0 → AllFilteredOr p c.args.k c.loop-old.work c.loop-old.sets c.filters.new.work c.filters.new.sets false =
+    λ p gs s b n. subst (AllFilteredOr p _ _ _ _ _) c.if-filters.false (c.filters.ensures p _ s n.startable.prefix_held n.startable.live n.startable.marking) in
+    let turned : (p : Problem) (gs : List (List ℕ)) → ArraysHold p c.args.supports.now c.args.tables.now c.args.numbers.now → Blocked p gs c.args.numbers.now →
+    BeforeFixpoint p gs c.loop-old.work c.args.numbers.now c.loop-old.sets c.args.k 0 0 →
+    BeforeFixpoint p gs c.filters.new.work c.args.numbers.now c.filters.new.sets c.args.k c.touched-left.result (bit_and c.difference-changed.result (at c.args.numbers.now LINKED)) =
+    λ p gs s b n. let f = all_filtered p gs s b n in fixpoint_turn s b n (f.all_filtered refl) (f.marking refl) f.kept
+    c.difference-changed.ensures c.touched-left.ensures refl in (
+      c.requires.0,
+      c.requires.2,
+      (turned c.requires.0 c.requires.1 c.requires.2 c.requires.3 (c.loop-old.invariant c.requires.0 c.requires.1 c.requires.2 c.requires.3 c.requires.4).0).startable.pending,
+    )
 
 pub returns-then-constrain : goal.returns-then-constrain
 unfolding at
 returns-then-constrain c =
-    let all_filtered : (p : Problem) (gs : List (List ℕ)) → ArraysHold p c.args.supports.now c.args.tables.now c.args.numbers.now → Blocked p gs c.args.numbers.now → BeforeFixpoint p gs c.loop-old.work c.args.numbers.now c.loop-old.sets c.args.k 0 0 → AllFilteredOr p c.args.k c.loop-old.work c.loop-old.sets c.filters.new.work c.filters.new.sets false = λ p gs s b n. subst (AllFilteredOr p _ _ _ _ _) c.if-filters.false (c.filters.ensures p _ s n.startable.prefix_held n.startable.live n.startable.marking) in
-    let turned : (p : Problem) (gs : List (List ℕ)) → ArraysHold p c.args.supports.now c.args.tables.now c.args.numbers.now → Blocked p gs c.args.numbers.now → BeforeFixpoint p gs c.loop-old.work c.args.numbers.now c.loop-old.sets c.args.k 0 0 → BeforeFixpoint p gs c.filters.new.work c.args.numbers.now c.filters.new.sets c.args.k c.touched-left.result (bit_and c.difference-changed.result (at c.args.numbers.now LINKED)) = λ p gs s b n. let f = all_filtered p gs s b n in fixpoint_turn s b n (f.all_filtered refl) (f.marking refl) f.kept
+    let all_filtered : (p : Problem) (gs : List (List ℕ)) → ArraysHold p c.args.supports.now c.args.tables.now c.args.numbers.now → Blocked p gs c.args.numbers.now →
+    BeforeFixpoint p gs c.loop-old.work c.args.numbers.now c.loop-old.sets c.args.k 0 0 → AllFilteredOr p c.args.k c.loop-old.work c.loop-old.sets c.filters.new.work c.filters.new.sets false =
+    λ p gs s b n. subst (AllFilteredOr p _ _ _ _ _) c.if-filters.false (c.filters.ensures p _ s n.startable.prefix_held n.startable.live n.startable.marking) in
+    let turned : (p : Problem) (gs : List (List ℕ)) → ArraysHold p c.args.supports.now c.args.tables.now c.args.numbers.now → Blocked p gs c.args.numbers.now →
+    BeforeFixpoint p gs c.loop-old.work c.args.numbers.now c.loop-old.sets c.args.k 0 0 →
+    BeforeFixpoint p gs c.filters.new.work c.args.numbers.now c.filters.new.sets c.args.k c.touched-left.result (bit_and c.difference-changed.result (at c.args.numbers.now LINKED)) =
+    λ p gs s b n. let f = all_filtered p gs s b n in fixpoint_turn s b n (f.all_filtered refl) (f.marking refl) f.kept
     c.difference-changed.ensures c.touched-left.ensures refl in
     λ p gs s b n₀.
     let i = c.loop-old.invariant p gs s b n₀ in
@@ -54,8 +69,13 @@ returns-then-constrain c =
 pub loop-old-smaller : goal.loop-old-smaller
 unfolding at
 loop-old-smaller c =
-    let all_filtered : (p : Problem) (gs : List (List ℕ)) → ArraysHold p c.args.supports.now c.args.tables.now c.args.numbers.now → Blocked p gs c.args.numbers.now → BeforeFixpoint p gs c.loop-old.work c.args.numbers.now c.loop-old.sets c.args.k 0 0 → AllFilteredOr p c.args.k c.loop-old.work c.loop-old.sets c.filters.new.work c.filters.new.sets false = λ p gs s b n. subst (AllFilteredOr p _ _ _ _ _) c.if-filters.false (c.filters.ensures p _ s n.startable.prefix_held n.startable.live n.startable.marking) in
-    let turned : (p : Problem) (gs : List (List ℕ)) → ArraysHold p c.args.supports.now c.args.tables.now c.args.numbers.now → Blocked p gs c.args.numbers.now → BeforeFixpoint p gs c.loop-old.work c.args.numbers.now c.loop-old.sets c.args.k 0 0 → BeforeFixpoint p gs c.filters.new.work c.args.numbers.now c.filters.new.sets c.args.k c.touched-left.result (bit_and c.difference-changed.result (at c.args.numbers.now LINKED)) = λ p gs s b n. let f = all_filtered p gs s b n in fixpoint_turn s b n (f.all_filtered refl) (f.marking refl) f.kept
+    let all_filtered : (p : Problem) (gs : List (List ℕ)) → ArraysHold p c.args.supports.now c.args.tables.now c.args.numbers.now → Blocked p gs c.args.numbers.now →
+    BeforeFixpoint p gs c.loop-old.work c.args.numbers.now c.loop-old.sets c.args.k 0 0 → AllFilteredOr p c.args.k c.loop-old.work c.loop-old.sets c.filters.new.work c.filters.new.sets false =
+    λ p gs s b n. subst (AllFilteredOr p _ _ _ _ _) c.if-filters.false (c.filters.ensures p _ s n.startable.prefix_held n.startable.live n.startable.marking) in
+    let turned : (p : Problem) (gs : List (List ℕ)) → ArraysHold p c.args.supports.now c.args.tables.now c.args.numbers.now → Blocked p gs c.args.numbers.now →
+    BeforeFixpoint p gs c.loop-old.work c.args.numbers.now c.loop-old.sets c.args.k 0 0 →
+    BeforeFixpoint p gs c.filters.new.work c.args.numbers.now c.filters.new.sets c.args.k c.touched-left.result (bit_and c.difference-changed.result (at c.args.numbers.now LINKED)) =
+    λ p gs s b n. let f = all_filtered p gs s b n in fixpoint_turn s b n (f.all_filtered refl) (f.marking refl) f.kept
     c.difference-changed.ensures c.touched-left.ensures refl in
     let n = (c.loop-old.invariant c.requires.0 c.requires.1 c.requires.2 c.requires.3 c.requires.4).0 in
     let f = all_filtered c.requires.0 c.requires.1 c.requires.2 c.requires.3 n in
@@ -67,8 +87,13 @@ loop-old-smaller c =
 pub loop-old-preserved : goal.loop-old-preserved
 unfolding at
 loop-old-preserved c =
-    let all_filtered : (p : Problem) (gs : List (List ℕ)) → ArraysHold p c.args.supports.now c.args.tables.now c.args.numbers.now → Blocked p gs c.args.numbers.now → BeforeFixpoint p gs c.loop-old.work c.args.numbers.now c.loop-old.sets c.args.k 0 0 → AllFilteredOr p c.args.k c.loop-old.work c.loop-old.sets c.filters.new.work c.filters.new.sets false = λ p gs s b n. subst (AllFilteredOr p _ _ _ _ _) c.if-filters.false (c.filters.ensures p _ s n.startable.prefix_held n.startable.live n.startable.marking) in
-    let turned : (p : Problem) (gs : List (List ℕ)) → ArraysHold p c.args.supports.now c.args.tables.now c.args.numbers.now → Blocked p gs c.args.numbers.now → BeforeFixpoint p gs c.loop-old.work c.args.numbers.now c.loop-old.sets c.args.k 0 0 → BeforeFixpoint p gs c.filters.new.work c.args.numbers.now c.filters.new.sets c.args.k c.touched-left.result (bit_and c.difference-changed.result (at c.args.numbers.now LINKED)) = λ p gs s b n. let f = all_filtered p gs s b n in fixpoint_turn s b n (f.all_filtered refl) (f.marking refl) f.kept
+    let all_filtered : (p : Problem) (gs : List (List ℕ)) → ArraysHold p c.args.supports.now c.args.tables.now c.args.numbers.now → Blocked p gs c.args.numbers.now →
+    BeforeFixpoint p gs c.loop-old.work c.args.numbers.now c.loop-old.sets c.args.k 0 0 → AllFilteredOr p c.args.k c.loop-old.work c.loop-old.sets c.filters.new.work c.filters.new.sets false =
+    λ p gs s b n. subst (AllFilteredOr p _ _ _ _ _) c.if-filters.false (c.filters.ensures p _ s n.startable.prefix_held n.startable.live n.startable.marking) in
+    let turned : (p : Problem) (gs : List (List ℕ)) → ArraysHold p c.args.supports.now c.args.tables.now c.args.numbers.now → Blocked p gs c.args.numbers.now →
+    BeforeFixpoint p gs c.loop-old.work c.args.numbers.now c.loop-old.sets c.args.k 0 0 →
+    BeforeFixpoint p gs c.filters.new.work c.args.numbers.now c.filters.new.sets c.args.k c.touched-left.result (bit_and c.difference-changed.result (at c.args.numbers.now LINKED)) =
+    λ p gs s b n. let f = all_filtered p gs s b n in fixpoint_turn s b n (f.all_filtered refl) (f.marking refl) f.kept
     c.difference-changed.ensures c.touched-left.ensures refl in
     λ p gs s b n₀.
     let i = c.loop-old.invariant p gs s b n₀ in

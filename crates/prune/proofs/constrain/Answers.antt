@@ -36,7 +36,9 @@ returns-then-moved-eq0 c = λ p s w.
     let l = c.arcs-cut.ensures p (arcs_pending s i.1) in
     let n = arcs_turn s i.1 l c.if-cut-eq-DEAD.false c.touched-left.ensures refl in
     let k = c.constrain-pruned.ensures p (constraints_pending s n) in
-    all_constrained_live p _ _ (nothing_due s (pruned_turn s n k c.if-pruned-eq-DEAD.false refl _ (arcs_pruned s i.1 l c.if-cut-eq-DEAD.false _ i.0)) (pending_turn s n k c.if-pruned-eq-DEAD.false refl) refl c.if-moved-eq0.true)
+    all_constrained_live p _ _
+    (nothing_due s (pruned_turn s n k c.if-pruned-eq-DEAD.false refl _ (arcs_pruned s i.1 l c.if-cut-eq-DEAD.false _ i.0)) (pending_turn s n k c.if-pruned-eq-DEAD.false refl) refl
+    c.if-moved-eq0.true)
 
 pub loop-todo-smaller : goal.loop-todo-smaller
 unfolding Rattle.model.specs.Lists.at

@@ -7,8 +7,12 @@ use Rattle.prune.proofs.descend.Goals as goal
 
 pub cut_later-requires : goal.cut_later-requires
 unfolding at
-cut_later-requires c =
-    (descent_sixteen c.requires.2 c.load.new.sets c.load.ensures c.only-one.ensures, omega (arith, c.requires.2.room, c.requires.2.ready.well_formed.few), omega arith, λ y t. omega (arith, c.requires.2.ready.block_few y t, c.requires.2.ready.well_formed.few))
+cut_later-requires c = (
+  descent_sixteen c.requires.2 c.load.new.sets c.load.ensures c.only-one.ensures,
+  omega (arith, c.requires.2.room, c.requires.2.ready.well_formed.few),
+  omega arith,
+  λ y t. omega (arith, c.requires.2.ready.block_few y t, c.requires.2.ready.well_formed.few),
+)
 
 pub returns-then-cut_later-eq-DEAD : goal.returns-then-cut_later-eq-DEAD
 unfolding at

@@ -28,20 +28,20 @@ returns-then-mark-eq-FAILED c =
 pub loop-e-preserved : goal.loop-e-preserved
 unfolding at
 loop-e-preserved c =
-    let turn : c.loop-e.e < at c.args.numbers.now SYMMETRIES = subst (λ (n : ℕ). c.loop-e.e < n) c.loop-e.invariant.0 c.loop-e-test.true in
-    (
-  c.loop-e.invariant.0,
-  λ p su s g l m.
-      let r = c.loop-e.invariant.1 p su s g l m in
-      let Next : List ℕ → List ℕ → Type 0 = λ work sets. FilteredSoFar p c.args.k c.args.work.now c.args.sets.now work sets (c.loop-e.e + 1) in
-      (elim c.if-due.branch [
-        then-due+else-mark-eq-FAILED w ↦ subst (λ (z : List ℕ). Next z c.if-due.sets) (sym w.work-is) (subst (λ (z : List ℕ). Next (set c.loop-e.work (16 * c.args.k + MARKS + c.loop-e.e) w.filter-mark.result) z)
-        (sym w.sets-is) (filtered_turn s g c.args.sets.now turn r (sym c.due.ensures ∙ w.if-due.true)
-        (w.filter-mark.ensures p (levelled s g c.args.sets.now turn r (sym c.due.ensures ∙ w.if-due.true))) w.if-mark-eq-FAILED.false))
-        | else-due w ↦ subst (λ (z : List ℕ). Next z c.if-due.sets) (sym w.work-is) (subst (λ (z : List ℕ). Next c.loop-e.work z) (sym w.sets-is)
-        (filtered_skip s g c.args.sets.now turn r (sym c.due.ensures ∙ w.if-due.false)))
-      ]),
-)
+    let turn : c.loop-e.e < at c.args.numbers.now SYMMETRIES = subst (λ (n : ℕ). c.loop-e.e < n) c.loop-e.invariant.0 c.loop-e-test.true in (
+      c.loop-e.invariant.0,
+      λ p su s g l m.
+          let r = c.loop-e.invariant.1 p su s g l m in
+          let Next : List ℕ → List ℕ → Type 0 = λ work sets. FilteredSoFar p c.args.k c.args.work.now c.args.sets.now work sets (c.loop-e.e + 1) in
+          (elim c.if-due.branch [
+            | then-due+else-mark-eq-FAILED w ↦
+                subst (λ (z : List ℕ). Next z c.if-due.sets) (sym w.work-is) (subst (λ (z : List ℕ). Next (set c.loop-e.work (16 * c.args.k + MARKS + c.loop-e.e) w.filter-mark.result) z)
+                (sym w.sets-is) (filtered_turn s g c.args.sets.now turn r (sym c.due.ensures ∙ w.if-due.true)
+                (w.filter-mark.ensures p (levelled s g c.args.sets.now turn r (sym c.due.ensures ∙ w.if-due.true))) w.if-mark-eq-FAILED.false))
+            | else-due w ↦ subst (λ (z : List ℕ). Next z c.if-due.sets) (sym w.work-is) (subst (λ (z : List ℕ). Next c.loop-e.work z) (sym w.sets-is)
+                (filtered_skip s g c.args.sets.now turn r (sym c.due.ensures ∙ w.if-due.false)))
+          ]),
+    )
 
 pub returns : goal.returns
 returns c = λ p su s g l m. filtered_end s g _ _ _ _ (subst (λ (n : ℕ). n ≤ c.loop-e.e) c.loop-e.invariant.0 c.loop-e-test.false) (c.loop-e.invariant.1 p su s g l m)

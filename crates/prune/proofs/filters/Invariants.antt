@@ -7,7 +7,8 @@ use Rattle.prune.proofs.filters.Given as goal
 
 abbrev pub invariant-loop-e : goal.invariant-loop-e
 invariant-loop-e l =
-    (l.g ≡ at l.numbers SYMMETRIES) × ((p : Problem) (supports : List ℕ) → ArraysHold p supports l.tables l.numbers → PrefixHeld p l.initial.work l.k → LiveSets p l.initial.sets → MarksRight p (sets_of p l.initial.sets)
+    (l.g ≡ at l.numbers SYMMETRIES) × ((p : Problem) (supports : List ℕ) → ArraysHold p supports l.tables l.numbers → PrefixHeld p l.initial.work l.k → LiveSets p l.initial.sets →
+    MarksRight p (sets_of p l.initial.sets)
     (take l.k l.initial.work) l.initial.work l.k → FilteredSoFar p l.k l.initial.work l.initial.sets l.work l.sets l.e)
 
 abbrev pub decreases-loop-e : goal.decreases-loop-e

@@ -14,32 +14,57 @@ pub look_ups-looked-requires : goal.look_ups-looked-requires
 unfolding at
 look_ups-looked-requires c =
     let wide : c.args.todo < 2 ^ 64 = search rules in
-    let looks : (p : Problem) (gs : List (List ℕ)) → ArraysHold p c.args.supports.now c.args.tables.now c.args.numbers.now → Blocked p gs c.args.numbers.now → BeforeFixpoint p gs c.args.work.now c.args.numbers.now c.args.sets.now c.args.k c.args.todo c.args.dirty → LookUpsPending p c.args.numbers.now c.args.supports.now c.args.sets.now c.args.work.now c.args.todo (bit_and c.args.todo (at c.args.numbers.now (LOOKS + c.args.k))) c.args.v = λ p gs s b n. looks_pending s b n wide c.requires.5 in
+    let looks : (p : Problem) (gs : List (List ℕ)) → ArraysHold p c.args.supports.now c.args.tables.now c.args.numbers.now → Blocked p gs c.args.numbers.now →
+    BeforeFixpoint p gs c.args.work.now c.args.numbers.now c.args.sets.now c.args.k c.args.todo c.args.dirty →
+    LookUpsPending p c.args.numbers.now c.args.supports.now c.args.sets.now c.args.work.now c.args.todo (bit_and c.args.todo (at c.args.numbers.now (LOOKS + c.args.k))) c.args.v =
+    λ p gs s b n. looks_pending s b n wide c.requires.5 in
     (c.requires.0, _, looks c.requires.0 c.requires.1 c.requires.2 c.requires.3 c.requires.4)
 
 pub returns-then-looked-eq-DEAD : goal.returns-then-looked-eq-DEAD
 unfolding at
 returns-then-looked-eq-DEAD c =
     let wide : c.args.todo < 2 ^ 64 = search rules in
-    let looks : (p : Problem) (gs : List (List ℕ)) → ArraysHold p c.args.supports.now c.args.tables.now c.args.numbers.now → Blocked p gs c.args.numbers.now → BeforeFixpoint p gs c.args.work.now c.args.numbers.now c.args.sets.now c.args.k c.args.todo c.args.dirty → LookUpsPending p c.args.numbers.now c.args.supports.now c.args.sets.now c.args.work.now c.args.todo (bit_and c.args.todo (at c.args.numbers.now (LOOKS + c.args.k))) c.args.v = λ p gs s b n. looks_pending s b n wide c.requires.5 in
+    let looks : (p : Problem) (gs : List (List ℕ)) → ArraysHold p c.args.supports.now c.args.tables.now c.args.numbers.now → Blocked p gs c.args.numbers.now →
+    BeforeFixpoint p gs c.args.work.now c.args.numbers.now c.args.sets.now c.args.k c.args.todo c.args.dirty →
+    LookUpsPending p c.args.numbers.now c.args.supports.now c.args.sets.now c.args.work.now c.args.todo (bit_and c.args.todo (at c.args.numbers.now (LOOKS + c.args.k))) c.args.v =
+    λ p gs s b n. looks_pending s b n wide c.requires.5 in
     λ p gs s b n. constrained_dead s b n _ ((c.look_ups-looked.ensures p _ (looks p gs s b n)).ended c.if-looked-eq-DEAD.true)
 
 pub arcs-cut-requires : goal.arcs-cut-requires
 unfolding at
 arcs-cut-requires c =
     let wide : c.args.todo < 2 ^ 64 = search rules in
-    let looks : (p : Problem) (gs : List (List ℕ)) → ArraysHold p c.args.supports.now c.args.tables.now c.args.numbers.now → Blocked p gs c.args.numbers.now → BeforeFixpoint p gs c.args.work.now c.args.numbers.now c.args.sets.now c.args.k c.args.todo c.args.dirty → LookUpsPending p c.args.numbers.now c.args.supports.now c.args.sets.now c.args.work.now c.args.todo (bit_and c.args.todo (at c.args.numbers.now (LOOKS + c.args.k))) c.args.v = λ p gs s b n. looks_pending s b n wide c.requires.5 in
-    let looks_made : (p : Problem) (gs : List (List ℕ)) → ArraysHold p c.args.supports.now c.args.tables.now c.args.numbers.now → Blocked p gs c.args.numbers.now → BeforeFixpoint p gs c.args.work.now c.args.numbers.now c.args.sets.now c.args.k c.args.todo c.args.dirty → BeforeFixpoint p gs c.args.work.now c.args.numbers.now c.look_ups-looked.new.sets c.args.k (bit_or (bit_and c.args.todo ((2 ^ 64 - 1) - bit_and c.args.todo (at c.args.numbers.now (LOOKS + c.args.k)))) (touched_of c.args.numbers.now c.look_ups-looked.result)) (bit_or c.args.dirty (bit_and c.look_ups-looked.result (at c.args.numbers.now LINKED))) = λ p gs s b n. looks_done s b n (c.look_ups-looked.ensures p _ (looks p gs s b n)) c.if-looked-eq-DEAD.false in
-    record { settled = looks_settled c.requires.2 c.requires.3 c.requires.4 c.requires.5
-      (c.look_ups-looked.ensures c.requires.0 _ (looks c.requires.0 c.requires.1 c.requires.2 c.requires.3 c.requires.4))
-      c.if-looked-eq-DEAD.false; arcs_pending = (c.requires.0, arcs_pending c.requires.2 (looks_made c.requires.0 c.requires.1 c.requires.2 c.requires.3 c.requires.4).startable.pending) }
+    let looks : (p : Problem) (gs : List (List ℕ)) → ArraysHold p c.args.supports.now c.args.tables.now c.args.numbers.now → Blocked p gs c.args.numbers.now →
+    BeforeFixpoint p gs c.args.work.now c.args.numbers.now c.args.sets.now c.args.k c.args.todo c.args.dirty →
+    LookUpsPending p c.args.numbers.now c.args.supports.now c.args.sets.now c.args.work.now c.args.todo (bit_and c.args.todo (at c.args.numbers.now (LOOKS + c.args.k))) c.args.v =
+    λ p gs s b n. looks_pending s b n wide c.requires.5 in
+    let looks_made : (p : Problem) (gs : List (List ℕ)) → ArraysHold p c.args.supports.now c.args.tables.now c.args.numbers.now → Blocked p gs c.args.numbers.now →
+    BeforeFixpoint p gs c.args.work.now c.args.numbers.now c.args.sets.now c.args.k c.args.todo c.args.dirty →
+    BeforeFixpoint p gs c.args.work.now c.args.numbers.now c.look_ups-looked.new.sets c.args.k
+    (bit_or (bit_and c.args.todo ((2 ^ 64 - 1) - bit_and c.args.todo (at c.args.numbers.now (LOOKS + c.args.k)))) (touched_of c.args.numbers.now c.look_ups-looked.result))
+    (bit_or c.args.dirty (bit_and c.look_ups-looked.result (at c.args.numbers.now LINKED))) =
+    λ p gs s b n. looks_done s b n (c.look_ups-looked.ensures p _ (looks p gs s b n)) c.if-looked-eq-DEAD.false in
+    record {
+      settled = looks_settled c.requires.2 c.requires.3 c.requires.4 c.requires.5
+          (c.look_ups-looked.ensures c.requires.0 _ (looks c.requires.0 c.requires.1 c.requires.2 c.requires.3 c.requires.4))
+          c.if-looked-eq-DEAD.false;
+      arcs_pending = (c.requires.0, arcs_pending c.requires.2 (looks_made c.requires.0 c.requires.1 c.requires.2 c.requires.3 c.requires.4).startable.pending);
+    }
 
 pub returns-then-cut-eq-DEAD : goal.returns-then-cut-eq-DEAD
 unfolding at
 returns-then-cut-eq-DEAD c =
     let wide : c.args.todo < 2 ^ 64 = search rules in
-    let looks : (p : Problem) (gs : List (List ℕ)) → ArraysHold p c.args.supports.now c.args.tables.now c.args.numbers.now → Blocked p gs c.args.numbers.now → BeforeFixpoint p gs c.args.work.now c.args.numbers.now c.args.sets.now c.args.k c.args.todo c.args.dirty → LookUpsPending p c.args.numbers.now c.args.supports.now c.args.sets.now c.args.work.now c.args.todo (bit_and c.args.todo (at c.args.numbers.now (LOOKS + c.args.k))) c.args.v = λ p gs s b n. looks_pending s b n wide c.requires.5 in
-    let looks_made : (p : Problem) (gs : List (List ℕ)) → ArraysHold p c.args.supports.now c.args.tables.now c.args.numbers.now → Blocked p gs c.args.numbers.now → BeforeFixpoint p gs c.args.work.now c.args.numbers.now c.args.sets.now c.args.k c.args.todo c.args.dirty → BeforeFixpoint p gs c.args.work.now c.args.numbers.now c.look_ups-looked.new.sets c.args.k (bit_or (bit_and c.args.todo ((2 ^ 64 - 1) - bit_and c.args.todo (at c.args.numbers.now (LOOKS + c.args.k)))) (touched_of c.args.numbers.now c.look_ups-looked.result)) (bit_or c.args.dirty (bit_and c.look_ups-looked.result (at c.args.numbers.now LINKED))) = λ p gs s b n. looks_done s b n (c.look_ups-looked.ensures p _ (looks p gs s b n)) c.if-looked-eq-DEAD.false in
+    let looks : (p : Problem) (gs : List (List ℕ)) → ArraysHold p c.args.supports.now c.args.tables.now c.args.numbers.now → Blocked p gs c.args.numbers.now →
+    BeforeFixpoint p gs c.args.work.now c.args.numbers.now c.args.sets.now c.args.k c.args.todo c.args.dirty →
+    LookUpsPending p c.args.numbers.now c.args.supports.now c.args.sets.now c.args.work.now c.args.todo (bit_and c.args.todo (at c.args.numbers.now (LOOKS + c.args.k))) c.args.v =
+    λ p gs s b n. looks_pending s b n wide c.requires.5 in
+    let looks_made : (p : Problem) (gs : List (List ℕ)) → ArraysHold p c.args.supports.now c.args.tables.now c.args.numbers.now → Blocked p gs c.args.numbers.now →
+    BeforeFixpoint p gs c.args.work.now c.args.numbers.now c.args.sets.now c.args.k c.args.todo c.args.dirty →
+    BeforeFixpoint p gs c.args.work.now c.args.numbers.now c.look_ups-looked.new.sets c.args.k
+    (bit_or (bit_and c.args.todo ((2 ^ 64 - 1) - bit_and c.args.todo (at c.args.numbers.now (LOOKS + c.args.k)))) (touched_of c.args.numbers.now c.look_ups-looked.result))
+    (bit_or c.args.dirty (bit_and c.look_ups-looked.result (at c.args.numbers.now LINKED))) =
+    λ p gs s b n. looks_done s b n (c.look_ups-looked.ensures p _ (looks p gs s b n)) c.if-looked-eq-DEAD.false in
     λ p gs s b n. let m = looks_made p gs s b n in constrained_dead s b m _
     ((c.arcs-cut.ensures p (arcs_pending s m.startable.pending)).ended c.if-cut-eq-DEAD.true)
 
@@ -47,9 +72,20 @@ pub constrain-requires : goal.constrain-requires
 unfolding at
 constrain-requires c =
     let wide : c.args.todo < 2 ^ 64 = search rules in
-    let looks : (p : Problem) (gs : List (List ℕ)) → ArraysHold p c.args.supports.now c.args.tables.now c.args.numbers.now → Blocked p gs c.args.numbers.now → BeforeFixpoint p gs c.args.work.now c.args.numbers.now c.args.sets.now c.args.k c.args.todo c.args.dirty → LookUpsPending p c.args.numbers.now c.args.supports.now c.args.sets.now c.args.work.now c.args.todo (bit_and c.args.todo (at c.args.numbers.now (LOOKS + c.args.k))) c.args.v = λ p gs s b n. looks_pending s b n wide c.requires.5 in
-    let looks_made : (p : Problem) (gs : List (List ℕ)) → ArraysHold p c.args.supports.now c.args.tables.now c.args.numbers.now → Blocked p gs c.args.numbers.now → BeforeFixpoint p gs c.args.work.now c.args.numbers.now c.args.sets.now c.args.k c.args.todo c.args.dirty → BeforeFixpoint p gs c.args.work.now c.args.numbers.now c.look_ups-looked.new.sets c.args.k (bit_or (bit_and c.args.todo ((2 ^ 64 - 1) - bit_and c.args.todo (at c.args.numbers.now (LOOKS + c.args.k)))) (touched_of c.args.numbers.now c.look_ups-looked.result)) (bit_or c.args.dirty (bit_and c.look_ups-looked.result (at c.args.numbers.now LINKED))) = λ p gs s b n. looks_done s b n (c.look_ups-looked.ensures p _ (looks p gs s b n)) c.if-looked-eq-DEAD.false in
-    let cuts_made : (p : Problem) (gs : List (List ℕ)) → ArraysHold p c.args.supports.now c.args.tables.now c.args.numbers.now → Blocked p gs c.args.numbers.now → BeforeFixpoint p gs c.args.work.now c.args.numbers.now c.args.sets.now c.args.k c.args.todo c.args.dirty → BeforeFixpoint p gs c.args.work.now c.args.numbers.now c.arcs-cut.new.sets c.args.k (bit_or (bit_and c.args.todo ((2 ^ 64 - 1) - bit_and c.args.todo (at c.args.numbers.now (LOOKS + c.args.k)))) c.touched.result) 0 = λ p gs s b n. let m = looks_made p gs s b n in
+    let looks : (p : Problem) (gs : List (List ℕ)) → ArraysHold p c.args.supports.now c.args.tables.now c.args.numbers.now → Blocked p gs c.args.numbers.now →
+    BeforeFixpoint p gs c.args.work.now c.args.numbers.now c.args.sets.now c.args.k c.args.todo c.args.dirty →
+    LookUpsPending p c.args.numbers.now c.args.supports.now c.args.sets.now c.args.work.now c.args.todo (bit_and c.args.todo (at c.args.numbers.now (LOOKS + c.args.k))) c.args.v =
+    λ p gs s b n. looks_pending s b n wide c.requires.5 in
+    let looks_made : (p : Problem) (gs : List (List ℕ)) → ArraysHold p c.args.supports.now c.args.tables.now c.args.numbers.now → Blocked p gs c.args.numbers.now →
+    BeforeFixpoint p gs c.args.work.now c.args.numbers.now c.args.sets.now c.args.k c.args.todo c.args.dirty →
+    BeforeFixpoint p gs c.args.work.now c.args.numbers.now c.look_ups-looked.new.sets c.args.k
+    (bit_or (bit_and c.args.todo ((2 ^ 64 - 1) - bit_and c.args.todo (at c.args.numbers.now (LOOKS + c.args.k)))) (touched_of c.args.numbers.now c.look_ups-looked.result))
+    (bit_or c.args.dirty (bit_and c.look_ups-looked.result (at c.args.numbers.now LINKED))) =
+    λ p gs s b n. looks_done s b n (c.look_ups-looked.ensures p _ (looks p gs s b n)) c.if-looked-eq-DEAD.false in
+    let cuts_made : (p : Problem) (gs : List (List ℕ)) → ArraysHold p c.args.supports.now c.args.tables.now c.args.numbers.now → Blocked p gs c.args.numbers.now →
+    BeforeFixpoint p gs c.args.work.now c.args.numbers.now c.args.sets.now c.args.k c.args.todo c.args.dirty →
+    BeforeFixpoint p gs c.args.work.now c.args.numbers.now c.arcs-cut.new.sets c.args.k
+    (bit_or (bit_and c.args.todo ((2 ^ 64 - 1) - bit_and c.args.todo (at c.args.numbers.now (LOOKS + c.args.k)))) c.touched.result) 0 = λ p gs s b n. let m = looks_made p gs s b n in
     cuts_done s b n wide (c.look_ups-looked.ensures p _ (looks p gs s b n)) c.if-looked-eq-DEAD.false
     (c.arcs-cut.ensures p (arcs_pending s m.startable.pending)) c.if-cut-eq-DEAD.false (search rules) c.touched.ensures in
     (c.requires.0, c.requires.2, (cuts_made c.requires.0 c.requires.1 c.requires.2 c.requires.3 c.requires.4).startable.pending)
@@ -58,9 +94,20 @@ pub returns-then-constrain : goal.returns-then-constrain
 unfolding at
 returns-then-constrain c =
     let wide : c.args.todo < 2 ^ 64 = search rules in
-    let looks : (p : Problem) (gs : List (List ℕ)) → ArraysHold p c.args.supports.now c.args.tables.now c.args.numbers.now → Blocked p gs c.args.numbers.now → BeforeFixpoint p gs c.args.work.now c.args.numbers.now c.args.sets.now c.args.k c.args.todo c.args.dirty → LookUpsPending p c.args.numbers.now c.args.supports.now c.args.sets.now c.args.work.now c.args.todo (bit_and c.args.todo (at c.args.numbers.now (LOOKS + c.args.k))) c.args.v = λ p gs s b n. looks_pending s b n wide c.requires.5 in
-    let looks_made : (p : Problem) (gs : List (List ℕ)) → ArraysHold p c.args.supports.now c.args.tables.now c.args.numbers.now → Blocked p gs c.args.numbers.now → BeforeFixpoint p gs c.args.work.now c.args.numbers.now c.args.sets.now c.args.k c.args.todo c.args.dirty → BeforeFixpoint p gs c.args.work.now c.args.numbers.now c.look_ups-looked.new.sets c.args.k (bit_or (bit_and c.args.todo ((2 ^ 64 - 1) - bit_and c.args.todo (at c.args.numbers.now (LOOKS + c.args.k)))) (touched_of c.args.numbers.now c.look_ups-looked.result)) (bit_or c.args.dirty (bit_and c.look_ups-looked.result (at c.args.numbers.now LINKED))) = λ p gs s b n. looks_done s b n (c.look_ups-looked.ensures p _ (looks p gs s b n)) c.if-looked-eq-DEAD.false in
-    let cuts_made : (p : Problem) (gs : List (List ℕ)) → ArraysHold p c.args.supports.now c.args.tables.now c.args.numbers.now → Blocked p gs c.args.numbers.now → BeforeFixpoint p gs c.args.work.now c.args.numbers.now c.args.sets.now c.args.k c.args.todo c.args.dirty → BeforeFixpoint p gs c.args.work.now c.args.numbers.now c.arcs-cut.new.sets c.args.k (bit_or (bit_and c.args.todo ((2 ^ 64 - 1) - bit_and c.args.todo (at c.args.numbers.now (LOOKS + c.args.k)))) c.touched.result) 0 = λ p gs s b n. let m = looks_made p gs s b n in
+    let looks : (p : Problem) (gs : List (List ℕ)) → ArraysHold p c.args.supports.now c.args.tables.now c.args.numbers.now → Blocked p gs c.args.numbers.now →
+    BeforeFixpoint p gs c.args.work.now c.args.numbers.now c.args.sets.now c.args.k c.args.todo c.args.dirty →
+    LookUpsPending p c.args.numbers.now c.args.supports.now c.args.sets.now c.args.work.now c.args.todo (bit_and c.args.todo (at c.args.numbers.now (LOOKS + c.args.k))) c.args.v =
+    λ p gs s b n. looks_pending s b n wide c.requires.5 in
+    let looks_made : (p : Problem) (gs : List (List ℕ)) → ArraysHold p c.args.supports.now c.args.tables.now c.args.numbers.now → Blocked p gs c.args.numbers.now →
+    BeforeFixpoint p gs c.args.work.now c.args.numbers.now c.args.sets.now c.args.k c.args.todo c.args.dirty →
+    BeforeFixpoint p gs c.args.work.now c.args.numbers.now c.look_ups-looked.new.sets c.args.k
+    (bit_or (bit_and c.args.todo ((2 ^ 64 - 1) - bit_and c.args.todo (at c.args.numbers.now (LOOKS + c.args.k)))) (touched_of c.args.numbers.now c.look_ups-looked.result))
+    (bit_or c.args.dirty (bit_and c.look_ups-looked.result (at c.args.numbers.now LINKED))) =
+    λ p gs s b n. looks_done s b n (c.look_ups-looked.ensures p _ (looks p gs s b n)) c.if-looked-eq-DEAD.false in
+    let cuts_made : (p : Problem) (gs : List (List ℕ)) → ArraysHold p c.args.supports.now c.args.tables.now c.args.numbers.now → Blocked p gs c.args.numbers.now →
+    BeforeFixpoint p gs c.args.work.now c.args.numbers.now c.args.sets.now c.args.k c.args.todo c.args.dirty →
+    BeforeFixpoint p gs c.args.work.now c.args.numbers.now c.arcs-cut.new.sets c.args.k
+    (bit_or (bit_and c.args.todo ((2 ^ 64 - 1) - bit_and c.args.todo (at c.args.numbers.now (LOOKS + c.args.k)))) c.touched.result) 0 = λ p gs s b n. let m = looks_made p gs s b n in
     cuts_done s b n wide (c.look_ups-looked.ensures p _ (looks p gs s b n)) c.if-looked-eq-DEAD.false
     (c.arcs-cut.ensures p (arcs_pending s m.startable.pending)) c.if-cut-eq-DEAD.false (search rules) c.touched.ensures in
     λ p gs s b n. let m = cuts_made p gs s b n in constrained_dead s b m _
@@ -70,15 +117,28 @@ pub returns-then-numbers-eq0 : goal.returns-then-numbers-eq0
 unfolding at
 returns-then-numbers-eq0 c =
     let wide : c.args.todo < 2 ^ 64 = search rules in
-    let looks : (p : Problem) (gs : List (List ℕ)) → ArraysHold p c.args.supports.now c.args.tables.now c.args.numbers.now → Blocked p gs c.args.numbers.now → BeforeFixpoint p gs c.args.work.now c.args.numbers.now c.args.sets.now c.args.k c.args.todo c.args.dirty → LookUpsPending p c.args.numbers.now c.args.supports.now c.args.sets.now c.args.work.now c.args.todo (bit_and c.args.todo (at c.args.numbers.now (LOOKS + c.args.k))) c.args.v = λ p gs s b n. looks_pending s b n wide c.requires.5 in
-    let looks_made : (p : Problem) (gs : List (List ℕ)) → ArraysHold p c.args.supports.now c.args.tables.now c.args.numbers.now → Blocked p gs c.args.numbers.now → BeforeFixpoint p gs c.args.work.now c.args.numbers.now c.args.sets.now c.args.k c.args.todo c.args.dirty → BeforeFixpoint p gs c.args.work.now c.args.numbers.now c.look_ups-looked.new.sets c.args.k (bit_or (bit_and c.args.todo ((2 ^ 64 - 1) - bit_and c.args.todo (at c.args.numbers.now (LOOKS + c.args.k)))) (touched_of c.args.numbers.now c.look_ups-looked.result)) (bit_or c.args.dirty (bit_and c.look_ups-looked.result (at c.args.numbers.now LINKED))) = λ p gs s b n. looks_done s b n (c.look_ups-looked.ensures p _ (looks p gs s b n)) c.if-looked-eq-DEAD.false in
-    let cuts_made : (p : Problem) (gs : List (List ℕ)) → ArraysHold p c.args.supports.now c.args.tables.now c.args.numbers.now → Blocked p gs c.args.numbers.now → BeforeFixpoint p gs c.args.work.now c.args.numbers.now c.args.sets.now c.args.k c.args.todo c.args.dirty → BeforeFixpoint p gs c.args.work.now c.args.numbers.now c.arcs-cut.new.sets c.args.k (bit_or (bit_and c.args.todo ((2 ^ 64 - 1) - bit_and c.args.todo (at c.args.numbers.now (LOOKS + c.args.k)))) c.touched.result) 0 = λ p gs s b n. let m = looks_made p gs s b n in
+    let looks : (p : Problem) (gs : List (List ℕ)) → ArraysHold p c.args.supports.now c.args.tables.now c.args.numbers.now → Blocked p gs c.args.numbers.now →
+    BeforeFixpoint p gs c.args.work.now c.args.numbers.now c.args.sets.now c.args.k c.args.todo c.args.dirty →
+    LookUpsPending p c.args.numbers.now c.args.supports.now c.args.sets.now c.args.work.now c.args.todo (bit_and c.args.todo (at c.args.numbers.now (LOOKS + c.args.k))) c.args.v =
+    λ p gs s b n. looks_pending s b n wide c.requires.5 in
+    let looks_made : (p : Problem) (gs : List (List ℕ)) → ArraysHold p c.args.supports.now c.args.tables.now c.args.numbers.now → Blocked p gs c.args.numbers.now →
+    BeforeFixpoint p gs c.args.work.now c.args.numbers.now c.args.sets.now c.args.k c.args.todo c.args.dirty →
+    BeforeFixpoint p gs c.args.work.now c.args.numbers.now c.look_ups-looked.new.sets c.args.k
+    (bit_or (bit_and c.args.todo ((2 ^ 64 - 1) - bit_and c.args.todo (at c.args.numbers.now (LOOKS + c.args.k)))) (touched_of c.args.numbers.now c.look_ups-looked.result))
+    (bit_or c.args.dirty (bit_and c.look_ups-looked.result (at c.args.numbers.now LINKED))) =
+    λ p gs s b n. looks_done s b n (c.look_ups-looked.ensures p _ (looks p gs s b n)) c.if-looked-eq-DEAD.false in
+    let cuts_made : (p : Problem) (gs : List (List ℕ)) → ArraysHold p c.args.supports.now c.args.tables.now c.args.numbers.now → Blocked p gs c.args.numbers.now →
+    BeforeFixpoint p gs c.args.work.now c.args.numbers.now c.args.sets.now c.args.k c.args.todo c.args.dirty →
+    BeforeFixpoint p gs c.args.work.now c.args.numbers.now c.arcs-cut.new.sets c.args.k
+    (bit_or (bit_and c.args.todo ((2 ^ 64 - 1) - bit_and c.args.todo (at c.args.numbers.now (LOOKS + c.args.k)))) c.touched.result) 0 = λ p gs s b n. let m = looks_made p gs s b n in
     cuts_done s b n wide (c.look_ups-looked.ensures p _ (looks p gs s b n)) c.if-looked-eq-DEAD.false
     (c.arcs-cut.ensures p (arcs_pending s m.startable.pending)) c.if-cut-eq-DEAD.false (search rules) c.touched.ensures in
-    let rested : (p : Problem) (gs : List (List ℕ)) → ArraysHold p c.args.supports.now c.args.tables.now c.args.numbers.now → Blocked p gs c.args.numbers.now → BeforeFixpoint p gs c.args.work.now c.args.numbers.now c.args.sets.now c.args.k c.args.todo c.args.dirty → BeforeFixpoint p gs c.args.work.now c.args.numbers.now c.if-left-ne0.sets c.args.k 0 0 = λ p gs s b n. let m = cuts_made p gs s b n in
+    let rested : (p : Problem) (gs : List (List ℕ)) → ArraysHold p c.args.supports.now c.args.tables.now c.args.numbers.now → Blocked p gs c.args.numbers.now →
+    BeforeFixpoint p gs c.args.work.now c.args.numbers.now c.args.sets.now c.args.k c.args.todo c.args.dirty →
+    BeforeFixpoint p gs c.args.work.now c.args.numbers.now c.if-left-ne0.sets c.args.k 0 0 = λ p gs s b n. let m = cuts_made p gs s b n in
     constrained_done s b m
     (elim c.if-left-ne0.branch [
-      then-left-ne0+else-constrain w ↦ subst (AllConstrained p _) (sym w.sets-is) ((w.constrain.ensures p s m.startable.pending).all_constrained w.if-constrain.false)
+      | then-left-ne0+else-constrain w ↦ subst (AllConstrained p _) (sym w.sets-is) ((w.constrain.ensures p s m.startable.pending).all_constrained w.if-constrain.false)
       | else-left-ne0 w ↦ subst (AllConstrained p _) (sym w.sets-is) (nothing_due s (pruned_none p _) m.startable.pending w.if-left-ne0.false refl)
     ]) in
     λ p gs s b n. bare_end s b (rested p gs s b n) c.if-numbers-eq0.true
@@ -87,15 +147,28 @@ pub alternate-requires : goal.alternate-requires
 unfolding at
 alternate-requires c =
     let wide : c.args.todo < 2 ^ 64 = search rules in
-    let looks : (p : Problem) (gs : List (List ℕ)) → ArraysHold p c.args.supports.now c.args.tables.now c.args.numbers.now → Blocked p gs c.args.numbers.now → BeforeFixpoint p gs c.args.work.now c.args.numbers.now c.args.sets.now c.args.k c.args.todo c.args.dirty → LookUpsPending p c.args.numbers.now c.args.supports.now c.args.sets.now c.args.work.now c.args.todo (bit_and c.args.todo (at c.args.numbers.now (LOOKS + c.args.k))) c.args.v = λ p gs s b n. looks_pending s b n wide c.requires.5 in
-    let looks_made : (p : Problem) (gs : List (List ℕ)) → ArraysHold p c.args.supports.now c.args.tables.now c.args.numbers.now → Blocked p gs c.args.numbers.now → BeforeFixpoint p gs c.args.work.now c.args.numbers.now c.args.sets.now c.args.k c.args.todo c.args.dirty → BeforeFixpoint p gs c.args.work.now c.args.numbers.now c.look_ups-looked.new.sets c.args.k (bit_or (bit_and c.args.todo ((2 ^ 64 - 1) - bit_and c.args.todo (at c.args.numbers.now (LOOKS + c.args.k)))) (touched_of c.args.numbers.now c.look_ups-looked.result)) (bit_or c.args.dirty (bit_and c.look_ups-looked.result (at c.args.numbers.now LINKED))) = λ p gs s b n. looks_done s b n (c.look_ups-looked.ensures p _ (looks p gs s b n)) c.if-looked-eq-DEAD.false in
-    let cuts_made : (p : Problem) (gs : List (List ℕ)) → ArraysHold p c.args.supports.now c.args.tables.now c.args.numbers.now → Blocked p gs c.args.numbers.now → BeforeFixpoint p gs c.args.work.now c.args.numbers.now c.args.sets.now c.args.k c.args.todo c.args.dirty → BeforeFixpoint p gs c.args.work.now c.args.numbers.now c.arcs-cut.new.sets c.args.k (bit_or (bit_and c.args.todo ((2 ^ 64 - 1) - bit_and c.args.todo (at c.args.numbers.now (LOOKS + c.args.k)))) c.touched.result) 0 = λ p gs s b n. let m = looks_made p gs s b n in
+    let looks : (p : Problem) (gs : List (List ℕ)) → ArraysHold p c.args.supports.now c.args.tables.now c.args.numbers.now → Blocked p gs c.args.numbers.now →
+    BeforeFixpoint p gs c.args.work.now c.args.numbers.now c.args.sets.now c.args.k c.args.todo c.args.dirty →
+    LookUpsPending p c.args.numbers.now c.args.supports.now c.args.sets.now c.args.work.now c.args.todo (bit_and c.args.todo (at c.args.numbers.now (LOOKS + c.args.k))) c.args.v =
+    λ p gs s b n. looks_pending s b n wide c.requires.5 in
+    let looks_made : (p : Problem) (gs : List (List ℕ)) → ArraysHold p c.args.supports.now c.args.tables.now c.args.numbers.now → Blocked p gs c.args.numbers.now →
+    BeforeFixpoint p gs c.args.work.now c.args.numbers.now c.args.sets.now c.args.k c.args.todo c.args.dirty →
+    BeforeFixpoint p gs c.args.work.now c.args.numbers.now c.look_ups-looked.new.sets c.args.k
+    (bit_or (bit_and c.args.todo ((2 ^ 64 - 1) - bit_and c.args.todo (at c.args.numbers.now (LOOKS + c.args.k)))) (touched_of c.args.numbers.now c.look_ups-looked.result))
+    (bit_or c.args.dirty (bit_and c.look_ups-looked.result (at c.args.numbers.now LINKED))) =
+    λ p gs s b n. looks_done s b n (c.look_ups-looked.ensures p _ (looks p gs s b n)) c.if-looked-eq-DEAD.false in
+    let cuts_made : (p : Problem) (gs : List (List ℕ)) → ArraysHold p c.args.supports.now c.args.tables.now c.args.numbers.now → Blocked p gs c.args.numbers.now →
+    BeforeFixpoint p gs c.args.work.now c.args.numbers.now c.args.sets.now c.args.k c.args.todo c.args.dirty →
+    BeforeFixpoint p gs c.args.work.now c.args.numbers.now c.arcs-cut.new.sets c.args.k
+    (bit_or (bit_and c.args.todo ((2 ^ 64 - 1) - bit_and c.args.todo (at c.args.numbers.now (LOOKS + c.args.k)))) c.touched.result) 0 = λ p gs s b n. let m = looks_made p gs s b n in
     cuts_done s b n wide (c.look_ups-looked.ensures p _ (looks p gs s b n)) c.if-looked-eq-DEAD.false
     (c.arcs-cut.ensures p (arcs_pending s m.startable.pending)) c.if-cut-eq-DEAD.false (search rules) c.touched.ensures in
-    let rested : (p : Problem) (gs : List (List ℕ)) → ArraysHold p c.args.supports.now c.args.tables.now c.args.numbers.now → Blocked p gs c.args.numbers.now → BeforeFixpoint p gs c.args.work.now c.args.numbers.now c.args.sets.now c.args.k c.args.todo c.args.dirty → BeforeFixpoint p gs c.args.work.now c.args.numbers.now c.if-left-ne0.sets c.args.k 0 0 = λ p gs s b n. let m = cuts_made p gs s b n in
+    let rested : (p : Problem) (gs : List (List ℕ)) → ArraysHold p c.args.supports.now c.args.tables.now c.args.numbers.now → Blocked p gs c.args.numbers.now →
+    BeforeFixpoint p gs c.args.work.now c.args.numbers.now c.args.sets.now c.args.k c.args.todo c.args.dirty →
+    BeforeFixpoint p gs c.args.work.now c.args.numbers.now c.if-left-ne0.sets c.args.k 0 0 = λ p gs s b n. let m = cuts_made p gs s b n in
     constrained_done s b m
     (elim c.if-left-ne0.branch [
-      then-left-ne0+else-constrain w ↦ subst (AllConstrained p _) (sym w.sets-is) ((w.constrain.ensures p s m.startable.pending).all_constrained w.if-constrain.false)
+      | then-left-ne0+else-constrain w ↦ subst (AllConstrained p _) (sym w.sets-is) ((w.constrain.ensures p s m.startable.pending).all_constrained w.if-constrain.false)
       | else-left-ne0 w ↦ subst (AllConstrained p _) (sym w.sets-is) (nothing_due s (pruned_none p _) m.startable.pending w.if-left-ne0.false refl)
     ]) in
     (c.requires.0, c.requires.1, c.requires.2, c.requires.3, rested c.requires.0 c.requires.1 c.requires.2 c.requires.3 c.requires.4)
@@ -104,15 +177,28 @@ pub returns : goal.returns
 unfolding at
 returns c =
     let wide : c.args.todo < 2 ^ 64 = search rules in
-    let looks : (p : Problem) (gs : List (List ℕ)) → ArraysHold p c.args.supports.now c.args.tables.now c.args.numbers.now → Blocked p gs c.args.numbers.now → BeforeFixpoint p gs c.args.work.now c.args.numbers.now c.args.sets.now c.args.k c.args.todo c.args.dirty → LookUpsPending p c.args.numbers.now c.args.supports.now c.args.sets.now c.args.work.now c.args.todo (bit_and c.args.todo (at c.args.numbers.now (LOOKS + c.args.k))) c.args.v = λ p gs s b n. looks_pending s b n wide c.requires.5 in
-    let looks_made : (p : Problem) (gs : List (List ℕ)) → ArraysHold p c.args.supports.now c.args.tables.now c.args.numbers.now → Blocked p gs c.args.numbers.now → BeforeFixpoint p gs c.args.work.now c.args.numbers.now c.args.sets.now c.args.k c.args.todo c.args.dirty → BeforeFixpoint p gs c.args.work.now c.args.numbers.now c.look_ups-looked.new.sets c.args.k (bit_or (bit_and c.args.todo ((2 ^ 64 - 1) - bit_and c.args.todo (at c.args.numbers.now (LOOKS + c.args.k)))) (touched_of c.args.numbers.now c.look_ups-looked.result)) (bit_or c.args.dirty (bit_and c.look_ups-looked.result (at c.args.numbers.now LINKED))) = λ p gs s b n. looks_done s b n (c.look_ups-looked.ensures p _ (looks p gs s b n)) c.if-looked-eq-DEAD.false in
-    let cuts_made : (p : Problem) (gs : List (List ℕ)) → ArraysHold p c.args.supports.now c.args.tables.now c.args.numbers.now → Blocked p gs c.args.numbers.now → BeforeFixpoint p gs c.args.work.now c.args.numbers.now c.args.sets.now c.args.k c.args.todo c.args.dirty → BeforeFixpoint p gs c.args.work.now c.args.numbers.now c.arcs-cut.new.sets c.args.k (bit_or (bit_and c.args.todo ((2 ^ 64 - 1) - bit_and c.args.todo (at c.args.numbers.now (LOOKS + c.args.k)))) c.touched.result) 0 = λ p gs s b n. let m = looks_made p gs s b n in
+    let looks : (p : Problem) (gs : List (List ℕ)) → ArraysHold p c.args.supports.now c.args.tables.now c.args.numbers.now → Blocked p gs c.args.numbers.now →
+    BeforeFixpoint p gs c.args.work.now c.args.numbers.now c.args.sets.now c.args.k c.args.todo c.args.dirty →
+    LookUpsPending p c.args.numbers.now c.args.supports.now c.args.sets.now c.args.work.now c.args.todo (bit_and c.args.todo (at c.args.numbers.now (LOOKS + c.args.k))) c.args.v =
+    λ p gs s b n. looks_pending s b n wide c.requires.5 in
+    let looks_made : (p : Problem) (gs : List (List ℕ)) → ArraysHold p c.args.supports.now c.args.tables.now c.args.numbers.now → Blocked p gs c.args.numbers.now →
+    BeforeFixpoint p gs c.args.work.now c.args.numbers.now c.args.sets.now c.args.k c.args.todo c.args.dirty →
+    BeforeFixpoint p gs c.args.work.now c.args.numbers.now c.look_ups-looked.new.sets c.args.k
+    (bit_or (bit_and c.args.todo ((2 ^ 64 - 1) - bit_and c.args.todo (at c.args.numbers.now (LOOKS + c.args.k)))) (touched_of c.args.numbers.now c.look_ups-looked.result))
+    (bit_or c.args.dirty (bit_and c.look_ups-looked.result (at c.args.numbers.now LINKED))) =
+    λ p gs s b n. looks_done s b n (c.look_ups-looked.ensures p _ (looks p gs s b n)) c.if-looked-eq-DEAD.false in
+    let cuts_made : (p : Problem) (gs : List (List ℕ)) → ArraysHold p c.args.supports.now c.args.tables.now c.args.numbers.now → Blocked p gs c.args.numbers.now →
+    BeforeFixpoint p gs c.args.work.now c.args.numbers.now c.args.sets.now c.args.k c.args.todo c.args.dirty →
+    BeforeFixpoint p gs c.args.work.now c.args.numbers.now c.arcs-cut.new.sets c.args.k
+    (bit_or (bit_and c.args.todo ((2 ^ 64 - 1) - bit_and c.args.todo (at c.args.numbers.now (LOOKS + c.args.k)))) c.touched.result) 0 = λ p gs s b n. let m = looks_made p gs s b n in
     cuts_done s b n wide (c.look_ups-looked.ensures p _ (looks p gs s b n)) c.if-looked-eq-DEAD.false
     (c.arcs-cut.ensures p (arcs_pending s m.startable.pending)) c.if-cut-eq-DEAD.false (search rules) c.touched.ensures in
-    let rested : (p : Problem) (gs : List (List ℕ)) → ArraysHold p c.args.supports.now c.args.tables.now c.args.numbers.now → Blocked p gs c.args.numbers.now → BeforeFixpoint p gs c.args.work.now c.args.numbers.now c.args.sets.now c.args.k c.args.todo c.args.dirty → BeforeFixpoint p gs c.args.work.now c.args.numbers.now c.if-left-ne0.sets c.args.k 0 0 = λ p gs s b n. let m = cuts_made p gs s b n in
+    let rested : (p : Problem) (gs : List (List ℕ)) → ArraysHold p c.args.supports.now c.args.tables.now c.args.numbers.now → Blocked p gs c.args.numbers.now →
+    BeforeFixpoint p gs c.args.work.now c.args.numbers.now c.args.sets.now c.args.k c.args.todo c.args.dirty →
+    BeforeFixpoint p gs c.args.work.now c.args.numbers.now c.if-left-ne0.sets c.args.k 0 0 = λ p gs s b n. let m = cuts_made p gs s b n in
     constrained_done s b m
     (elim c.if-left-ne0.branch [
-      then-left-ne0+else-constrain w ↦ subst (AllConstrained p _) (sym w.sets-is) ((w.constrain.ensures p s m.startable.pending).all_constrained w.if-constrain.false)
+      | then-left-ne0+else-constrain w ↦ subst (AllConstrained p _) (sym w.sets-is) ((w.constrain.ensures p s m.startable.pending).all_constrained w.if-constrain.false)
       | else-left-ne0 w ↦ subst (AllConstrained p _) (sym w.sets-is) (nothing_due s (pruned_none p _) m.startable.pending w.if-left-ne0.false refl)
     ]) in
     λ p gs s b n. c.alternate.ensures p gs s b (rested p gs s b n)

@@ -22,13 +22,19 @@ overflow_sub-settled c = let h = unpruned_few c.requires.2 c.requires.3 in some_
 pub constrain-requires : goal.constrain-requires
 unfolding at
 constrain-requires c =
-    let started : (p : Problem) (gs : List (List ℕ)) → Ready p gs c.args.stack.now c.args.work.now c.args.supports.now c.args.tables.now c.args.numbers.now → Unpruned p gs c.args.work.now c.args.numbers.now c.args.sets.now c.args.k → BeforeFixpoint p gs c.clear_marks.new.work c.args.numbers.now c.args.sets.now c.args.k c.touched-todo.result (at c.args.numbers.now LINKED) = λ p gs r n. unpruned_start r n _ refl _ c.touched-todo.ensures _ c.clear_marks.ensures in
+    let started : (p : Problem) (gs : List (List ℕ)) → Ready p gs c.args.stack.now c.args.work.now c.args.supports.now c.args.tables.now c.args.numbers.now →
+    Unpruned p gs c.args.work.now c.args.numbers.now c.args.sets.now c.args.k →
+    BeforeFixpoint p gs c.clear_marks.new.work c.args.numbers.now c.args.sets.now c.args.k c.touched-todo.result (at c.args.numbers.now LINKED) =
+    λ p gs r n. unpruned_start r n _ refl _ c.touched-todo.ensures _ c.clear_marks.ensures in
     (c.requires.0, arrays_hold c.requires.2, (started c.requires.0 c.requires.1 c.requires.2 c.requires.3).startable.pending)
 
 pub returns-then-constrain : goal.returns-then-constrain
 unfolding at
 returns-then-constrain c =
-    let started : (p : Problem) (gs : List (List ℕ)) → Ready p gs c.args.stack.now c.args.work.now c.args.supports.now c.args.tables.now c.args.numbers.now → Unpruned p gs c.args.work.now c.args.numbers.now c.args.sets.now c.args.k → BeforeFixpoint p gs c.clear_marks.new.work c.args.numbers.now c.args.sets.now c.args.k c.touched-todo.result (at c.args.numbers.now LINKED) = λ p gs r n. unpruned_start r n _ refl _ c.touched-todo.ensures _ c.clear_marks.ensures in
+    let started : (p : Problem) (gs : List (List ℕ)) → Ready p gs c.args.stack.now c.args.work.now c.args.supports.now c.args.tables.now c.args.numbers.now →
+    Unpruned p gs c.args.work.now c.args.numbers.now c.args.sets.now c.args.k →
+    BeforeFixpoint p gs c.clear_marks.new.work c.args.numbers.now c.args.sets.now c.args.k c.touched-todo.result (at c.args.numbers.now LINKED) =
+    λ p gs r n. unpruned_start r n _ refl _ c.touched-todo.ensures _ c.clear_marks.ensures in
     λ p gs r n.
     let b = started p gs r n in
     unpruned_dead r n _ refl _ c.touched-todo.ensures _ c.clear_marks.ensures c.constrain.new.sets _ _
@@ -37,16 +43,26 @@ returns-then-constrain c =
 pub alternate-requires : goal.alternate-requires
 unfolding at
 alternate-requires c =
-    let started : (p : Problem) (gs : List (List ℕ)) → Ready p gs c.args.stack.now c.args.work.now c.args.supports.now c.args.tables.now c.args.numbers.now → Unpruned p gs c.args.work.now c.args.numbers.now c.args.sets.now c.args.k → BeforeFixpoint p gs c.clear_marks.new.work c.args.numbers.now c.args.sets.now c.args.k c.touched-todo.result (at c.args.numbers.now LINKED) = λ p gs r n. unpruned_start r n _ refl _ c.touched-todo.ensures _ c.clear_marks.ensures in
-    let rested : (p : Problem) (gs : List (List ℕ)) → Ready p gs c.args.stack.now c.args.work.now c.args.supports.now c.args.tables.now c.args.numbers.now → Unpruned p gs c.args.work.now c.args.numbers.now c.args.sets.now c.args.k → BeforeFixpoint p gs c.clear_marks.new.work c.args.numbers.now c.constrain.new.sets c.args.k 0 0 = λ p gs r n. let b = started p gs r n in
+    let started : (p : Problem) (gs : List (List ℕ)) → Ready p gs c.args.stack.now c.args.work.now c.args.supports.now c.args.tables.now c.args.numbers.now →
+    Unpruned p gs c.args.work.now c.args.numbers.now c.args.sets.now c.args.k →
+    BeforeFixpoint p gs c.clear_marks.new.work c.args.numbers.now c.args.sets.now c.args.k c.touched-todo.result (at c.args.numbers.now LINKED) =
+    λ p gs r n. unpruned_start r n _ refl _ c.touched-todo.ensures _ c.clear_marks.ensures in
+    let rested : (p : Problem) (gs : List (List ℕ)) → Ready p gs c.args.stack.now c.args.work.now c.args.supports.now c.args.tables.now c.args.numbers.now →
+    Unpruned p gs c.args.work.now c.args.numbers.now c.args.sets.now c.args.k → BeforeFixpoint p gs c.clear_marks.new.work c.args.numbers.now c.constrain.new.sets c.args.k 0 0 =
+    λ p gs r n. let b = started p gs r n in
     constrained_done (arrays_hold r) (blocked r) b ((c.constrain.ensures p (arrays_hold r) b.startable.pending).all_constrained c.if-constrain.false) in
     (c.requires.0, c.requires.1, arrays_hold c.requires.2, blocked c.requires.2, rested c.requires.0 c.requires.1 c.requires.2 c.requires.3)
 
 pub returns-then-alternate : goal.returns-then-alternate
 unfolding at
 returns-then-alternate c =
-    let started : (p : Problem) (gs : List (List ℕ)) → Ready p gs c.args.stack.now c.args.work.now c.args.supports.now c.args.tables.now c.args.numbers.now → Unpruned p gs c.args.work.now c.args.numbers.now c.args.sets.now c.args.k → BeforeFixpoint p gs c.clear_marks.new.work c.args.numbers.now c.args.sets.now c.args.k c.touched-todo.result (at c.args.numbers.now LINKED) = λ p gs r n. unpruned_start r n _ refl _ c.touched-todo.ensures _ c.clear_marks.ensures in
-    let rested : (p : Problem) (gs : List (List ℕ)) → Ready p gs c.args.stack.now c.args.work.now c.args.supports.now c.args.tables.now c.args.numbers.now → Unpruned p gs c.args.work.now c.args.numbers.now c.args.sets.now c.args.k → BeforeFixpoint p gs c.clear_marks.new.work c.args.numbers.now c.constrain.new.sets c.args.k 0 0 = λ p gs r n. let b = started p gs r n in
+    let started : (p : Problem) (gs : List (List ℕ)) → Ready p gs c.args.stack.now c.args.work.now c.args.supports.now c.args.tables.now c.args.numbers.now →
+    Unpruned p gs c.args.work.now c.args.numbers.now c.args.sets.now c.args.k →
+    BeforeFixpoint p gs c.clear_marks.new.work c.args.numbers.now c.args.sets.now c.args.k c.touched-todo.result (at c.args.numbers.now LINKED) =
+    λ p gs r n. unpruned_start r n _ refl _ c.touched-todo.ensures _ c.clear_marks.ensures in
+    let rested : (p : Problem) (gs : List (List ℕ)) → Ready p gs c.args.stack.now c.args.work.now c.args.supports.now c.args.tables.now c.args.numbers.now →
+    Unpruned p gs c.args.work.now c.args.numbers.now c.args.sets.now c.args.k → BeforeFixpoint p gs c.clear_marks.new.work c.args.numbers.now c.constrain.new.sets c.args.k 0 0 =
+    λ p gs r n. let b = started p gs r n in
     constrained_done (arrays_hold r) (blocked r) b ((c.constrain.ensures p (arrays_hold r) b.startable.pending).all_constrained c.if-constrain.false) in
     λ p gs r n.
     unpruned_dead r n _ refl _ c.touched-todo.ensures _ c.clear_marks.ensures _ _ _
@@ -55,8 +71,13 @@ returns-then-alternate c =
 pub returns : goal.returns
 unfolding at
 returns c =
-    let started : (p : Problem) (gs : List (List ℕ)) → Ready p gs c.args.stack.now c.args.work.now c.args.supports.now c.args.tables.now c.args.numbers.now → Unpruned p gs c.args.work.now c.args.numbers.now c.args.sets.now c.args.k → BeforeFixpoint p gs c.clear_marks.new.work c.args.numbers.now c.args.sets.now c.args.k c.touched-todo.result (at c.args.numbers.now LINKED) = λ p gs r n. unpruned_start r n _ refl _ c.touched-todo.ensures _ c.clear_marks.ensures in
-    let rested : (p : Problem) (gs : List (List ℕ)) → Ready p gs c.args.stack.now c.args.work.now c.args.supports.now c.args.tables.now c.args.numbers.now → Unpruned p gs c.args.work.now c.args.numbers.now c.args.sets.now c.args.k → BeforeFixpoint p gs c.clear_marks.new.work c.args.numbers.now c.constrain.new.sets c.args.k 0 0 = λ p gs r n. let b = started p gs r n in
+    let started : (p : Problem) (gs : List (List ℕ)) → Ready p gs c.args.stack.now c.args.work.now c.args.supports.now c.args.tables.now c.args.numbers.now →
+    Unpruned p gs c.args.work.now c.args.numbers.now c.args.sets.now c.args.k →
+    BeforeFixpoint p gs c.clear_marks.new.work c.args.numbers.now c.args.sets.now c.args.k c.touched-todo.result (at c.args.numbers.now LINKED) =
+    λ p gs r n. unpruned_start r n _ refl _ c.touched-todo.ensures _ c.clear_marks.ensures in
+    let rested : (p : Problem) (gs : List (List ℕ)) → Ready p gs c.args.stack.now c.args.work.now c.args.supports.now c.args.tables.now c.args.numbers.now →
+    Unpruned p gs c.args.work.now c.args.numbers.now c.args.sets.now c.args.k → BeforeFixpoint p gs c.clear_marks.new.work c.args.numbers.now c.constrain.new.sets c.args.k 0 0 =
+    λ p gs r n. let b = started p gs r n in
     constrained_done (arrays_hold r) (blocked r) b ((c.constrain.ensures p (arrays_hold r) b.startable.pending).all_constrained c.if-constrain.false) in
     λ p gs r n.
     unpruned_live r n _ refl _ c.touched-todo.ensures _ c.clear_marks.ensures _ _ _ _

@@ -27,10 +27,15 @@ fills-requires c =
 pub returns-then-last-e : goal.returns-then-last-e
 unfolding at
 returns-then-last-e c =
-    let seconds : (su : List ℕ) → Words c.args.numbers.now su → InLanes (at c.args.sets.now c.args.y) (at c.args.sets.now c.args.x) (at c.args.sets.now c.args.z) (of_second su c.args.k) c.in_lanes-by_second.result = λ su w. c.in_lanes-by_second.ensures (of_second su c.args.k) (λ h m. w.by_second c.args.k h m c.requires.by_index.4.room c.requires.by_index.2) in
-    let thirds : (su : List ℕ) → Words c.args.numbers.now su → InLanes (at c.args.sets.now c.args.z) (at c.args.sets.now c.args.x) (at c.args.sets.now c.args.y) (of_third su c.args.k) c.in_lanes-by_third.result = λ su w. c.in_lanes-by_third.ensures (of_third su c.args.k) (λ h m. w.by_third c.args.k h m c.requires.by_index.4.room c.requires.by_index.2) in
+    let seconds : (su : List ℕ) → Words c.args.numbers.now su →
+    InLanes (at c.args.sets.now c.args.y) (at c.args.sets.now c.args.x) (at c.args.sets.now c.args.z) (of_second su c.args.k) c.in_lanes-by_second.result =
+    λ su w. c.in_lanes-by_second.ensures (of_second su c.args.k) (λ h m. w.by_second c.args.k h m c.requires.by_index.4.room c.requires.by_index.2) in
+    let thirds : (su : List ℕ) → Words c.args.numbers.now su →
+    InLanes (at c.args.sets.now c.args.z) (at c.args.sets.now c.args.x) (at c.args.sets.now c.args.y) (of_third su c.args.k) c.in_lanes-by_third.result =
+    λ su w. c.in_lanes-by_third.ensures (of_third su c.args.k) (λ h m. w.by_third c.args.k h m c.requires.by_index.4.room c.requires.by_index.2) in
     λ e su w q.
-    three_same q _ c.requires.sets _ _ _ (c.requires.sets.1 _) (c.requires.sets.1 _) (c.requires.sets.1 _) (union_both su _ _ _ _ c.requires.x_bound.1 c.requires.x_bound.0 c.requires.x_bound.2 (seconds su w) (thirds su w)
+    three_same q _ c.requires.sets _ _ _ (c.requires.sets.1 _) (c.requires.sets.1 _) (c.requires.sets.1 _)
+    (union_both su _ _ _ _ c.requires.x_bound.1 c.requires.x_bound.0 c.requires.x_bound.2 (seconds su w) (thirds su w)
     (c.fills.ensures c.if-fills.true) (subst (LaneUnion _) c.if-second-b.true c.union_of-second.ensures)
     (subst (LaneUnion _) c.if-last-e.true c.union_of-last.ensures)) refl refl refl c.requires.fact
 
@@ -43,8 +48,12 @@ leave-requires c =
 pub returns : goal.returns
 unfolding at
 returns c =
-    let seconds : (su : List ℕ) → Words c.args.numbers.now su → InLanes (at c.args.sets.now c.args.y) (at c.args.sets.now c.args.x) (at c.args.sets.now c.args.z) (of_second su c.args.k) c.in_lanes-by_second.result = λ su w. c.in_lanes-by_second.ensures (of_second su c.args.k) (λ h m. w.by_second c.args.k h m c.requires.by_index.4.room c.requires.by_index.2) in
-    let thirds : (su : List ℕ) → Words c.args.numbers.now su → InLanes (at c.args.sets.now c.args.z) (at c.args.sets.now c.args.x) (at c.args.sets.now c.args.y) (of_third su c.args.k) c.in_lanes-by_third.result = λ su w. c.in_lanes-by_third.ensures (of_third su c.args.k) (λ h m. w.by_third c.args.k h m c.requires.by_index.4.room c.requires.by_index.2) in
+    let seconds : (su : List ℕ) → Words c.args.numbers.now su →
+    InLanes (at c.args.sets.now c.args.y) (at c.args.sets.now c.args.x) (at c.args.sets.now c.args.z) (of_second su c.args.k) c.in_lanes-by_second.result =
+    λ su w. c.in_lanes-by_second.ensures (of_second su c.args.k) (λ h m. w.by_second c.args.k h m c.requires.by_index.4.room c.requires.by_index.2) in
+    let thirds : (su : List ℕ) → Words c.args.numbers.now su →
+    InLanes (at c.args.sets.now c.args.z) (at c.args.sets.now c.args.x) (at c.args.sets.now c.args.y) (of_third su c.args.k) c.in_lanes-by_third.result =
+    λ su w. c.in_lanes-by_third.ensures (of_third su c.args.k) (λ h m. w.by_third c.args.k h m c.requires.by_index.4.room c.requires.by_index.2) in
     λ e su w q.
     c.leave.ensures _ _ _ q (union_both su _ _ _ _ c.requires.x_bound.1 c.requires.x_bound.0 c.requires.x_bound.2 (seconds su w) (thirds su w) c.full_lanes.ensures
     c.union_of-second.ensures c.union_of-last.ensures)

@@ -9,12 +9,14 @@ use Rattle.prune_constraints.proofs.along.Goals as goal
 
 pub in_lane-last-requires : goal.in_lane-last-requires
 unfolding at
-in_lane-last-requires c = record { base_bound = omega (arith, c.requires.by_index.4.room); bits_bound = (c.requires.x_bound.1, one_below c.requires.x_bound.0 c.requires.one_value c.lowest-u.ensures, c.requires.x_bound.2) }
+in_lane-last-requires c =
+    record { base_bound = omega (arith, c.requires.by_index.4.room); bits_bound = (c.requires.x_bound.1, one_below c.requires.x_bound.0 c.requires.one_value c.lowest-u.ensures, c.requires.x_bound.2) }
 
 pub returns-then-is_empty : goal.returns-then-is_empty
 unfolding at
 returns-then-is_empty c =
-    let seconds : (su : List ℕ) → Words c.args.numbers.now su → Halves c.args.numbers.now (UNIONS + 64 * c.args.k) (of_second su c.args.k) = λ su w h m. w.by_second c.args.k h m c.requires.by_index.4.room c.requires.by_index.2 in
+    let seconds : (su : List ℕ) → Words c.args.numbers.now su → Halves c.args.numbers.now (UNIONS + 64 * c.args.k) (of_second su c.args.k) =
+    λ su w h m. w.by_second c.args.k h m c.requires.by_index.4.room c.requires.by_index.2 in
     λ e su w q.
     along_dead q c.args.sets.now c.requires.sets c.requires.one_value c.lowest-u.ensures
     (λ v u o. (c.in_lane-last.ensures (of_second su c.args.k) (seconds su w)).lane_i v u o.0 o.1 o.2)
@@ -22,13 +24,16 @@ returns-then-is_empty c =
 
 pub in_lane-second-requires : goal.in_lane-second-requires
 unfolding at
-in_lane-second-requires c = record { base_bound = omega (arith, c.requires.by_index.4.room); bits_bound = (c.requires.x_bound.2, one_below c.requires.x_bound.0 c.requires.one_value c.lowest-u.ensures, c.requires.x_bound.1) }
+in_lane-second-requires c =
+    record { base_bound = omega (arith, c.requires.by_index.4.room); bits_bound = (c.requires.x_bound.2, one_below c.requires.x_bound.0 c.requires.one_value c.lowest-u.ensures, c.requires.x_bound.1) }
 
 pub returns-then-second-b : goal.returns-then-second-b
 unfolding at
 returns-then-second-b c =
-    let seconds : (su : List ℕ) → Words c.args.numbers.now su → Halves c.args.numbers.now (UNIONS + 64 * c.args.k) (of_second su c.args.k) = λ su w h m. w.by_second c.args.k h m c.requires.by_index.4.room c.requires.by_index.2 in
-    let thirds : (su : List ℕ) → Words c.args.numbers.now su → Halves c.args.numbers.now (UNIONS + 64 * c.args.k + 32) (of_third su c.args.k) = λ su w h m. w.by_third c.args.k h m c.requires.by_index.4.room c.requires.by_index.2 in
+    let seconds : (su : List ℕ) → Words c.args.numbers.now su → Halves c.args.numbers.now (UNIONS + 64 * c.args.k) (of_second su c.args.k) =
+    λ su w h m. w.by_second c.args.k h m c.requires.by_index.4.room c.requires.by_index.2 in
+    let thirds : (su : List ℕ) → Words c.args.numbers.now su → Halves c.args.numbers.now (UNIONS + 64 * c.args.k + 32) (of_third su c.args.k) =
+    λ su w h m. w.by_third c.args.k h m c.requires.by_index.4.room c.requires.by_index.2 in
     λ e su w q.
     along_same q c.args.sets.now c.requires.sets c.requires.one_value c.lowest-u.ensures
     (lane_supported2 su _ (at c.args.sets.now c.args.x) _ _ c.requires.x_bound.1 _ (c.in_lane-last.ensures _ (seconds su w)) (c.in_lane-second.ensures _ (thirds su w)))
@@ -38,8 +43,10 @@ returns-then-second-b c =
 pub returns : goal.returns
 unfolding at
 returns c =
-    let seconds : (su : List ℕ) → Words c.args.numbers.now su → Halves c.args.numbers.now (UNIONS + 64 * c.args.k) (of_second su c.args.k) = λ su w h m. w.by_second c.args.k h m c.requires.by_index.4.room c.requires.by_index.2 in
-    let thirds : (su : List ℕ) → Words c.args.numbers.now su → Halves c.args.numbers.now (UNIONS + 64 * c.args.k + 32) (of_third su c.args.k) = λ su w h m. w.by_third c.args.k h m c.requires.by_index.4.room c.requires.by_index.2 in
+    let seconds : (su : List ℕ) → Words c.args.numbers.now su → Halves c.args.numbers.now (UNIONS + 64 * c.args.k) (of_second su c.args.k) =
+    λ su w h m. w.by_second c.args.k h m c.requires.by_index.4.room c.requires.by_index.2 in
+    let thirds : (su : List ℕ) → Words c.args.numbers.now su → Halves c.args.numbers.now (UNIONS + 64 * c.args.k + 32) (of_third su c.args.k) =
+    λ su w h m. w.by_third c.args.k h m c.requires.by_index.4.room c.requires.by_index.2 in
     λ e su w q.
     along_cut q c.args.sets.now c.requires.sets c.requires.one_value c.lowest-u.ensures
     (lane_supported2 su _ (at c.args.sets.now c.args.x) _ _ c.requires.x_bound.1 _ (c.in_lane-last.ensures _ (seconds su w)) (c.in_lane-second.ensures _ (thirds su w)))

@@ -13,38 +13,69 @@ returns-then-next-eq0 c = λ p w. constrained_end p _ _ _ _ _ _ _ c.if-left-eq0.
 
 pub revise8-changed-requires : goal.revise8-changed-requires
 revise8-changed-requires c =
-    let choice : Chosen c.loop-left.left c.loop-left.next c.if-left-eq0.left c.if-left-eq0.next = (elim c.if-left-eq0.branch [ then-left-eq0+else-next-eq0 q ↦ some_due q.if-left-eq0.true (search rules) q.round-left.ensures q.left-is q.next-is | else-left-eq0 q ↦ inr (q.if-left-eq0.false, q.left-is, q.next-is) ]) in
-    let i = c.loop-left.invariant _ c.requires.constraints_pending.1 in let o = choice in record { sets = i.sixteen; constraints_held = (_, i.held, k_lt i o, k_full i o, k_narrow i o c.requires.constraints_pending.1 c.requires.numbers_bound, c.requires.numbers_bound) }
+    let choice : Chosen c.loop-left.left c.loop-left.next c.if-left-eq0.left c.if-left-eq0.next =
+    (elim c.if-left-eq0.branch [
+      | then-left-eq0+else-next-eq0 q ↦ some_due q.if-left-eq0.true (search rules) q.round-left.ensures q.left-is q.next-is
+      | else-left-eq0 q ↦
+          inr (q.if-left-eq0.false, q.left-is, q.next-is)
+    ]) in
+    let i = c.loop-left.invariant _ c.requires.constraints_pending.1 in let o = choice in
+    record { sets = i.sixteen; constraints_held = (_, i.held, k_lt i o, k_full i o, k_narrow i o c.requires.constraints_pending.1 c.requires.numbers_bound, c.requires.numbers_bound) }
 
 pub returns-then-changed-eq-DEAD : goal.returns-then-changed-eq-DEAD
 returns-then-changed-eq-DEAD c =
-    let choice : Chosen c.loop-left.left c.loop-left.next c.if-left-eq0.left c.if-left-eq0.next = (elim c.if-left-eq0.branch [ then-left-eq0+else-next-eq0 q ↦ some_due q.if-left-eq0.true (search rules) q.round-left.ensures q.left-is q.next-is | else-left-eq0 q ↦ inr (q.if-left-eq0.false, q.left-is, q.next-is) ]) in
+    let choice : Chosen c.loop-left.left c.loop-left.next c.if-left-eq0.left c.if-left-eq0.next =
+    (elim c.if-left-eq0.branch [
+      | then-left-eq0+else-next-eq0 q ↦ some_due q.if-left-eq0.true (search rules) q.round-left.ensures q.left-is q.next-is
+      | else-left-eq0 q ↦
+          inr (q.if-left-eq0.false, q.left-is, q.next-is)
+    ]) in
     let o = choice in λ p w. let i = c.loop-left.invariant p w in constrained_dead i o
     (c.revise8-changed.ensures p i.held (k_lt i o)) c.if-changed-eq-DEAD.true
 
 pub loop-left-smaller-then-changed-ne0 : goal.loop-left-smaller-then-changed-ne0
 loop-left-smaller-then-changed-ne0 c =
-    let choice : Chosen c.loop-left.left c.loop-left.next c.if-left-eq0.left c.if-left-eq0.next = (elim c.if-left-eq0.branch [ then-left-eq0+else-next-eq0 q ↦ some_due q.if-left-eq0.true (search rules) q.round-left.ensures q.left-is q.next-is | else-left-eq0 q ↦ inr (q.if-left-eq0.false, q.left-is, q.next-is) ]) in
+    let choice : Chosen c.loop-left.left c.loop-left.next c.if-left-eq0.left c.if-left-eq0.next =
+    (elim c.if-left-eq0.branch [
+      | then-left-eq0+else-next-eq0 q ↦ some_due q.if-left-eq0.true (search rules) q.round-left.ensures q.left-is q.next-is
+      | else-left-eq0 q ↦
+          inr (q.if-left-eq0.false, q.left-is, q.next-is)
+    ]) in
     let o = choice in let i = c.loop-left.invariant _
     c.requires.constraints_pending.1 in more_less i o (c.revise8-changed.ensures _ i.held (k_lt i o))
     c.if-changed-eq-DEAD.false (search rules) c.waiting-next.ensures (search rules) c.if-changed-ne0.true
 
 pub loop-left-preserved-then-changed-ne0 : goal.loop-left-preserved-then-changed-ne0
 loop-left-preserved-then-changed-ne0 c =
-    let choice : Chosen c.loop-left.left c.loop-left.next c.if-left-eq0.left c.if-left-eq0.next = (elim c.if-left-eq0.branch [ then-left-eq0+else-next-eq0 q ↦ some_due q.if-left-eq0.true (search rules) q.round-left.ensures q.left-is q.next-is | else-left-eq0 q ↦ inr (q.if-left-eq0.false, q.left-is, q.next-is) ]) in
+    let choice : Chosen c.loop-left.left c.loop-left.next c.if-left-eq0.left c.if-left-eq0.next =
+    (elim c.if-left-eq0.branch [
+      | then-left-eq0+else-next-eq0 q ↦ some_due q.if-left-eq0.true (search rules) q.round-left.ensures q.left-is q.next-is
+      | else-left-eq0 q ↦
+          inr (q.if-left-eq0.false, q.left-is, q.next-is)
+    ]) in
     let o = choice in λ p w. let i = c.loop-left.invariant p w in
     constrained_more i o (c.revise8-changed.ensures p i.held (k_lt i o)) c.if-changed-eq-DEAD.false (search rules)
     c.waiting-next.ensures
 
 pub loop-left-smaller : goal.loop-left-smaller
 loop-left-smaller c =
-    let choice : Chosen c.loop-left.left c.loop-left.next c.if-left-eq0.left c.if-left-eq0.next = (elim c.if-left-eq0.branch [ then-left-eq0+else-next-eq0 q ↦ some_due q.if-left-eq0.true (search rules) q.round-left.ensures q.left-is q.next-is | else-left-eq0 q ↦ inr (q.if-left-eq0.false, q.left-is, q.next-is) ]) in
+    let choice : Chosen c.loop-left.left c.loop-left.next c.if-left-eq0.left c.if-left-eq0.next =
+    (elim c.if-left-eq0.branch [
+      | then-left-eq0+else-next-eq0 q ↦ some_due q.if-left-eq0.true (search rules) q.round-left.ensures q.left-is q.next-is
+      | else-left-eq0 q ↦
+          inr (q.if-left-eq0.false, q.left-is, q.next-is)
+    ]) in
     let o = choice in let i = c.loop-left.invariant _
     c.requires.constraints_pending.1 in same_less i o (c.revise8-changed.ensures _ i.held (k_lt i o)) c.if-changed-eq-DEAD.false
 
 pub loop-left-preserved : goal.loop-left-preserved
 loop-left-preserved c =
-    let choice : Chosen c.loop-left.left c.loop-left.next c.if-left-eq0.left c.if-left-eq0.next = (elim c.if-left-eq0.branch [ then-left-eq0+else-next-eq0 q ↦ some_due q.if-left-eq0.true (search rules) q.round-left.ensures q.left-is q.next-is | else-left-eq0 q ↦ inr (q.if-left-eq0.false, q.left-is, q.next-is) ]) in
+    let choice : Chosen c.loop-left.left c.loop-left.next c.if-left-eq0.left c.if-left-eq0.next =
+    (elim c.if-left-eq0.branch [
+      | then-left-eq0+else-next-eq0 q ↦ some_due q.if-left-eq0.true (search rules) q.round-left.ensures q.left-is q.next-is
+      | else-left-eq0 q ↦
+          inr (q.if-left-eq0.false, q.left-is, q.next-is)
+    ]) in
     let o = choice in λ p w. let i = c.loop-left.invariant p w in constrained_same i o
     (c.revise8-changed.ensures p i.held (k_lt i o)) c.if-changed-eq-DEAD.false c.if-changed-ne0.false
 
@@ -53,17 +84,32 @@ touched-soon-requires c = tt
 
 pub overflow_cast-k : goal.overflow_cast-k
 overflow_cast-k c =
-    let choice : Chosen c.loop-left.left c.loop-left.next c.if-left-eq0.left c.if-left-eq0.next = (elim c.if-left-eq0.branch [ then-left-eq0+else-next-eq0 q ↦ some_due q.if-left-eq0.true (search rules) q.round-left.ensures q.left-is q.next-is | else-left-eq0 q ↦ inr (q.if-left-eq0.false, q.left-is, q.next-is) ]) in
+    let choice : Chosen c.loop-left.left c.loop-left.next c.if-left-eq0.left c.if-left-eq0.next =
+    (elim c.if-left-eq0.branch [
+      | then-left-eq0+else-next-eq0 q ↦ some_due q.if-left-eq0.true (search rules) q.round-left.ensures q.left-is q.next-is
+      | else-left-eq0 q ↦
+          inr (q.if-left-eq0.false, q.left-is, q.next-is)
+    ]) in
     let few : count_trailing_zeros 64 c.if-left-eq0.left < 32 = k_few (c.loop-left.invariant _ c.requires.constraints_pending.1) choice in
     omega (arith, few)
 
 pub overflow_sub-left : goal.overflow_sub-left
 overflow_sub-left c =
-    let choice : Chosen c.loop-left.left c.loop-left.next c.if-left-eq0.left c.if-left-eq0.next = (elim c.if-left-eq0.branch [ then-left-eq0+else-next-eq0 q ↦ some_due q.if-left-eq0.true (search rules) q.round-left.ensures q.left-is q.next-is | else-left-eq0 q ↦ inr (q.if-left-eq0.false, q.left-is, q.next-is) ]) in
+    let choice : Chosen c.loop-left.left c.loop-left.next c.if-left-eq0.left c.if-left-eq0.next =
+    (elim c.if-left-eq0.branch [
+      | then-left-eq0+else-next-eq0 q ↦ some_due q.if-left-eq0.true (search rules) q.round-left.ensures q.left-is q.next-is
+      | else-left-eq0 q ↦
+          inr (q.if-left-eq0.false, q.left-is, q.next-is)
+    ]) in
     let n = chosen_some choice in omega arith
 
 pub waiting-next-requires : goal.waiting-next-requires
 waiting-next-requires c =
-    let choice : Chosen c.loop-left.left c.loop-left.next c.if-left-eq0.left c.if-left-eq0.next = (elim c.if-left-eq0.branch [ then-left-eq0+else-next-eq0 q ↦ some_due q.if-left-eq0.true (search rules) q.round-left.ensures q.left-is q.next-is | else-left-eq0 q ↦ inr (q.if-left-eq0.false, q.left-is, q.next-is) ]) in
+    let choice : Chosen c.loop-left.left c.loop-left.next c.if-left-eq0.left c.if-left-eq0.next =
+    (elim c.if-left-eq0.branch [
+      | then-left-eq0+else-next-eq0 q ↦ some_due q.if-left-eq0.true (search rules) q.round-left.ensures q.left-is q.next-is
+      | else-left-eq0 q ↦
+          inr (q.if-left-eq0.false, q.left-is, q.next-is)
+    ]) in
     let few : count_trailing_zeros 64 c.if-left-eq0.left < 32 = k_few (c.loop-left.invariant _ c.requires.constraints_pending.1) choice in
     omega (arith, few)

@@ -9,7 +9,8 @@ loop-left-init c = λ p todo w. looked_begin w (search rules)
 
 pub look_up-changed-requires : goal.look_up-changed-requires
 look_up-changed-requires c =
-    let so_far : LookedSoFar c.requires.0 c.args.numbers.now c.args.supports.now c.args.sets.now c.loop-left.sets c.requires.1 c.args.some c.loop-left.left c.loop-left.all = c.loop-left.invariant c.requires.0 c.requires.1 c.requires.2 in
+    let so_far : LookedSoFar c.requires.0 c.args.numbers.now c.args.supports.now c.args.sets.now c.loop-left.sets c.requires.1 c.args.some c.loop-left.left c.loop-left.all =
+    c.loop-left.invariant c.requires.0 c.requires.1 c.requires.2 in
     let t = so_far in record { sets = t.so_far.sixteen; constraints_held = (_, t.so_far.held, look_next c.requires.2 t c.loop-left-test.true) }
 
 pub returns-then-changed-eq-DEAD : goal.returns-then-changed-eq-DEAD
@@ -27,7 +28,8 @@ returns c = λ p todo w. looked_end w (c.loop-left.invariant p todo w) c.loop-le
 
 pub overflow_cast-left : goal.overflow_cast-left
 overflow_cast-left c =
-    let so_far : LookedSoFar c.requires.0 c.args.numbers.now c.args.supports.now c.args.sets.now c.loop-left.sets c.requires.1 c.args.some c.loop-left.left c.loop-left.all = c.loop-left.invariant c.requires.0 c.requires.1 c.requires.2 in
+    let so_far : LookedSoFar c.requires.0 c.args.numbers.now c.args.supports.now c.args.sets.now c.loop-left.sets c.requires.1 c.args.some c.loop-left.left c.loop-left.all =
+    c.loop-left.invariant c.requires.0 c.requires.1 c.requires.2 in
     omega (arith, look_few c.requires.2 so_far c.loop-left-test.true)
 
 pub loop-left-smaller : goal.loop-left-smaller

@@ -16,7 +16,8 @@ pub returns-then-quiet16 : goal.returns-then-quiet16
 unfolding at
 returns-then-quiet16 c =
     λ e q.
-    along_same q c.args.sets.now c.requires.sets c.requires.one_value.0 c.lowest.ensures (c.quiet16.ensures c.if-quiet16.true) c.requires.one_value.1 (c.requires.sets.1 _) (c.requires.sets.1 _) refl refl
+    along_same q c.args.sets.now c.requires.sets c.requires.one_value.0 c.lowest.ensures (c.quiet16.ensures c.if-quiet16.true) c.requires.one_value.1 (c.requires.sets.1 _) (c.requires.sets.1 _) refl
+    refl
 
 pub supported2-r-requires : goal.supported2-r-requires
 unfolding at

@@ -13,8 +13,7 @@ unfolding at
 loop-b-preserved c =
     let some : c.loop-b.left.bits ≡ 0 → ⊥ = eqb-false _ 0 (sym c.is_empty.ensures ∙ c.loop-b-test.true) in
     let support_is : c.common-t.result.bits ≡ bit_and (at c.args.supports.now (c.args.base + c.lowest-v.result)) c.args.b.bits = c.common-t.ensures ∙ sym (common_op_r _ _ (search rules)) in
-    let x = support_is in
-    (
+    let x = support_is in (
       small _ _ c.union-last.ensures,
       supporting2_turn _ _ _ _ 16 _ _ _ c.loop-b.invariant.1 some c.lowest-v.ensures c.without_lowest-left.ensures (search rules)
           (c.one_if.ensures ∙ ap (λ (z : Bool). one_if (not z) c.lowest-v.result) (c.is_empty-in-loop-b.ensures ∙ ap (λ (n : ℕ). eqb n 0) x))

@@ -10,7 +10,8 @@ loop-left-init c = λ p w. arcs_begin w (search rules) c.requires.settled
 pub cut_by-changed-requires : goal.cut_by-changed-requires
 unfolding at
 cut_by-changed-requires c =
-    let so_far : ArcsSoFar c.requires.arcs_pending.0 c.args.sets.now c.loop-left.sets c.loop-left.left c.loop-left.all c.args.low = c.loop-left.invariant c.requires.arcs_pending.0 c.requires.arcs_pending.1 in
+    let so_far : ArcsSoFar c.requires.arcs_pending.0 c.args.sets.now c.loop-left.sets c.loop-left.left c.loop-left.all c.args.low =
+    c.loop-left.invariant c.requires.arcs_pending.0 c.requires.arcs_pending.1 in
     (_, arcs_ready c.requires.arcs_pending.1 so_far c.loop-left-test.true)
 
 pub returns-then-changed-eq-DEAD : goal.returns-then-changed-eq-DEAD
@@ -23,7 +24,8 @@ returns-then-changed-eq-DEAD c =
 pub loop-left-smaller : goal.loop-left-smaller
 unfolding at
 loop-left-smaller c =
-    let so_far : ArcsSoFar c.requires.arcs_pending.0 c.args.sets.now c.loop-left.sets c.loop-left.left c.loop-left.all c.args.low = c.loop-left.invariant c.requires.arcs_pending.0 c.requires.arcs_pending.1 in
+    let so_far : ArcsSoFar c.requires.arcs_pending.0 c.args.sets.now c.loop-left.sets c.loop-left.left c.loop-left.all c.args.low =
+    c.loop-left.invariant c.requires.arcs_pending.0 c.requires.arcs_pending.1 in
     let t = so_far in
     arcs_less c.requires.arcs_pending.1 t c.loop-left-test.true (c.cut_by-changed.ensures _ (arcs_ready c.requires.arcs_pending.1 t c.loop-left-test.true)) c.if-changed-eq-DEAD.false (search rules)
 
@@ -39,5 +41,6 @@ returns c = λ p w. arcs_end w (c.loop-left.invariant p w) c.loop-left-test.fals
 
 pub overflow_cast-x : goal.overflow_cast-x
 overflow_cast-x c =
-    let so_far : ArcsSoFar c.requires.arcs_pending.0 c.args.sets.now c.loop-left.sets c.loop-left.left c.loop-left.all c.args.low = c.loop-left.invariant c.requires.arcs_pending.0 c.requires.arcs_pending.1 in
+    let so_far : ArcsSoFar c.requires.arcs_pending.0 c.args.sets.now c.loop-left.sets c.loop-left.left c.loop-left.all c.args.low =
+    c.loop-left.invariant c.requires.arcs_pending.0 c.requires.arcs_pending.1 in
     omega (arith, arcs_lt c.requires.arcs_pending.1 so_far c.loop-left-test.true)

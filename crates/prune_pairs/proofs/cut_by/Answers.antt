@@ -11,13 +11,12 @@ slice_bounds-cut_row-end c =
 
 pub cut_row-requires : goal.cut_row-requires
 unfolding at
-cut_row-requires c =
-    (
-      search rules,
-      search rules,
-      row_spared c.requires.1 c.lowest.ensures (sym c.without_lowest.ensures ∙ eqb-true _ 0
-          (sym c.is_empty.ensures ∙ c.if-is_empty.true)) (omega (arith, x_lt c.requires.1, low_lt c.requires.1 _ c.lowest.ensures)),
-    )
+cut_row-requires c = (
+  search rules,
+  search rules,
+  row_spared c.requires.1 c.lowest.ensures (sym c.without_lowest.ensures ∙ eqb-true _ 0
+      (sym c.is_empty.ensures ∙ c.if-is_empty.true)) (omega (arith, x_lt c.requires.1, low_lt c.requires.1 _ c.lowest.ensures)),
+)
 
 pub returns-then-is_empty : goal.returns-then-is_empty
 unfolding at

@@ -50,7 +50,8 @@ returns c =
 
 pub overflow_add-at : goal.overflow_add-at
 overflow_add-at c =
-    let inside : c.loop-i.at + c.args.n ≤ length c.args.list.now = row_inside c.args.n c.loop-i.i c.args.plans c.loop-i.at (length c.args.list.now) c.loop-i-test.true c.loop-i.invariant.2 c.requires.0 in
+    let inside : c.loop-i.at + c.args.n ≤ length c.args.list.now =
+    row_inside c.args.n c.loop-i.i c.args.plans c.loop-i.at (length c.args.list.now) c.loop-i-test.true c.loop-i.invariant.2 c.requires.0 in
     omega (arith, inside)
 
 pub slice_bounds-plan_line-count : goal.slice_bounds-plan_line-count
@@ -61,12 +62,14 @@ slice_bounds-plan_line-start c = omega arith
 
 pub slice_bounds-plan_line-end : goal.slice_bounds-plan_line-end
 slice_bounds-plan_line-end c =
-    let inside : c.loop-i.at + c.args.n ≤ length c.args.list.now = row_inside c.args.n c.loop-i.i c.args.plans c.loop-i.at (length c.args.list.now) c.loop-i-test.true c.loop-i.invariant.2 c.requires.0 in
+    let inside : c.loop-i.at + c.args.n ≤ length c.args.list.now =
+    row_inside c.args.n c.loop-i.i c.args.plans c.loop-i.at (length c.args.list.now) c.loop-i-test.true c.loop-i.invariant.2 c.requires.0 in
     omega (arith, inside)
 
 pub overflow_add-at-in-loop-i : goal.overflow_add-at-in-loop-i
 overflow_add-at-in-loop-i c =
-    let inside : c.loop-i.at + c.args.n ≤ length c.args.list.now = row_inside c.args.n c.loop-i.i c.args.plans c.loop-i.at (length c.args.list.now) c.loop-i-test.true c.loop-i.invariant.2 c.requires.0 in
+    let inside : c.loop-i.at + c.args.n ≤ length c.args.list.now =
+    row_inside c.args.n c.loop-i.i c.args.plans c.loop-i.at (length c.args.list.now) c.loop-i-test.true c.loop-i.invariant.2 c.requires.0 in
     omega (arith, inside)
 
 pub overflow_add-i : goal.overflow_add-i

@@ -4,8 +4,17 @@ use Rattle.report.proofs.{Lines.front_taken, Lines.front_inside, Lines.alone_fit
 use Rattle.report.proofs.refused.Goals as goal
 
 pub put_report-requires : goal.put_report-requires
-put_report-requires c =
-    (omega arith, omega arith, omega arith, omega (arith, length-take-le c.refused_line-length.result c.refused_line-length.new.out (front_inside c.refused_line-length.ensures), front_inside c.refused_line-length.ensures, c.refused_line-length.auto.out))
+put_report-requires c = (
+  omega arith,
+  omega arith,
+  omega arith,
+  omega (
+    arith,
+    length-take-le c.refused_line-length.result c.refused_line-length.new.out (front_inside c.refused_line-length.ensures),
+    front_inside c.refused_line-length.ensures,
+    c.refused_line-length.auto.out,
+  ),
+)
 
 pub returns : goal.returns
 returns c =

@@ -7,8 +7,17 @@ use Rattle.report.proofs.{Lines.front_taken, Lines.front_inside, Lines.ended_fit
 use Rattle.report.proofs.uncounted.Goals as goal
 
 pub put_report-requires : goal.put_report-requires
-put_report-requires c =
-    (search rules, search rules, search rules, omega (arith, length-take-le c.dash_line-length.result c.dash_line-length.new.out (front_inside c.dash_line-length.ensures), front_inside c.dash_line-length.ensures, c.dash_line-length.auto.out))
+put_report-requires c = (
+  search rules,
+  search rules,
+  search rules,
+  omega (
+    arith,
+    length-take-le c.dash_line-length.result c.dash_line-length.new.out (front_inside c.dash_line-length.ensures),
+    front_inside c.dash_line-length.ensures,
+    c.dash_line-length.auto.out,
+  ),
+)
 
 pub returns : goal.returns
 unfolding ending_line

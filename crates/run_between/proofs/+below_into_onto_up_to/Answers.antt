@@ -16,7 +16,8 @@ pub below-returns-then-from-eq0 : goal.below-returns-then-from-eq0
 unfolding at
 below-returns-then-from-eq0 t c = λ p h.
     let some : 0 < length c.args.upto.now = omega arith in
-    along p _ _ [] [] _ _ _ _ (below_open p _ _ _ _ _ _ _ _ c.args.from.now c.args.upto.now h some c.if-from-eq0.true) (c.up_to.ensures p (below_open_asks p _ _ _ _ _ _ _ _ c.args.from.now c.args.upto.now h some))
+    along p _ _ [] [] _ _ _ _ (below_open p _ _ _ _ _ _ _ _ c.args.from.now c.args.upto.now h some c.if-from-eq0.true)
+    (c.up_to.ensures p (below_open_asks p _ _ _ _ _ _ _ _ c.args.from.now c.args.upto.now h some))
 
 pub below-returns-then-b-a : goal.below-returns-then-b-a
 unfolding at
@@ -57,7 +58,9 @@ below-returns-then-part-ne-ALL t c = λ p h.
     let some : 0 < length c.args.upto.now = omega arith in
     let more : 0 < length c.args.from.now = omega arith in
     let less : at c.args.from.now 0 < at c.args.upto.now 0 = omega arith in
-    below_stops p _ _ _ _ _ _ _ _ c.args.from.now c.args.upto.now h some more less _ (part_to_end c.args.from.now 1) _ _ _ _ _ (c.into-part.ensures p (below_into p _ _ _ _ _ _ _ _ c.args.from.now c.args.upto.now h some more _ (part_to_end c.args.from.now 1) _ c.wide-low.ensures.0 c.wide-low.ensures.1)) c.if-part-ne-ALL.true
+    below_stops p _ _ _ _ _ _ _ _ c.args.from.now c.args.upto.now h some more less _ (part_to_end c.args.from.now 1) _ _ _ _ _
+    (c.into-part.ensures p (below_into p _ _ _ _ _ _ _ _ c.args.from.now c.args.upto.now h some more _ (part_to_end c.args.from.now 1) _ c.wide-low.ensures.0 c.wide-low.ensures.1))
+    c.if-part-ne-ALL.true
 
 pub below-up_to-requires-2 : goal.below-up_to-requires-2
 unfolding at
@@ -66,8 +69,15 @@ below-up_to-requires-2 t c =
     let h = c.requires.1 in
     let some : 0 < length c.args.upto.now = omega arith in
     let more : 0 < length c.args.from.now = omega arith in
-    let less : at c.args.from.now 0 < at c.args.upto.now 0 = omega arith in
-    (omega (arith, c.decreases), (p, below_up_asks p _ _ _ _ _ _ _ _ c.args.from.now c.args.upto.now h some more less _ (part_to_end c.args.from.now 1) _ _ _ _ _ (c.into-part.ensures p (below_into p _ _ _ _ _ _ _ _ c.args.from.now c.args.upto.now h some more _ (part_to_end c.args.from.now 1) _ c.wide-low.ensures.0 c.wide-low.ensures.1)) _ (ap (λ (x : ℕ). x + 1) c.wide-low.ensures.0)))
+    let less : at c.args.from.now 0 < at c.args.upto.now 0 = omega arith in (
+      omega (arith, c.decreases),
+      (
+        p,
+        below_up_asks p _ _ _ _ _ _ _ _ c.args.from.now c.args.upto.now h some more less _ (part_to_end c.args.from.now 1) _ _ _ _ _
+            (c.into-part.ensures p (below_into p _ _ _ _ _ _ _ _ c.args.from.now c.args.upto.now h some more _ (part_to_end c.args.from.now 1) _ c.wide-low.ensures.0 c.wide-low.ensures.1)) _
+            (ap (λ (x : ℕ). x + 1) c.wide-low.ensures.0),
+      ),
+    )
 
 pub below-returns : goal.below-returns
 unfolding at
@@ -75,8 +85,12 @@ below-returns t c = λ p h.
     let some : 0 < length c.args.upto.now = omega arith in
     let more : 0 < length c.args.from.now = omega arith in
     let less : at c.args.from.now 0 < at c.args.upto.now 0 = omega arith in
-    below_then p _ _ _ _ _ _ _ _ c.args.from.now c.args.upto.now h some more less _ (part_to_end c.args.from.now 1) _ _ _ _ _ (c.into-part.ensures p (below_into p _ _ _ _ _ _ _ _ c.args.from.now c.args.upto.now h some more _ (part_to_end c.args.from.now 1) _ c.wide-low.ensures.0 c.wide-low.ensures.1)) c.if-part-ne-ALL.false _ (ap (λ (x : ℕ). x + 1) c.wide-low.ensures.0) _ _ _ _ _
-    (c.up_to-2.ensures p (below_up_asks p _ _ _ _ _ _ _ _ c.args.from.now c.args.upto.now h some more less _ (part_to_end c.args.from.now 1) _ _ _ _ _ (c.into-part.ensures p (below_into p _ _ _ _ _ _ _ _ c.args.from.now c.args.upto.now h some more _ (part_to_end c.args.from.now 1) _ c.wide-low.ensures.0 c.wide-low.ensures.1)) _ (ap (λ (x : ℕ). x + 1) c.wide-low.ensures.0)))
+    below_then p _ _ _ _ _ _ _ _ c.args.from.now c.args.upto.now h some more less _ (part_to_end c.args.from.now 1) _ _ _ _ _
+    (c.into-part.ensures p (below_into p _ _ _ _ _ _ _ _ c.args.from.now c.args.upto.now h some more _ (part_to_end c.args.from.now 1) _ c.wide-low.ensures.0 c.wide-low.ensures.1))
+    c.if-part-ne-ALL.false _ (ap (λ (x : ℕ). x + 1) c.wide-low.ensures.0) _ _ _ _ _
+    (c.up_to-2.ensures p (below_up_asks p _ _ _ _ _ _ _ _ c.args.from.now c.args.upto.now h some more less _ (part_to_end c.args.from.now 1) _ _ _ _ _
+    (c.into-part.ensures p (below_into p _ _ _ _ _ _ _ _ c.args.from.now c.args.upto.now h some more _ (part_to_end c.args.from.now 1) _ c.wide-low.ensures.0 c.wide-low.ensures.1)) _
+    (ap (λ (x : ℕ). x + 1) c.wide-low.ensures.0)))
 
 pub into-returns-then-k-numbers : goal.into-returns-then-k-numbers
 unfolding at
@@ -91,27 +105,41 @@ into-step-requires t c =
 
 pub into-returns-then-not-step : goal.into-returns-then-not-step
 unfolding at
-into-returns-then-not-step t c = λ p h. into_ends p _ _ _ _ _ _ _ _ _ h _ _ _ (c.step.ensures p _ _ (into_asks p _ _ _ _ _ _ _ _ _ h (λ z. c.if-k-numbers.false (z ∙ sym h.prefix.ready.indexed.numbered.variables)))) c.if-not-step.true _
+into-returns-then-not-step t c =
+    λ p h. into_ends p _ _ _ _ _ _ _ _ _ h _ _ _ (c.step.ensures p _ _ (into_asks p _ _ _ _ _ _ _ _ _ h (λ z. c.if-k-numbers.false (z ∙ sym h.prefix.ready.indexed.numbered.variables))))
+    c.if-not-step.true _
 
 pub into-below-requires : goal.into-below-requires
 unfolding at
 into-below-requires t c =
     let p = c.requires.0 in
     let h = c.requires.1 in
-    let few = into_few p _ _ _ _ _ _ _ _ _ h in
-    (omega (arith, c.decreases, few), (p, into_next p _ _ _ _ _ _ _ _ _ h _ _ _ (c.step.ensures p _ _ (into_asks p _ _ _ _ _ _ _ _ _ h (λ z. c.if-k-numbers.false (z ∙ sym h.prefix.ready.indexed.numbered.variables)))) c.if-not-step.false))
+    let few = into_few p _ _ _ _ _ _ _ _ _ h in (
+      omega (arith, c.decreases, few),
+      (
+        p,
+        into_next p _ _ _ _ _ _ _ _ _ h _ _ _ (c.step.ensures p _ _ (into_asks p _ _ _ _ _ _ _ _ _ h (λ z. c.if-k-numbers.false (z ∙ sym h.prefix.ready.indexed.numbered.variables))))
+            c.if-not-step.false,
+      ),
+    )
 
 pub into-returns : goal.into-returns
 unfolding at
-into-returns t c = λ p h. into_then p _ _ _ _ _ _ _ _ _ h _ _ _ (c.step.ensures p _ _ (into_asks p _ _ _ _ _ _ _ _ _ h (λ z. c.if-k-numbers.false (z ∙ sym h.prefix.ready.indexed.numbered.variables)))) c.if-not-step.false _ _ _ _ _ _ (c.below.ensures p (into_next p _ _ _ _ _ _ _ _ _ h _ _ _ (c.step.ensures p _ _ (into_asks p _ _ _ _ _ _ _ _ _ h (λ z. c.if-k-numbers.false (z ∙ sym h.prefix.ready.indexed.numbered.variables)))) c.if-not-step.false))
+into-returns t c = λ p h. into_then p _ _ _ _ _ _ _ _ _ h _ _ _
+    (c.step.ensures p _ _ (into_asks p _ _ _ _ _ _ _ _ _ h (λ z. c.if-k-numbers.false (z ∙ sym h.prefix.ready.indexed.numbered.variables)))) c.if-not-step.false _ _ _ _ _ _
+    (c.below.ensures p (into_next p _ _ _ _ _ _ _ _ _ h _ _ _
+    (c.step.ensures p _ _ (into_asks p _ _ _ _ _ _ _ _ _ h (λ z. c.if-k-numbers.false (z ∙ sym h.prefix.ready.indexed.numbered.variables)))) c.if-not-step.false))
 
 pub onto-returns-then-not-contains : goal.onto-returns-then-not-contains
 unfolding at
-onto-returns-then-not-contains t c = λ p h. onto_out p _ _ _ _ _ _ _ _ c.args.v c.args.upto.now h (onto_absent p _ _ _ _ _ _ _ _ c.args.v c.args.upto.now h _ _ c.wide.ensures.0 c.contains.ensures (ap not c.if-not-contains.true))
+onto-returns-then-not-contains t c =
+    λ p h. onto_out p _ _ _ _ _ _ _ _ c.args.v c.args.upto.now h (onto_absent p _ _ _ _ _ _ _ _ c.args.v c.args.upto.now h _ _ c.wide.ensures.0 c.contains.ensures (ap not c.if-not-contains.true))
 
 pub onto-returns-then-tally-limit : goal.onto-returns-then-tally-limit
 unfolding at
-onto-returns-then-tally-limit t c = λ p h. onto_spent p _ _ _ _ _ _ _ _ c.args.v c.args.upto.now h (onto_there p _ _ _ _ _ _ _ _ c.args.v c.args.upto.now h _ _ c.wide.ensures.0 c.contains.ensures (ap not c.if-not-contains.false)) (c.if-tally-limit.true ∙ c.limit.ensures)
+onto-returns-then-tally-limit t c =
+    λ p h. onto_spent p _ _ _ _ _ _ _ _ c.args.v c.args.upto.now h (onto_there p _ _ _ _ _ _ _ _ c.args.v c.args.upto.now h _ _ c.wide.ensures.0 c.contains.ensures (ap not c.if-not-contains.false))
+    (c.if-tally-limit.true ∙ c.limit.ensures)
 
 pub onto-with_node-next-requires : goal.onto-with_node-next-requires
 unfolding at
@@ -119,18 +147,30 @@ onto-with_node-next-requires t c =
     let p = c.requires.0 in
     let h = c.requires.1 in
     subst (λ (x : ℕ). Countable x (tally_in c.args.tally)) (sym c.variable_at-x.ensures)
-    (onto_counts p _ _ _ _ _ _ _ _ c.args.v c.args.upto.now h (onto_there p _ _ _ _ _ _ _ _ c.args.v c.args.upto.now h _ _ c.wide.ensures.0 c.contains.ensures (ap not c.if-not-contains.false)) (λ z. c.if-tally-limit.false (z ∙ sym c.limit.ensures)))
+    (onto_counts p _ _ _ _ _ _ _ _ c.args.v c.args.upto.now h (onto_there p _ _ _ _ _ _ _ _ c.args.v c.args.upto.now h _ _ c.wide.ensures.0 c.contains.ensures (ap not c.if-not-contains.false))
+    (λ z. c.if-tally-limit.false (z ∙ sym c.limit.ensures)))
 
 pub onto-put_node-requires : goal.onto-put_node-requires
 unfolding at
 onto-put_node-requires t c =
     let p = c.requires.0 in
-    let h = c.requires.1 in
-    (p, _, _, (onto_asks p _ _ _ _ _ _ _ _ c.args.v c.args.upto.now h (onto_there p _ _ _ _ _ _ _ _ c.args.v c.args.upto.now h _ _ c.wide.ensures.0 c.contains.ensures (ap not c.if-not-contains.false)) (λ z. c.if-tally-limit.false (z ∙ sym c.limit.ensures))))
+    let h = c.requires.1 in (
+      p,
+      _,
+      _,
+      (onto_asks p _ _ _ _ _ _ _ _ c.args.v c.args.upto.now h
+          (onto_there p _ _ _ _ _ _ _ _ c.args.v c.args.upto.now h _ _ c.wide.ensures.0 c.contains.ensures (ap not c.if-not-contains.false)) (λ z. c.if-tally-limit.false (z ∙ sym c.limit.ensures))),
+    )
 
 pub onto-returns-then-not-put_node : goal.onto-returns-then-not-put_node
 unfolding at
-onto-returns-then-not-put_node t c = λ p h. onto_dead p _ _ _ _ _ _ _ _ c.args.v c.args.upto.now h (onto_there p _ _ _ _ _ _ _ _ c.args.v c.args.upto.now h _ _ c.wide.ensures.0 c.contains.ensures (ap not c.if-not-contains.false)) (λ z. c.if-tally-limit.false (z ∙ sym c.limit.ensures)) _ _ _ (c.put_node.ensures p _ _ (onto_asks p _ _ _ _ _ _ _ _ c.args.v c.args.upto.now h (onto_there p _ _ _ _ _ _ _ _ c.args.v c.args.upto.now h _ _ c.wide.ensures.0 c.contains.ensures (ap not c.if-not-contains.false)) (λ z. c.if-tally-limit.false (z ∙ sym c.limit.ensures)))) _
+onto-returns-then-not-put_node t c =
+    λ p h. onto_dead p _ _ _ _ _ _ _ _ c.args.v c.args.upto.now h (onto_there p _ _ _ _ _ _ _ _ c.args.v c.args.upto.now h _ _ c.wide.ensures.0 c.contains.ensures (ap not c.if-not-contains.false))
+    (λ z. c.if-tally-limit.false (z ∙ sym c.limit.ensures)) _ _ _
+    (c.put_node.ensures p _ _
+    (onto_asks p _ _ _ _ _ _ _ _ c.args.v c.args.upto.now h
+    (onto_there p _ _ _ _ _ _ _ _ c.args.v c.args.upto.now h _ _ c.wide.ensures.0 c.contains.ensures (ap not c.if-not-contains.false))
+    (λ z. c.if-tally-limit.false (z ∙ sym c.limit.ensures)))) _
     (c.with_node-next.ensures.is ∙ ap (λ (x : ℕ). with_node x (tally_in c.args.tally)) c.variable_at-x.ensures) c.if-not-put_node.true
 
 pub onto-below-requires : goal.onto-below-requires
@@ -142,15 +182,30 @@ onto-below-requires t c =
       omega (arith, c.decreases, few),
       (
         p,
-        onto_next p _ _ _ _ _ _ _ _ c.args.v c.args.upto.now h (onto_there p _ _ _ _ _ _ _ _ c.args.v c.args.upto.now h _ _ c.wide.ensures.0 c.contains.ensures (ap not c.if-not-contains.false)) (λ z. c.if-tally-limit.false (z ∙ sym c.limit.ensures)) _ _ _ (c.put_node.ensures p _ _ (onto_asks p _ _ _ _ _ _ _ _ c.args.v c.args.upto.now h (onto_there p _ _ _ _ _ _ _ _ c.args.v c.args.upto.now h _ _ c.wide.ensures.0 c.contains.ensures (ap not c.if-not-contains.false)) (λ z. c.if-tally-limit.false (z ∙ sym c.limit.ensures)))) _
+        onto_next p _ _ _ _ _ _ _ _ c.args.v c.args.upto.now h (onto_there p _ _ _ _ _ _ _ _ c.args.v c.args.upto.now h _ _ c.wide.ensures.0 c.contains.ensures (ap not c.if-not-contains.false))
+            (λ z. c.if-tally-limit.false (z ∙ sym c.limit.ensures)) _ _ _
+            (c.put_node.ensures p _ _
+            (onto_asks p _ _ _ _ _ _ _ _ c.args.v c.args.upto.now h
+            (onto_there p _ _ _ _ _ _ _ _ c.args.v c.args.upto.now h _ _ c.wide.ensures.0 c.contains.ensures (ap not c.if-not-contains.false))
+            (λ z. c.if-tally-limit.false (z ∙ sym c.limit.ensures)))) _
             (c.with_node-next.ensures.is ∙ ap (λ (x : ℕ). with_node x (tally_in c.args.tally)) c.variable_at-x.ensures) c.if-not-put_node.false,
       ),
     )
 
 pub onto-returns : goal.onto-returns
 unfolding at
-onto-returns t c = λ p h. onto_then p _ _ _ _ _ _ _ _ c.args.v c.args.upto.now h (onto_there p _ _ _ _ _ _ _ _ c.args.v c.args.upto.now h _ _ c.wide.ensures.0 c.contains.ensures (ap not c.if-not-contains.false)) (λ z. c.if-tally-limit.false (z ∙ sym c.limit.ensures)) _ _ _ (c.put_node.ensures p _ _ (onto_asks p _ _ _ _ _ _ _ _ c.args.v c.args.upto.now h (onto_there p _ _ _ _ _ _ _ _ c.args.v c.args.upto.now h _ _ c.wide.ensures.0 c.contains.ensures (ap not c.if-not-contains.false)) (λ z. c.if-tally-limit.false (z ∙ sym c.limit.ensures)))) _
-    (c.with_node-next.ensures.is ∙ ap (λ (x : ℕ). with_node x (tally_in c.args.tally)) c.variable_at-x.ensures) _ _ _ _ _ (c.below.ensures p (onto_next p _ _ _ _ _ _ _ _ c.args.v c.args.upto.now h (onto_there p _ _ _ _ _ _ _ _ c.args.v c.args.upto.now h _ _ c.wide.ensures.0 c.contains.ensures (ap not c.if-not-contains.false)) (λ z. c.if-tally-limit.false (z ∙ sym c.limit.ensures)) _ _ _ (c.put_node.ensures p _ _ (onto_asks p _ _ _ _ _ _ _ _ c.args.v c.args.upto.now h (onto_there p _ _ _ _ _ _ _ _ c.args.v c.args.upto.now h _ _ c.wide.ensures.0 c.contains.ensures (ap not c.if-not-contains.false)) (λ z. c.if-tally-limit.false (z ∙ sym c.limit.ensures)))) _
+onto-returns t c = λ p h. onto_then p _ _ _ _ _ _ _ _ c.args.v c.args.upto.now h
+    (onto_there p _ _ _ _ _ _ _ _ c.args.v c.args.upto.now h _ _ c.wide.ensures.0 c.contains.ensures (ap not c.if-not-contains.false)) (λ z. c.if-tally-limit.false (z ∙ sym c.limit.ensures)) _ _ _
+    (c.put_node.ensures p _ _
+    (onto_asks p _ _ _ _ _ _ _ _ c.args.v c.args.upto.now h (onto_there p _ _ _ _ _ _ _ _ c.args.v c.args.upto.now h _ _ c.wide.ensures.0 c.contains.ensures (ap not c.if-not-contains.false))
+    (λ z. c.if-tally-limit.false (z ∙ sym c.limit.ensures)))) _
+    (c.with_node-next.ensures.is ∙ ap (λ (x : ℕ). with_node x (tally_in c.args.tally)) c.variable_at-x.ensures) _ _ _ _ _
+    (c.below.ensures p (onto_next p _ _ _ _ _ _ _ _ c.args.v c.args.upto.now h
+    (onto_there p _ _ _ _ _ _ _ _ c.args.v c.args.upto.now h _ _ c.wide.ensures.0 c.contains.ensures (ap not c.if-not-contains.false)) (λ z. c.if-tally-limit.false (z ∙ sym c.limit.ensures))
+    _ _ _ (c.put_node.ensures p _ _
+    (onto_asks p _ _ _ _ _ _ _ _ c.args.v c.args.upto.now h
+    (onto_there p _ _ _ _ _ _ _ _ c.args.v c.args.upto.now h _ _ c.wide.ensures.0 c.contains.ensures (ap not c.if-not-contains.false))
+    (λ z. c.if-tally-limit.false (z ∙ sym c.limit.ensures)))) _
     (c.with_node-next.ensures.is ∙ ap (λ (x : ℕ). with_node x (tally_in c.args.tally)) c.variable_at-x.ensures) c.if-not-put_node.false))
 
 pub up_to-walk_counted-requires : goal.up_to-walk_counted-requires
@@ -162,7 +217,8 @@ up_to-walk_counted-requires t c =
 
 pub up_to-returns-then-k-numbers : goal.up_to-returns-then-k-numbers
 unfolding at
-up_to-returns-then-k-numbers t c = λ p h. up_last p _ _ _ _ _ _ _ _ _ _ h _ _ c.values_within-all.ensures _ _ _ _ _ (c.walk_counted.ensures p (up_values p _ _ _ _ _ _ _ _ _ _ h _ _ c.values_within-all.ensures)) _
+up_to-returns-then-k-numbers t c =
+    λ p h. up_last p _ _ _ _ _ _ _ _ _ _ h _ _ c.values_within-all.ensures _ _ _ _ _ (c.walk_counted.ensures p (up_values p _ _ _ _ _ _ _ _ _ _ h _ _ c.values_within-all.ensures)) _
     (ap (λ (x : ℕ). x + 1) c.wide-high.ensures.0) (c.if-k-numbers.true ∙ h.prefix.ready.indexed.numbered.variables)
 
 pub up_to-walk_counted-part-requires : goal.up_to-walk_counted-part-requires
@@ -174,7 +230,9 @@ up_to-walk_counted-part-requires t c =
 
 pub up_to-returns-then-part-ne-ALL : goal.up_to-returns-then-part-ne-ALL
 unfolding at
-up_to-returns-then-part-ne-ALL t c = λ p h. up_stops p _ _ _ _ _ _ _ _ _ _ h _ _ c.values_within-m.ensures _ _ _ _ _ (c.walk_counted-part.ensures p (up_values p _ _ _ _ _ _ _ _ _ _ h _ _ c.values_within-m.ensures)) c.wide-high.ensures.0 _ c.if-part-ne-ALL.true
+up_to-returns-then-part-ne-ALL t c =
+    λ p h. up_stops p _ _ _ _ _ _ _ _ _ _ h _ _ c.values_within-m.ensures _ _ _ _ _ (c.walk_counted-part.ensures p (up_values p _ _ _ _ _ _ _ _ _ _ h _ _ c.values_within-m.ensures))
+    c.wide-high.ensures.0 _ c.if-part-ne-ALL.true
 
 pub up_to-onto-requires : goal.up_to-onto-requires
 unfolding at
@@ -191,6 +249,9 @@ up_to-onto-requires t c =
 
 pub up_to-returns : goal.up_to-returns
 unfolding at
-up_to-returns t c = λ p h. up_then p _ _ _ _ _ _ _ _ _ _ h _ _ c.values_within-m.ensures _ _ _ _ _ (c.walk_counted-part.ensures p (up_values p _ _ _ _ _ _ _ _ _ _ h _ _ c.values_within-m.ensures)) c.wide-high.ensures.0 c.if-part-ne-ALL.false _ refl _
-    (part_to_end c.args.upto.now 1) _ _ _ _ _ (c.onto.ensures p (up_asks p _ _ _ _ _ _ _ _ _ _ h _ _ c.values_within-m.ensures _ _ _ _ _ (c.walk_counted-part.ensures p (up_values p _ _ _ _ _ _ _ _ _ _ h _ _ c.values_within-m.ensures)) c.wide-high.ensures.0
+up_to-returns t c = λ p h. up_then p _ _ _ _ _ _ _ _ _ _ h _ _ c.values_within-m.ensures _ _ _ _ _ (c.walk_counted-part.ensures p (up_values p _ _ _ _ _ _ _ _ _ _ h _ _ c.values_within-m.ensures))
+    c.wide-high.ensures.0 c.if-part-ne-ALL.false _ refl _
+    (part_to_end c.args.upto.now 1) _ _ _ _ _
+    (c.onto.ensures p (up_asks p _ _ _ _ _ _ _ _ _ _ h _ _ c.values_within-m.ensures _ _ _ _ _ (c.walk_counted-part.ensures p (up_values p _ _ _ _ _ _ _ _ _ _ h _ _ c.values_within-m.ensures))
+    c.wide-high.ensures.0
     (λ z. c.if-k-numbers.false (z ∙ sym h.prefix.ready.indexed.numbered.variables))))

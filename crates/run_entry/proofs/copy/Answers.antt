@@ -26,29 +26,51 @@ overflow_add-first-in-loop-r c =
 
 pub load-requires : goal.load-requires
 unfolding at
-load-requires c =
-    (c.requires.inner, c.requires.few, c.loop-r.invariant.6.long ∙ c.requires.long, read_fits _ _ _ _ _ c.requires c.loop-r.invariant.4 c.loop-r.r _ _ c.loop-r.invariant.6 c.loop-r-test.true, c.requires.order)
+load-requires c = (
+  c.requires.inner,
+  c.requires.few,
+  c.loop-r.invariant.6.long ∙ c.requires.long,
+  read_fits _ _ _ _ _ c.requires c.loop-r.invariant.4 c.loop-r.r _ _ c.loop-r.invariant.6 c.loop-r-test.true,
+  c.requires.order,
+)
 
 pub list_plan-requires : goal.list_plan-requires
 unfolding at
-list_plan-requires c = record { list_room = room_loaded _ _ _ _ _ c.requires c.loop-r.invariant.4 c.loop-r.r _ _ c.loop-r.invariant.6 c.loop-r-test.true _ c.load.ensures.loaded _ c.load.ensures.list_unchanged; numbers_bound = (c.requires.few, bytes_loaded _ _ _ _ _ c.requires c.loop-r.invariant.4 c.loop-r.r _ _ c.loop-r.invariant.6 c.loop-r-test.true _ c.load.ensures.loaded, c.load.ensures.loaded.long ∙ c.loop-r.invariant.6.long ∙ c.requires.long, c.requires.order) }
+list_plan-requires c =
+    record {
+      list_room = room_loaded _ _ _ _ _ c.requires c.loop-r.invariant.4 c.loop-r.r _ _ c.loop-r.invariant.6 c.loop-r-test.true _ c.load.ensures.loaded _ c.load.ensures.list_unchanged;
+      numbers_bound = (
+        c.requires.few,
+        bytes_loaded _ _ _ _ _ c.requires c.loop-r.invariant.4 c.loop-r.r _ _ c.loop-r.invariant.6 c.loop-r-test.true _ c.load.ensures.loaded,
+        c.load.ensures.loaded.long ∙ c.loop-r.invariant.6.long ∙ c.requires.long,
+        c.requires.order,
+      );
+    }
 
 pub loop-r-preserved : goal.loop-r-preserved
 unfolding at
-loop-r-preserved c =
-    (
-      omega arith,
-      c.loop-r.invariant.1,
-      c.loop-r.invariant.2,
-      c.loop-r.invariant.3,
-      c.loop-r.invariant.4,
-      (c.list_plan.ensures.same_slice.0 ∙ ap (λ (u : MutBor (List ℕ)). at_last u c.list_plan.new.list.now) c.loop-r.invariant.5.0, c.list_plan.ensures.same_slice.1 ∙ ap length c.load.ensures.list_unchanged ∙ c.loop-r.invariant.5.1),
-      copy_turn _ _ _ _ _ c.requires c.loop-r.invariant.4 c.loop-r.r _ _ c.loop-r.invariant.6 c.loop-r-test.true _ c.load.ensures.loaded _ c.load.ensures.list_unchanged _ _ _ c.list_plan.ensures.listed,
-    )
+loop-r-preserved c = (
+  omega arith,
+  c.loop-r.invariant.1,
+  c.loop-r.invariant.2,
+  c.loop-r.invariant.3,
+  c.loop-r.invariant.4,
+  (
+    c.list_plan.ensures.same_slice.0 ∙ ap (λ (u : MutBor (List ℕ)). at_last u c.list_plan.new.list.now) c.loop-r.invariant.5.0,
+    c.list_plan.ensures.same_slice.1
+        ∙ ap length c.load.ensures.list_unchanged ∙ c.loop-r.invariant.5.1,
+  ),
+  copy_turn _ _ _ _ _ c.requires c.loop-r.invariant.4 c.loop-r.r _ _ c.loop-r.invariant.6 c.loop-r-test.true _ c.load.ensures.loaded _ c.load.ensures.list_unchanged _ _ _
+      c.list_plan.ensures.listed,
+)
 
 pub returns : goal.returns
 unfolding at
-returns c = record { copied = copy_all _ _ _ _ _ c.requires c.loop-r.invariant.4 c.loop-r.r _ _ c.loop-r.invariant.6 (omega (arith, c.loop-r.invariant.0, c.loop-r-test.false)); same_slice = c.loop-r.invariant.5 }
+returns c = record {
+  copied = copy_all _ _ _ _ _ c.requires c.loop-r.invariant.4 c.loop-r.r _ _ c.loop-r.invariant.6 (omega (arith, c.loop-r.invariant.0, c.loop-r-test.false));
+  same_slice =
+      c.loop-r.invariant.5;
+}
 
 pub slice_bounds-load-end : goal.slice_bounds-load-end
 slice_bounds-load-end c = refl

@@ -27,16 +27,17 @@ overflow_cast-work c =
 
 pub loop-i-preserved : goal.loop-i-preserved
 unfolding at
-loop-i-preserved c =
-    (
-      omega arith,
-      omega arith,
-      c.loop-i.invariant.2,
-      loaded_turn c.args.numbers.now c.args.list.now c.args.k c.loop-i.i (c.args.row * c.args.n) c.args.work.now c.loop-i.work c.loop-i.invariant.0 (omega arith) c.requires.2 (c.slice_known-1.given (c.args.row * c.args.n + settling c.args.numbers.now c.loop-i.i)).fits c.loop-i.invariant.3,
-    )
+loop-i-preserved c = (
+  omega arith,
+  omega arith,
+  c.loop-i.invariant.2,
+  loaded_turn c.args.numbers.now c.args.list.now c.args.k c.loop-i.i (c.args.row * c.args.n) c.args.work.now c.loop-i.work c.loop-i.invariant.0 (omega arith) c.requires.2
+      (c.slice_known-1.given (c.args.row * c.args.n + settling c.args.numbers.now c.loop-i.i)).fits c.loop-i.invariant.3,
+)
 
 pub returns : goal.returns
-returns c = let e : c.loop-i.i ≡ c.args.n = omega arith in record { loaded = subst (λ (n : ℕ). Loaded c.args.numbers.now c.args.list.now c.args.k n (c.args.row * c.args.n) c.args.work.now c.loop-i.work) e c.loop-i.invariant.3; list_unchanged = refl }
+returns c = let e : c.loop-i.i ≡ c.args.n = omega arith in
+    record { loaded = subst (λ (n : ℕ). Loaded c.args.numbers.now c.args.list.now c.args.k n (c.args.row * c.args.n) c.args.work.now c.loop-i.work) e c.loop-i.invariant.3; list_unchanged = refl }
 
 pub overflow_mul-from : goal.overflow_mul-from
 overflow_mul-from c = omega (arith, c.well_formed.1.1.0.0, c.requires.3)

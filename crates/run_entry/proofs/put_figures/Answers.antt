@@ -18,12 +18,14 @@ unfolding at
 loop-x-preserved c =
     let F : ℕ → ℕ → Type 0 = λ v u.
     FigureIn c.args.stack.now c.args.before.counts c.args.after.counts c.args.k c.args.s (c.loop-x.x + 1) c.args.work.now
-    (set (set (set c.loop-x.work (c.args.s + SETS + c.loop-x.x) v) (c.args.s + ENDS + c.loop-x.x) (at (set c.loop-x.work (c.args.s + SETS + c.loop-x.x) v) c.loop-x.x)) (c.args.s + COUNTS + c.loop-x.x) u) in (
+    (set (set (set c.loop-x.work (c.args.s + SETS + c.loop-x.x) v) (c.args.s + ENDS + c.loop-x.x) (at (set c.loop-x.work (c.args.s + SETS + c.loop-x.x) v) c.loop-x.x))
+    (c.args.s + COUNTS + c.loop-x.x) u) in (
       omega arith,
       c.loop-x.invariant.1,
       subst (λ (v : ℕ). F v c.between.result) (sym c.set_at.ensures)
           (subst (F (at c.args.stack.now (16 * c.args.k + c.loop-x.x))) (sym c.between.ensures)
-          (figures_turn c.args.stack.now c.args.before.counts c.args.after.counts c.args.k c.args.s c.requires.3 c.args.work.now (omega (arith, c.requires.3.is)) c.loop-x.x c.loop-x.work c.loop-x.invariant.2 (omega arith))),
+          (figures_turn c.args.stack.now c.args.before.counts c.args.after.counts c.args.k c.args.s c.requires.3 c.args.work.now (omega (arith, c.requires.3.is)) c.loop-x.x c.loop-x.work
+          c.loop-x.invariant.2 (omega arith))),
     )
 
 pub returns : goal.returns

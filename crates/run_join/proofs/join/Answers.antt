@@ -20,5 +20,6 @@ answered-answer-requires c =
 
 pub returns : goal.returns
 returns c =
-    said_all c.args.heads.now c.answered-answer.result c.find_ways-joins.result c.walk-w.result.stand c.walk-w.result.plans c.walk-w.result.nodes c.walk-w.result.counts (accepted_all c.args.heads.now (sym c.question-number.ensures ∙ c.if-number-ne0.false)) c.find_ways-joins.ensures.joins
+    said_all c.args.heads.now c.answered-answer.result c.find_ways-joins.result c.walk-w.result.stand c.walk-w.result.plans c.walk-w.result.nodes c.walk-w.result.counts
+    (accepted_all c.args.heads.now (sym c.question-number.ensures ∙ c.if-number-ne0.false)) c.find_ways-joins.ensures.joins
     c.walk-w.ensures c.answered-answer.ensures

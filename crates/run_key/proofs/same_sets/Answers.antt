@@ -13,8 +13,12 @@ returns-then-not-agrees c = λ e. absurd (subst T (sym e) tt)
 
 pub loop-x-preserved : goal.loop-x-preserved
 unfolding at
-loop-x-preserved c =
-    (refl, c.loop-x.invariant.1, same_turn c.args.stack.now c.args.numbers.now c.args.work.now c.args.k c.args.pending c.args.low c.args.s c.loop-x.x c.loop-x.invariant.2 (c.agrees.ensures (yes_of _ c.if-not-agrees.false-raw)))
+loop-x-preserved c = (
+  refl,
+  c.loop-x.invariant.1,
+  same_turn c.args.stack.now c.args.numbers.now c.args.work.now c.args.k c.args.pending c.args.low c.args.s c.loop-x.x c.loop-x.invariant.2
+      (c.agrees.ensures (yes_of _ c.if-not-agrees.false-raw)),
+)
 
 pub returns : goal.returns
 unfolding at

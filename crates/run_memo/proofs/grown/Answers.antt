@@ -13,13 +13,12 @@ sum-requires c = omega (arith, c.loop-x.invariant.2.1 c.loop-x.x (omega arith), 
 
 pub loop-x-preserved : goal.loop-x-preserved
 unfolding at
-loop-x-preserved c =
-    (
-      omega arith,
-      c.loop-x.invariant.1,
-      subst (λ (v : ℕ). GrownTo c.args.t.counts c.args.work.now c.args.s (c.loop-x.x + 1) (set c.loop-x.counts c.loop-x.x v)) (sym c.sum.ensures)
-          (grown_turn c.args.t.counts c.args.work.now c.args.s c.loop-x.x c.loop-x.counts (omega (arith, c.loop-x.invariant.1)) c.loop-x.invariant.2),
-    )
+loop-x-preserved c = (
+  omega arith,
+  c.loop-x.invariant.1,
+  subst (λ (v : ℕ). GrownTo c.args.t.counts c.args.work.now c.args.s (c.loop-x.x + 1) (set c.loop-x.counts c.loop-x.x v)) (sym c.sum.ensures)
+      (grown_turn c.args.t.counts c.args.work.now c.args.s c.loop-x.x c.loop-x.counts (omega (arith, c.loop-x.invariant.1)) c.loop-x.invariant.2),
+)
 
 pub sum-nodes-requires : goal.sum-nodes-requires
 unfolding at
@@ -30,4 +29,5 @@ unfolding at
 returns c =
     let e : c.loop-x.x ≡ 12 = omega arith in
     ap₂ (λ (n : ℕ) (cs : List ℕ). record { nodes = n; counts = cs }) c.sum-nodes.ensures
-    (grown_all c.args.t.counts c.args.work.now c.args.s c.loop-x.counts c.loop-x.invariant.1 (subst (λ (n : ℕ). GrownTo c.args.t.counts c.args.work.now c.args.s n c.loop-x.counts) e c.loop-x.invariant.2))
+    (grown_all c.args.t.counts c.args.work.now c.args.s c.loop-x.counts c.loop-x.invariant.1
+    (subst (λ (n : ℕ). GrownTo c.args.t.counts c.args.work.now c.args.s n c.loop-x.counts) e c.loop-x.invariant.2))

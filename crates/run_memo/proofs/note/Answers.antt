@@ -33,15 +33,16 @@ marks_at-marks-requires c = (
 pub put-requires : goal.put-requires
 unfolding at
 put-requires c =
-    let e : c.args.stop ≡ ALL = omega (arith, c.if-stop-ne-ALL.false) in
-    (
+    let e : c.args.stop ≡ ALL = omega (arith, c.if-stop-ne-ALL.false) in (
       omega (arith, c.requires.7.prefix.inner, c.requires.7.prefix.ready.well_formed.few),
       c.requires.7.walked.stack_length ∙ c.requires.7.prefix.ready.stack_length,
       c.charge.ensures.long ∙ c.requires.7.walked.work_length ∙ c.requires.7.prefix.ready.work_length,
       c.requires.7.placed,
-      counts_grow_at c.requires.0 c.requires.1 c.requires.2 c.requires.3 c.requires.4 c.args.numbers.now c.requires.5 (tally_in c.args.before) c.args.k c.args.stack.now c.args.work.now c.requires.6 (tally_in c.args.after) c.args.turn c.args.place
+      counts_grow_at c.requires.0 c.requires.1 c.requires.2 c.requires.3 c.requires.4 c.args.numbers.now c.requires.5 (tally_in c.args.before) c.args.k c.args.stack.now c.args.work.now c.requires.6
+          (tally_in c.args.after) c.args.turn c.args.place
           c.args.stop e c.requires.7 (omega (arith, c.if-last-gt12.false)),
-      nodes_grow_at c.requires.0 c.requires.1 c.requires.2 c.requires.3 c.requires.4 c.args.numbers.now c.requires.5 (tally_in c.args.before) c.args.k c.args.stack.now c.args.work.now c.requires.6 (tally_in c.args.after) c.args.turn c.args.place
+      nodes_grow_at c.requires.0 c.requires.1 c.requires.2 c.requires.3 c.requires.4 c.args.numbers.now c.requires.5 (tally_in c.args.before) c.args.k c.args.stack.now c.args.work.now c.requires.6
+          (tally_in c.args.after) c.args.turn c.args.place
           c.args.stop e c.requires.7 (omega (arith, c.if-last-gt12.false)),
     )
 

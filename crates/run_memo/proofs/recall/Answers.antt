@@ -12,8 +12,13 @@ marks_at-marks-requires c = (symmetries_few c.requires.3.prefix, omega (arith, c
 
 pub returns-then-not-is_same : goal.returns-then-not-is_same
 unfolding at
-returns-then-not-is_same c = record { looked = λ p supports tables g. looked_none p c.args.stack.now c.args.work.now supports tables c.args.numbers.now c.args.list.now.now (tally_in c.args.before) c.args.k g.prefix c.entry_for-s.result
-      c.entry_for-s.ensures; same_slice = (refl, refl) }
+returns-then-not-is_same c =
+    record {
+      looked = λ p supports tables g. looked_none p c.args.stack.now c.args.work.now supports tables c.args.numbers.now c.args.list.now.now (tally_in c.args.before) c.args.k g.prefix
+          c.entry_for-s.result
+          c.entry_for-s.ensures;
+      same_slice = (refl, refl);
+    }
 
 pub copy-requires : goal.copy-requires
 unfolding at
@@ -30,7 +35,10 @@ take-requires c =
 
 pub returns : goal.returns
 unfolding at
-returns c = record { looked = λ p supports tables g. looked p c.args.stack.now c.args.work.now supports tables c.args.numbers.now c.args.list.now.now (tally_in c.args.before) c.args.k g
-          c.pending_at-pending.result c.marks_at-marks.result.low c.marks_at-marks.result.good c.entry_for-s.result
-          c.pending_at-pending.ensures c.marks_at-marks.ensures c.entry_for-s.ensures
-          (c.is_same.ensures (yes_of _ c.if-not-is_same.false-raw)) _ _ c.copy.ensures.copied _ c.take.ensures; same_slice = c.copy.ensures.same_slice }
+returns c = record {
+  looked = λ p supports tables g. looked p c.args.stack.now c.args.work.now supports tables c.args.numbers.now c.args.list.now.now (tally_in c.args.before) c.args.k g
+      c.pending_at-pending.result c.marks_at-marks.result.low c.marks_at-marks.result.good c.entry_for-s.result
+      c.pending_at-pending.ensures c.marks_at-marks.ensures c.entry_for-s.ensures
+      (c.is_same.ensures (yes_of _ c.if-not-is_same.false-raw)) _ _ c.copy.ensures.copied _ c.take.ensures;
+  same_slice = c.copy.ensures.same_slice;
+}

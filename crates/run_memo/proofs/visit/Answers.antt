@@ -3,7 +3,11 @@ use Rattle.model.specs.Kit.{refl}
 use Rattle.run_memo.proofs.visit.Goals as goal
 
 pub returns-then-place-eq0 : goal.returns-then-place-eq0
-returns-then-place-eq0 c = record { visited = record { looked = λ d. c.recall.ensures.looked; noted = λ n. absurd (n c.if-place-eq0.true); kept = λ n. absurd (n c.if-place-eq0.true) }; same_slice = c.recall.ensures.same_slice }
+returns-then-place-eq0 c = record {
+  visited = record { looked = λ d. c.recall.ensures.looked; noted = λ n. absurd (n c.if-place-eq0.true); kept = λ n. absurd (n c.if-place-eq0.true) };
+  same_slice =
+      c.recall.ensures.same_slice;
+}
 
 pub note-requires : goal.note-requires
 note-requires c =

@@ -38,28 +38,27 @@ answered-answer-requires c =
     c.walk_part-part.ensures
 
 pub last_values-last-requires : goal.last_values-last-requires
-last_values-last-requires c =
-    (
-      part_short _ c.args.sheet.now
-          c.args.pairs.now
-          c.args.block.now
-          c.args.from.now
-          c.args.upto.now c.args.limit
-          c.args.list.now ((zeros WORK).blank WANTED) _ _ _ _ _ _
-          c.prepare-step.ensures _
-          (begun_so _ _ _ _ c.copied-begun.ensures.0 c.copied-begun.ensures.1
-          c.put_path.ensures) _ _ _ _ _ c.walk_part-part.ensures,
-      part_bytes _
-          c.args.sheet.now
-          c.args.pairs.now
-          c.args.block.now
-          c.args.from.now
-          c.args.upto.now c.args.limit
-          c.args.list.now ((zeros WORK).blank WANTED) _ _ _ _ _ _
-          c.prepare-step.ensures _
-          (begun_so _ _ _ _ c.copied-begun.ensures.0 c.copied-begun.ensures.1
-          c.put_path.ensures) _ _ _ _ _ c.walk_part-part.ensures,
-    )
+last_values-last-requires c = (
+  part_short _ c.args.sheet.now
+      c.args.pairs.now
+      c.args.block.now
+      c.args.from.now
+      c.args.upto.now c.args.limit
+      c.args.list.now ((zeros WORK).blank WANTED) _ _ _ _ _ _
+      c.prepare-step.ensures _
+      (begun_so _ _ _ _ c.copied-begun.ensures.0 c.copied-begun.ensures.1
+      c.put_path.ensures) _ _ _ _ _ c.walk_part-part.ensures,
+  part_bytes _
+      c.args.sheet.now
+      c.args.pairs.now
+      c.args.block.now
+      c.args.from.now
+      c.args.upto.now c.args.limit
+      c.args.list.now ((zeros WORK).blank WANTED) _ _ _ _ _ _
+      c.prepare-step.ensures _
+      (begun_so _ _ _ _ c.copied-begun.ensures.0 c.copied-begun.ensures.1
+      c.put_path.ensures) _ _ _ _ _ c.walk_part-part.ensures,
+)
 
 pub returns : goal.returns
 unfolding at

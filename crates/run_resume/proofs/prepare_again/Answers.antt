@@ -10,11 +10,10 @@ nonzero_div-size c = omega (arith, some_variables _ _ _ _ _ c.recompile.ensures 
 
 pub begin-requires : goal.begin-requires
 unfolding at
-begin-requires c =
-    (
-      (_, _, _, laid c.args.sheet.now _ _ _ _ c.recompile.ensures c.if-recompile.true c.args.more c.args.size _ c.put_bounds.ensures _ c.by_position.ensures),
-      record { stack_length = c.requires.stack_length; work_length = c.requires.work_length; tables_length = c.requires.tables_length },
-    )
+begin-requires c = (
+  (_, _, _, laid c.args.sheet.now _ _ _ _ c.recompile.ensures c.if-recompile.true c.args.more c.args.size _ c.put_bounds.ensures _ c.by_position.ensures),
+  record { stack_length = c.requires.stack_length; work_length = c.requires.work_length; tables_length = c.requires.tables_length },
+)
 
 pub returns-then-recompile : goal.returns-then-recompile
 unfolding at

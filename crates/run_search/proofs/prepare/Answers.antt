@@ -25,7 +25,8 @@ pub returns-in-Accepted : goal.returns-in-Accepted
 unfolding at
 returns-in-Accepted c =
     let l = laid _ _ _ _ _ _ _ _ c.compile-verdict.ensures c.in-Accepted.is c.args.limit _ _ c.put_bounds.ensures _ c.positions-positions.ensures in
-    prepared _ _ _ _ _ _ _ _ c.compile-verdict.ensures c.in-Accepted.is c.args.limit c.ranges.limit.fits c.args.work.now c.args.size _ c.room_for-room.ensures c.room_for-room.type_inv c.requires.unlisted _
+    prepared _ _ _ _ _ _ _ _ c.compile-verdict.ensures c.in-Accepted.is c.args.limit c.ranges.limit.fits c.args.work.now c.args.size _ c.room_for-room.ensures c.room_for-room.type_inv
+    c.requires.unlisted _
     c.put_bounds.ensures c.requires.none_listed _ _ _ _ _ (c.begin.ensures _ _ _ l)
 
 pub returns-in-Refused : goal.returns-in-Refused

@@ -10,7 +10,11 @@ returns-then-plans-numbers c = record { listed = full_now _ _ _ _ _ c.requires.l
 
 pub note-requires : goal.note-requires
 unfolding at
-note-requires c = record { list_room = (c.requires.list_room, c.if-plans-numbers.false); numbers_bound = (c.requires.numbers_bound.0, omega (arith, c.requires.numbers_bound.0, c.requires.numbers_bound.2), c.requires.numbers_bound.1, c.requires.numbers_bound.3) }
+note-requires c = record {
+  list_room = (c.requires.list_room, c.if-plans-numbers.false);
+  numbers_bound =
+      (c.requires.numbers_bound.0, omega (arith, c.requires.numbers_bound.0, c.requires.numbers_bound.2), c.requires.numbers_bound.1, c.requires.numbers_bound.3);
+}
 
 pub overflow_add-work : goal.overflow_add-work
 unfolding at

@@ -13,7 +13,11 @@ overflow_mul-plans c = omega (arith, fits_bytes _ _ _ _ c.requires.list_room.0 c
 
 pub keep-requires : goal.keep-requires
 unfolding at
-keep-requires c = record { n_bound = (c.requires.numbers_bound.0, c.requires.numbers_bound.1, fits_bytes _ _ _ _ c.requires.list_room.0 c.requires.list_room.1 c.if-list-eq0.false); by_index = (c.requires.numbers_bound.2, c.requires.numbers_bound.3) }
+keep-requires c = record {
+  n_bound = (c.requires.numbers_bound.0, c.requires.numbers_bound.1, fits_bytes _ _ _ _ c.requires.list_room.0 c.requires.list_room.1 c.if-list-eq0.false);
+  by_index =
+      (c.requires.numbers_bound.2, c.requires.numbers_bound.3);
+}
 
 pub returns : goal.returns
 unfolding at

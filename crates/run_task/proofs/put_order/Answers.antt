@@ -16,8 +16,11 @@ bounds-numbers-k c = omega
 
 pub loop-k-preserved : goal.loop-k-preserved
 unfolding ordered at
-loop-k-preserved c =
-    (omega arith, ap₂ (λ (s : List ℕ) (v : ℕ). set s (ORDER + c.loop-k.k) v) c.loop-k.invariant.1 c.long.ensures.0 ∙ ap (λ (k : ℕ). ordered c.args.order.now k c.args.numbers.now) (sym (add-one c.loop-k.k)))
+loop-k-preserved c = (
+  omega arith,
+  ap₂ (λ (s : List ℕ) (v : ℕ). set s (ORDER + c.loop-k.k) v) c.loop-k.invariant.1 c.long.ensures.0
+      ∙ ap (λ (k : ℕ). ordered c.args.order.now k c.args.numbers.now) (sym (add-one c.loop-k.k)),
+)
 
 pub returns : goal.returns
 returns c =

@@ -11,7 +11,8 @@ child-requires c =
 pub returns-then-child : goal.returns-then-child
 returns-then-child c = record {
   entered = (λ p made g.
-      entered_dead p _ _ _ _ _ _ made _ _ g c.ranges.m.fits _ c.lowest-lowest.ensures _ _ _ (c.child.ensures _ _ (child_asks p _ _ _ _ _ _ made _ _ g c.ranges.m.fits _ c.lowest-lowest.ensures)) c.if-child.true);
+      entered_dead p _ _ _ _ _ _ made _ _ g c.ranges.m.fits _ c.lowest-lowest.ensures _ _ _ (c.child.ensures _ _ (child_asks p _ _ _ _ _ _ made _ _ g c.ranges.m.fits _ c.lowest-lowest.ensures))
+      c.if-child.true);
   same_slice = (refl, refl);
 }
 
@@ -21,7 +22,8 @@ list_plan-requires c = let q = c.child.ensures _ _ (child_asks c.requires.0 _ _ 
   list_room = plan_asks c.requires.0 _ _ _ _ _ _ _ _ _ c.requires.1.1 c.ranges.m.fits _ c.lowest-lowest.ensures _ _ _ q;
   numbers_bound = (
     omega (arith, c.requires.1.1.values.prefix.ready.indexed.numbered.variables, c.requires.1.1.values.prefix.ready.well_formed.few),
-    λ i m. plan_bytes c.requires.0 _ _ _ _ _ _ _ _ _ c.requires.1.1 c.ranges.m.fits _ c.lowest-lowest.ensures _ _ _ q c.if-child.false (c.if-k-numbers.true ∙ c.requires.1.1.values.prefix.ready.indexed.numbered.variables) i (subst (λ (n : ℕ). i < n) c.requires.1.1.values.prefix.ready.indexed.numbered.variables m),
+    λ i m. plan_bytes c.requires.0 _ _ _ _ _ _ _ _ _ c.requires.1.1 c.ranges.m.fits _ c.lowest-lowest.ensures _ _ _ q c.if-child.false (c.if-k-numbers.true
+        ∙ c.requires.1.1.values.prefix.ready.indexed.numbered.variables) i (subst (λ (n : ℕ). i < n) c.requires.1.1.values.prefix.ready.indexed.numbered.variables m),
     plan_sized c.requires.0 _ _ _ _ _ _ _ _ _ c.requires.1.1 c.ranges.m.fits _ c.lowest-lowest.ensures _ _ _ q,
     plan_order c.requires.0 _ _ _ _ _ _ _ _ _ c.requires.1.1 c.ranges.m.fits _ c.lowest-lowest.ensures _ _ _ q,
   );

@@ -12,12 +12,11 @@ returns-in_default c =
     compile_no _ _ _ _ _ _ _ c.in_default.is (whole_yes _ _ _ _ c.read-form.ensures _ c.ask-answer.result c.in-Passed.is c.ask-answer.ensures)
 
 pub decode_all-requires : goal.decode_all-requires
-decode_all-requires c =
-    (
-      tables_asked _ _ _ c.ask-answer.result (formed _ _ _ _ c.read-form.ensures _ c.in-Passed.is) c.in-Accepted.is c.ask-answer.ensures,
-      c.read-form.ensures.headed _ c.in-Passed.is,
-      c.requires.2,
-    )
+decode_all-requires c = (
+  tables_asked _ _ _ c.ask-answer.result (formed _ _ _ _ c.read-form.ensures _ c.in-Passed.is) c.in-Accepted.is c.ask-answer.ensures,
+  c.read-form.ensures.headed _ c.in-Passed.is,
+  c.requires.2,
+)
 
 pub returns-in-Refused : goal.returns-in-Refused
 returns-in-Refused c = compile_no _ _ _ _ _ _ _ refl (whole_no _ _ _ _ c.read-form.ensures _ _ c.in-Refused.is)

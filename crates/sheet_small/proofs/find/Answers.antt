@@ -15,7 +15,18 @@ returns-then-seen-k c =
 pub loop-n-preserved : goal.loop-n-preserved
 loop-n-preserved c =
     let e = sym c.passes.ensures in
-    (elim c.if-passes.branch [ then-passes+else-seen-k w ↦ (search rules, omega (arith, w.seen-is, w.if-seen-k.false, c.loop-n.invariant.1), subst (λ (s : ℕ). Came s (c.loop-n.n + 1)) (sym w.seen-is) (came_accepted c.loop-n.seen c.loop-n.n c.loop-n-test.true c.loop-n.invariant.2 (e ∙ w.if-passes.true))) | else-passes w ↦ (search rules, omega (arith, w.seen-is, c.loop-n.invariant.1), subst (λ (s : ℕ). Came s (c.loop-n.n + 1)) (sym w.seen-is) (came_refused c.loop-n.seen c.loop-n.n c.loop-n-test.true c.loop-n.invariant.2 (e ∙ w.if-passes.false))) ])
+    (elim c.if-passes.branch [
+      | then-passes+else-seen-k w ↦ (
+        search rules,
+        omega (arith, w.seen-is, w.if-seen-k.false, c.loop-n.invariant.1),
+        subst (λ (s : ℕ). Came s (c.loop-n.n + 1)) (sym w.seen-is) (came_accepted c.loop-n.seen c.loop-n.n c.loop-n-test.true c.loop-n.invariant.2 (e ∙ w.if-passes.true)),
+      )
+      | else-passes w ↦ (
+        search rules,
+        omega (arith, w.seen-is, c.loop-n.invariant.1),
+        subst (λ (s : ℕ). Came s (c.loop-n.n + 1)) (sym w.seen-is) (came_refused c.loop-n.seen c.loop-n.n c.loop-n-test.true c.loop-n.invariant.2 (e ∙ w.if-passes.false)),
+      )
+    ])
 
 pub returns : goal.returns
 returns c =

@@ -9,9 +9,8 @@ table-requires c =
     (omega (arith, c.rows-end.ensures.1), t.0, t.1, t.2, t.3)
 
 pub returns : goal.returns
-returns c =
-    (
-      made c.args.i c.args.tables c.args.j c.rows-end.result c.permuted.result _ _ _ c.permuted.ensures c.rows-end.ensures.1 c.rows-end.ensures.0 c.head.ensures c.table.ensures,
-      ap
-          (λ (n : ℕ). n + 8 * c.args.tables) c.rows-end.ensures.1,
-    )
+returns c = (
+  made c.args.i c.args.tables c.args.j c.rows-end.result c.permuted.result _ _ _ c.permuted.ensures c.rows-end.ensures.1 c.rows-end.ensures.0 c.head.ensures c.table.ensures,
+  ap
+      (λ (n : ℕ). n + 8 * c.args.tables) c.rows-end.ensures.1,
+)

@@ -10,12 +10,14 @@ returns-then-store-ne-STORE_BYTES c =
 
 pub returns-then-owner-ge4 : goal.returns-then-owner-ge4
 returns-then-owner-ge4 c =
-    leaves_room c.args.store.now c.args.owner c.args.key (fetch c.args.room.now) (asks_31 c.args.store.now c.args.owner c.args.key (fetch c.args.room.now) (omega (arith, c.if-store-ne-STORE_BYTES.false)) c.if-owner-ge4.true)
+    leaves_room c.args.store.now c.args.owner c.args.key (fetch c.args.room.now)
+    (asks_31 c.args.store.now c.args.owner c.args.key (fetch c.args.room.now) (omega (arith, c.if-store-ne-STORE_BYTES.false)) c.if-owner-ge4.true)
 
 pub returns-then-i-ge4 : goal.returns-then-i-ge4
 returns-then-i-ge4 c =
     let e : c.slot_with-i.result ≡ slot_with c.args.store.now c.args.owner c.args.key = c.slot_with-i.ensures in
-    leaves_room c.args.store.now c.args.owner c.args.key (fetch c.args.room.now) (fetch_34 c.args.store.now c.args.owner c.args.key (omega (arith, c.if-store-ne-STORE_BYTES.false)) c.if-owner-ge4.false c.args.room.now
+    leaves_room c.args.store.now c.args.owner c.args.key (fetch c.args.room.now)
+    (fetch_34 c.args.store.now c.args.owner c.args.key (omega (arith, c.if-store-ne-STORE_BYTES.false)) c.if-owner-ge4.false c.args.room.now
     (omega (arith, e, c.if-i-ge4.true)))
 
 pub returns-then-room-n : goal.returns-then-room-n

@@ -12,12 +12,20 @@ loop-i-init c = (search rules, refl, refl)
 
 pub loop-i-preserved : goal.loop-i-preserved
 loop-i-preserved c =
-    (elim c.if-holds.branch [ then-holds w ↦ (
-      search rules,
-      w.store-is ∙ freed_taken c.args.store.now c.args.owner c.args.key c.loop-i.store c.loop-i.i c.slot_at-p.result c.loop-i.invariant.1 c.slot_at-p.ensures (sym c.holds.ensures ∙ w.if-holds.true),
-      ap length w.store-is
-          ∙ length-set c.loop-i.store c.slot_at-p.result 0 ∙ c.loop-i.invariant.2,
-    ) | else-holds w ↦ (search rules, w.store-is ∙ freed_left c.args.store.now c.args.owner c.args.key c.loop-i.store c.loop-i.i c.slot_at-p.result c.loop-i.invariant.1 c.slot_at-p.ensures (sym c.holds.ensures ∙ w.if-holds.false), ap length w.store-is ∙ c.loop-i.invariant.2) ])
+    (elim c.if-holds.branch [
+      | then-holds w ↦ (
+        search rules,
+        w.store-is ∙ freed_taken c.args.store.now c.args.owner c.args.key c.loop-i.store c.loop-i.i c.slot_at-p.result c.loop-i.invariant.1 c.slot_at-p.ensures (sym c.holds.ensures ∙ w.if-holds.true),
+        ap length w.store-is
+            ∙ length-set c.loop-i.store c.slot_at-p.result 0 ∙ c.loop-i.invariant.2,
+      )
+      | else-holds w ↦ (
+        search rules,
+        w.store-is
+            ∙ freed_left c.args.store.now c.args.owner c.args.key c.loop-i.store c.loop-i.i c.slot_at-p.result c.loop-i.invariant.1 c.slot_at-p.ensures (sym c.holds.ensures ∙ w.if-holds.false),
+        ap length w.store-is ∙ c.loop-i.invariant.2,
+      )
+    ])
 
 pub returns : goal.returns
 returns c = c.loop-i.invariant.1 ∙ ap (freed _ _ _) (le_antisymm c.loop-i.invariant.0 c.loop-i-test.false)

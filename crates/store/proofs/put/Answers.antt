@@ -15,13 +15,15 @@ pub returns-then-owner-ge4 : goal.returns-then-owner-ge4
 unfolding at
 returns-then-owner-ge4 c =
     let bytes : (i : ℕ) → at c.args.store.now i < 256 = λ i. omega (arith, c.slice_known-1.given i) in
-    refuses c.args.store.now c.args.owner c.args.key (put c.args.table.now) bytes (asks_31 c.args.store.now c.args.owner c.args.key (put c.args.table.now) (omega (arith, c.if-store-ne-STORE_BYTES.false)) c.if-owner-ge4.true)
+    refuses c.args.store.now c.args.owner c.args.key (put c.args.table.now) bytes
+    (asks_31 c.args.store.now c.args.owner c.args.key (put c.args.table.now) (omega (arith, c.if-store-ne-STORE_BYTES.false)) c.if-owner-ge4.true)
 
 pub returns-then-table-gt2048 : goal.returns-then-table-gt2048
 unfolding at
 returns-then-table-gt2048 c =
     let bytes : (i : ℕ) → at c.args.store.now i < 256 = λ i. omega (arith, c.slice_known-1.given i) in
-    refuses c.args.store.now c.args.owner c.args.key (put c.args.table.now) bytes (put_33 c.args.store.now c.args.owner c.args.key (omega (arith, c.if-store-ne-STORE_BYTES.false)) c.if-owner-ge4.false bytes c.args.table.now
+    refuses c.args.store.now c.args.owner c.args.key (put c.args.table.now) bytes
+    (put_33 c.args.store.now c.args.owner c.args.key (omega (arith, c.if-store-ne-STORE_BYTES.false)) c.if-owner-ge4.false bytes c.args.table.now
     c.if-table-gt2048.true)
 
 pub returns-then-slot-ge4 : goal.returns-then-slot-ge4

@@ -14,13 +14,12 @@ loop-i-init c = (search rules, refl, refl, gathered_begin _)
 
 pub loop-i-preserved : goal.loop-i-preserved
 unfolding at
-loop-i-preserved c =
-    (
-      search rules,
-      c.loop-i.invariant.1,
-      c.loop-i.invariant.2,
-      gathered_turn _ _ _ _ c.loop-i.invariant.3 (look_is _ _ _ _ _ _ c.arity.ensures c.scope_at.ensures c.one_if-all.ensures),
-    )
+loop-i-preserved c = (
+  search rules,
+  c.loop-i.invariant.1,
+  c.loop-i.invariant.2,
+  gathered_turn _ _ _ _ c.loop-i.invariant.3 (look_is _ _ _ _ _ _ c.arity.ensures c.scope_at.ensures c.one_if-all.ensures),
+)
 
 pub returns : goal.returns
 returns c = look_scopes _ _ _ (gathered_end _ _ _ _ (omega (arith, c.loop-i.invariant.1)) (omega (arith, c.loop-i.invariant.1)) c.loop-i.invariant.3)

@@ -13,15 +13,14 @@ returns-then-not-is_empty c = λ e. absurd (subst T (sym e) tt)
 
 pub loop-y-preserved : goal.loop-y-preserved
 unfolding at
-loop-y-preserved c =
-    (
-      search rules,
-      refl,
-      c.loop-y.invariant.2,
-      loose_turn _ _ _ _ _ _ _ c.loop-y.invariant.2 c.loop-y.invariant.3 c.twice.ensures
-          (c.common-lost.ensures ∙ ap (common_mask c.twice.result.bits) c.initial.ensures)
-          (eqb-true _ 0 (sym c.is_empty.ensures ∙ c.if-not-is_empty.false)),
-    )
+loop-y-preserved c = (
+  search rules,
+  refl,
+  c.loop-y.invariant.2,
+  loose_turn _ _ _ _ _ _ _ c.loop-y.invariant.2 c.loop-y.invariant.3 c.twice.ensures
+      (c.common-lost.ensures ∙ ap (common_mask c.twice.result.bits) c.initial.ensures)
+      (eqb-true _ 0 (sym c.is_empty.ensures ∙ c.if-not-is_empty.false)),
+)
 
 pub returns : goal.returns
 returns c = λ e. loose_end _ _ _ _ _ (omega (arith, c.loop-y.invariant.1)) c.loop-y.invariant.3

@@ -19,16 +19,15 @@ overflow_add-numbers-in-loop-h-2 c = record { fits = omega (arith, spread_fits _
 
 pub loop-h-preserved : goal.loop-h-preserved
 unfolding at
-loop-h-preserved c =
-    (
-      search rules,
-      search rules,
-      spreads_two _ _ _ _ c.loop-h.invariant.2 (omega (
-        arith,
-        length-set (set c.args.numbers.now SPREAD 0) (SPREAD + 1) 255,
-        length-set c.args.numbers.now SPREAD 0,
-      )) (c.loop-h.invariant.2.here _ (omega arith)),
-    )
+loop-h-preserved c = (
+  search rules,
+  search rules,
+  spreads_two _ _ _ _ c.loop-h.invariant.2 (omega (
+    arith,
+    length-set (set c.args.numbers.now SPREAD 0) (SPREAD + 1) 255,
+    length-set c.args.numbers.now SPREAD 0,
+  )) (c.loop-h.invariant.2.here _ (omega arith)),
+)
 
 pub returns : goal.returns
 returns c = spreads_end _ _ (omega arith) (filled_end _ _ _ _ _ _ (omega arith) (omega arith) c.loop-h.invariant.2)

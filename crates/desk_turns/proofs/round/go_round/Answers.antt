@@ -12,12 +12,11 @@ loop-i-init c = (omega arith, round_begin _ _ (c.requires, λ i. (c.slice_known-
 
 pub loop-i-preserved : goal.loop-i-preserved
 unfolding at
-loop-i-preserved c =
-    (
-      omega (arith, c.loop-i-test.true),
-      round_more _ _ c.loop-i.i c.loop-i-test.true _ _ _ c.loop-i.invariant.1 _ _ c.give-took.ensures _ _
-          ((elim c.if-best-took.branch [ then-best-took q ↦ inl (q.if-best-took.true, q.next-is, q.best-is) | else-best-took q ↦ inr (q.if-best-took.false, q.next-is, q.best-is) ])),
-    )
+loop-i-preserved c = (
+  omega (arith, c.loop-i-test.true),
+  round_more _ _ c.loop-i.i c.loop-i-test.true _ _ _ c.loop-i.invariant.1 _ _ c.give-took.ensures _ _
+      ((elim c.if-best-took.branch [ then-best-took q ↦ inl (q.if-best-took.true, q.next-is, q.best-is) | else-best-took q ↦ inr (q.if-best-took.false, q.next-is, q.best-is) ])),
+)
 
 pub returns : goal.returns
 unfolding at

@@ -18,17 +18,16 @@ prepare_again-step-requires c =
 
 pub go_on-requires : goal.go_on-requires
 unfolding at
-go_on-requires c =
-    (
-      _,
-      _,
-      _,
-      _,
-      going c.args.queue.now c.args.p c.requires.0
-          (λ i. (c.slice_known-1.given i).fits) _ _ _ _ c.bounded-plans.ensures c.byte.ensures
-          c.bounded.ensures c.bounded-size.ensures c.args.more _ _ _ _ _ _ _ _
-          c.put_progress.ensures c.prepare_again-step.ensures,
-    )
+go_on-requires c = (
+  _,
+  _,
+  _,
+  _,
+  going c.args.queue.now c.args.p c.requires.0
+      (λ i. (c.slice_known-1.given i).fits) _ _ _ _ c.bounded-plans.ensures c.byte.ensures
+      c.bounded.ensures c.bounded-size.ensures c.args.more _ _ _ _ _ _ _ _
+      c.put_progress.ensures c.prepare_again-step.ensures,
+)
 
 pub returns : goal.returns
 unfolding at

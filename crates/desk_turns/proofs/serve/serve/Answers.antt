@@ -37,8 +37,7 @@ run_bytes-bytes-requires c =
 pub put_counts-requires : goal.put_counts-requires
 unfolding at
 put_counts-requires c =
-    let d : QueueBytes c.args.queue.now = (c.requires.0, λ i. (c.slice_known-1.given i).fits) in
-    (
+    let d : QueueBytes c.args.queue.now = (c.requires.0, λ i. (c.slice_known-1.given i).fits) in (
       search rules,
       ap length c.counts_at-before.ensures ∙ counts_length _ _,
       more_twelve c.args.queue.now c.args.k d c.requires.1 c.requires.2 c.args.turns c.requires.3 _ _ _

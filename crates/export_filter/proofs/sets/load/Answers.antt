@@ -7,13 +7,12 @@ pub loop-i-init : goal.loop-i-init
 loop-i-init c = (refl, search rules, λ k l. absurd (omega arith))
 
 pub loop-i-preserved : goal.loop-i-preserved
-loop-i-preserved c =
-    (
-      simp length-set c.loop-i.invariant.0,
-      omega arith,
-      stored_more (λ k x. x ≡ get_or c.args.sets.now (2 * k) 0 + 256 * get_or c.args.sets.now (2 * k + 1) 0) c.loop-i.words c.loop-i.i c.word.result (omega arith) c.loop-i.invariant.2
-          c.word.ensures,
-    )
+loop-i-preserved c = (
+  simp length-set c.loop-i.invariant.0,
+  omega arith,
+  stored_more (λ k x. x ≡ get_or c.args.sets.now (2 * k) 0 + 256 * get_or c.args.sets.now (2 * k + 1) 0) c.loop-i.words c.loop-i.i c.word.result (omega arith) c.loop-i.invariant.2
+      c.word.ensures,
+)
 
 pub returns : goal.returns
 returns c =

@@ -19,13 +19,12 @@ loop-i-init c =
     (omega arith, refl, refl, start c.args.sets.now)
 
 pub loop-i-preserved : goal.loop-i-preserved
-loop-i-preserved c =
-    (
-      omega arith,
-      c.two-at.auto.out ∙ c.loop-i.invariant.1,
-      omega (arith, c.two-at.ensures.ends, c.loop-i.invariant.2),
-      bytes_turn c.loop-i.i c.args.words.now (omega arith) (omega (arith, c.loop-i.invariant.2, c.loop-i.invariant.0, c.requires)) c.loop-i.invariant.3 c.two-at.ensures,
-    )
+loop-i-preserved c = (
+  omega arith,
+  c.two-at.auto.out ∙ c.loop-i.invariant.1,
+  omega (arith, c.two-at.ensures.ends, c.loop-i.invariant.2),
+  bytes_turn c.loop-i.i c.args.words.now (omega arith) (omega (arith, c.loop-i.invariant.2, c.loop-i.invariant.0, c.requires)) c.loop-i.invariant.3 c.two-at.ensures,
+)
 
 pub returns : goal.returns
 returns c =

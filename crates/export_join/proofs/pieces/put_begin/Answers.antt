@@ -11,4 +11,5 @@ returns-then-near-eq0 c =
 
 pub returns-else-near-eq0 : goal.returns-else-near-eq0
 returns-else-near-eq0 c =
-    subst (λ (x : List ℕ). Written c.args.out.now c.args.start x c.put_path-else-near-eq0.new.out (c.args.start + 13)) (begin_at c.args.l.now c.args.near c.if-near-eq0.false) c.put_path-else-near-eq0.ensures
+    subst (λ (x : List ℕ). Written c.args.out.now c.args.start x c.put_path-else-near-eq0.new.out (c.args.start + 13)) (begin_at c.args.l.now c.args.near c.if-near-eq0.false)
+    c.put_path-else-near-eq0.ensures

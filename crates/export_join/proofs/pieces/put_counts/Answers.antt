@@ -9,13 +9,12 @@ loop-i-init c = (omega arith, refl, omega arith, wides_start c.args.out.now (at 
 
 pub loop-i-preserved : goal.loop-i-preserved
 unfolding at
-loop-i-preserved c =
-    (
-      omega arith,
-      c.eight-place.auto.out ∙ c.loop-i.invariant.1,
-      omega (arith, eight_ends _ c.eight-place.ensures, c.loop-i.invariant.2),
-      wides_turn c.loop-i.i (at c.args.counts) (omega (arith, c.loop-i.invariant.2, c.loop-i.invariant.0, c.requires)) c.loop-i.invariant.3 c.eight-place.ensures,
-    )
+loop-i-preserved c = (
+  omega arith,
+  c.eight-place.auto.out ∙ c.loop-i.invariant.1,
+  omega (arith, eight_ends _ c.eight-place.ensures, c.loop-i.invariant.2),
+  wides_turn c.loop-i.i (at c.args.counts) (omega (arith, c.loop-i.invariant.2, c.loop-i.invariant.0, c.requires)) c.loop-i.invariant.3 c.eight-place.ensures,
+)
 
 pub returns : goal.returns
 returns c = wides_all c.loop-i.i _ (omega arith) c.loop-i.invariant.2 c.loop-i.invariant.3

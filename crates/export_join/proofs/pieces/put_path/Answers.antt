@@ -10,12 +10,11 @@ loop-i-init c = (omega arith, refl, written_start c.args.out.now c.args.start (�
 
 pub loop-i-preserved : goal.loop-i-preserved
 unfolding at
-loop-i-preserved c =
-    (
-      omega arith,
-      length-set c.loop-i.out (c.args.start + c.loop-i.i) _ ∙ c.loop-i.invariant.1,
-      written_turn c.args.out.now c.loop-i.out c.args.start c.loop-i.i _ (λ k. at c.args.l.now (c.args.o + k)) (omega arith) c.loop-i.invariant.1 refl c.loop-i.invariant.2,
-    )
+loop-i-preserved c = (
+  omega arith,
+  length-set c.loop-i.out (c.args.start + c.loop-i.i) _ ∙ c.loop-i.invariant.1,
+  written_turn c.args.out.now c.loop-i.out c.args.start c.loop-i.i _ (λ k. at c.args.l.now (c.args.o + k)) (omega arith) c.loop-i.invariant.1 refl c.loop-i.invariant.2,
+)
 
 pub returns : goal.returns
 returns c =

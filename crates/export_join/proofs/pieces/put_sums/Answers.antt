@@ -17,7 +17,16 @@ eight-third-requires c =
 pub eight-requires : goal.eight-requires
 unfolding four_bytes
 eight-requires c =
-    omega (arith, eight_ends c.args.plans c.eight-third.ensures, c.eight-third.auto.out, c.four-second.ensures.ends, c.four-second.auto.out, c.four-first.ensures.ends, c.four-first.auto.out, c.requires.0)
+    omega (
+      arith,
+      eight_ends c.args.plans c.eight-third.ensures,
+      c.eight-third.auto.out,
+      c.four-second.ensures.ends,
+      c.four-second.auto.out,
+      c.four-first.ensures.ends,
+      c.four-first.auto.out,
+      c.requires.0,
+    )
 
 pub returns : goal.returns
 returns c =

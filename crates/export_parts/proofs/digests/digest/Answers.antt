@@ -7,13 +7,12 @@ pub loop-i-init : goal.loop-i-init
 loop-i-init c = (omega arith, omega arith, digest_none c.args.base)
 
 pub loop-i-preserved : goal.loop-i-preserved
-loop-i-preserved c =
-    (
-      omega arith,
-      c.with_byte-h.ensures.1,
-      digest_turn c.args.base c.loop-i.i c.loop-i.h c.wide.result c.with_byte-h.result c.args.bytes.now c.loop-i-test.true c.loop-i.invariant.2
-          c.wide.ensures.0 c.with_byte-h.ensures.0,
-    )
+loop-i-preserved c = (
+  omega arith,
+  c.with_byte-h.ensures.1,
+  digest_turn c.args.base c.loop-i.i c.loop-i.h c.wide.result c.with_byte-h.result c.args.bytes.now c.loop-i-test.true c.loop-i.invariant.2
+      c.wide.ensures.0 c.with_byte-h.ensures.0,
+)
 
 pub returns : goal.returns
 returns c =

@@ -16,8 +16,10 @@ four-fourth-requires c =
 
 pub four-requires : goal.four-requires
 unfolding four_bytes
-four-requires c =
-    (omega (arith, c.four-fourth.ensures.ends, c.four-fourth.auto.out, c.four-third.ensures.ends, c.four-third.auto.out, c.four-second.ensures.ends, c.four-second.auto.out, c.requires), omega (arith, c.digest-4.ensures.1))
+four-requires c = (
+  omega (arith, c.four-fourth.ensures.ends, c.four-fourth.auto.out, c.four-third.ensures.ends, c.four-third.auto.out, c.four-second.ensures.ends, c.four-second.auto.out, c.requires),
+  omega (arith, c.digest-4.ensures.1),
+)
 
 pub returns : goal.returns
 returns c =

@@ -9,12 +9,12 @@ pub loop-i-init : goal.loop-i-init
 loop-i-init c = (omega arith, refl, written_start c.args.out.now c.args.start (at (take c.args.n c.args.path.now)))
 
 pub loop-i-preserved : goal.loop-i-preserved
-loop-i-preserved c =
-    (
-      omega arith,
-      length-set c.loop-i.out (c.args.start + c.loop-i.i) c.value_at.result ∙ c.loop-i.invariant.1,
-      written_turn c.args.out.now c.loop-i.out c.args.start c.loop-i.i c.value_at.result (at (take c.args.n c.args.path.now)) (omega arith) c.loop-i.invariant.1 c.value_at.ensures c.loop-i.invariant.2,
-    )
+loop-i-preserved c = (
+  omega arith,
+  length-set c.loop-i.out (c.args.start + c.loop-i.i) c.value_at.result ∙ c.loop-i.invariant.1,
+  written_turn c.args.out.now c.loop-i.out c.args.start c.loop-i.i c.value_at.result (at (take c.args.n c.args.path.now)) (omega arith) c.loop-i.invariant.1 c.value_at.ensures
+      c.loop-i.invariant.2,
+)
 
 pub returns : goal.returns
 returns c =

@@ -15,13 +15,16 @@ slice_bounds-ending_report-end c =
 pub ending_report-requires : goal.ending_report-requires
 ending_report-requires c =
     let l = length-take-le (4096 * c.report_run-run.result.variables) c.plan_room-list.result (omega (arith, c.report_run-run.ensures.sized.most, room_long _ c.plan_room-list.ensures)) in
-    let m = length-take-le (4096 * c.report_run-run.result.variables) c.report_run-run.new.list (omega (arith, c.report_run-run.ensures.sized.most, c.report_run-run.auto.list, room_long _ c.plan_room-list.ensures)) in
-    listed c.args.sheet.now c.report_run-run.result.variables (take (4096 * c.report_run-run.result.variables) c.plan_room-list.result) (ending_of c.in-Ended.e) c.report_run-run.ensures.sized l (sym c.report_run-run.ensures.call.answers ∙ ap means c.in-Ended.is)
+    let m = length-take-le (4096 * c.report_run-run.result.variables) c.report_run-run.new.list
+    (omega (arith, c.report_run-run.ensures.sized.most, c.report_run-run.auto.list, room_long _ c.plan_room-list.ensures)) in
+    listed c.args.sheet.now c.report_run-run.result.variables (take (4096 * c.report_run-run.result.variables) c.plan_room-list.result) (ending_of c.in-Ended.e) c.report_run-run.ensures.sized l
+    (sym c.report_run-run.ensures.call.answers ∙ ap means c.in-Ended.is)
     (take (4096 * c.report_run-run.result.variables) c.report_run-run.new.list) (m ∙ sym l)
 
 pub returns-in-Refused : goal.returns-in-Refused
 returns-in-Refused c =
-    let v = refusal_of c.args.sheet.now REPORT_LIMIT (take (4096 * c.report_run-run.result.variables) c.plan_room-list.result) c.in-Refused.number c.in-Refused.item (sym c.report_run-run.ensures.call.answers ∙ ap means c.in-Refused.is) in
+    let v = refusal_of c.args.sheet.now REPORT_LIMIT (take (4096 * c.report_run-run.result.variables) c.plan_room-list.result) c.in-Refused.number c.in-Refused.item
+    (sym c.report_run-run.ensures.call.answers ∙ ap means c.in-Refused.is) in
     subst (λ (l : List ℕ). Fitted c.args.out.now l c.refused.new.out c.refused.result) (refused_text c.args.sheet.now c.in-Refused.number c.in-Refused.item v) c.refused.ensures
 
 pub returns-in-Ended : goal.returns-in-Ended
@@ -30,5 +33,8 @@ returns-in-Ended c =
     let h = sym c.report_run-run.ensures.call.answers ∙ ap means c.in-Ended.is in
     let o = take (4096 * c.report_run-run.result.variables) c.plan_room-list.result in
     let x = ending_of c.in-Ended.e in
-    let e = ended_text_lem c.args.sheet.now c.report_run-run.result.variables o x c.report_run-run.ensures.sized l h (take (4096 * c.report_run-run.result.variables) c.report_run-run.new.list) c.report_run-run.ensures.call.leaves in
-    subst (λ (k : List ℕ). Fitted c.args.out.now k c.ending_report.new.out c.ending_report.result) e (c.ending_report.ensures _ (c.report_run-run.ensures.figure (verdict c.args.sheet.now c.report_run-run.result.variables o x c.report_run-run.ensures.sized l h)) (dashed c.args.sheet.now c.report_run-run.result.variables o x c.report_run-run.ensures.sized l h))
+    let e = ended_text_lem c.args.sheet.now c.report_run-run.result.variables o x c.report_run-run.ensures.sized l h (take (4096 * c.report_run-run.result.variables) c.report_run-run.new.list)
+    c.report_run-run.ensures.call.leaves in
+    subst (λ (k : List ℕ). Fitted c.args.out.now k c.ending_report.new.out c.ending_report.result) e
+    (c.ending_report.ensures _ (c.report_run-run.ensures.figure (verdict c.args.sheet.now c.report_run-run.result.variables o x c.report_run-run.ensures.sized l h))
+    (dashed c.args.sheet.now c.report_run-run.result.variables o x c.report_run-run.ensures.sized l h))

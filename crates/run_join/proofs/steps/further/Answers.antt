@@ -14,11 +14,10 @@ returns-then-best-eq0 c =
     c.reach_place-q.ensures c.order.ensures
 
 pub order-requires-2 : goal.order-requires-2
-order-requires-2 c =
-    (
-      reach_path c.args.l.now c.args.n (c.args.best - 1) c.requires.heads (omega (arith, c.requires.inside, c.requires.earlier)) c.reach_place.result c.reach_place.ensures,
-      reach_path c.args.l.now c.args.n c.args.k c.requires.heads c.requires.inside c.reach_place-q.result c.reach_place-q.ensures,
-    )
+order-requires-2 c = (
+  reach_path c.args.l.now c.args.n (c.args.best - 1) c.requires.heads (omega (arith, c.requires.inside, c.requires.earlier)) c.reach_place.result c.reach_place.ensures,
+  reach_path c.args.l.now c.args.n c.args.k c.requires.heads c.requires.inside c.reach_place-q.result c.reach_place-q.ensures,
+)
 
 pub returns : goal.returns
 returns c =

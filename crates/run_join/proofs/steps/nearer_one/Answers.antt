@@ -10,7 +10,8 @@ order-requires c =
 
 pub returns-then-order-ne1 : goal.returns-then-order-ne1
 returns-then-order-ne1 c =
-    stays_first _ _ c.args.k c.args.near (sym (after_is (path_at c.args.here.now c.args.o) (from_at c.args.l.now c.args.k) c.order.result c.order.ensures) ∙ ne_eqb c.order.result 1 c.if-order-ne1.true)
+    stays_first _ _ c.args.k c.args.near (sym (after_is (path_at c.args.here.now c.args.o) (from_at c.args.l.now c.args.k) c.order.result c.order.ensures)
+    ∙ ne_eqb c.order.result 1 c.if-order-ne1.true)
 
 pub returns-then-near-eq0 : goal.returns-then-near-eq0
 returns-then-near-eq0 c =
@@ -18,11 +19,10 @@ returns-then-near-eq0 c =
     (near_first c.args.l.now (path_at c.args.here.now c.args.o) c.args.near c.args.k c.if-near-eq0.true)
 
 pub order-requires-2 : goal.order-requires-2
-order-requires-2 c =
-    (
-      from_path c.args.l.now c.args.n c.args.k c.requires.heads c.requires.inside,
-      from_path c.args.l.now c.args.n (c.args.near - 1) c.requires.heads (omega (arith, c.requires.inside, c.requires.earlier)),
-    )
+order-requires-2 c = (
+  from_path c.args.l.now c.args.n c.args.k c.requires.heads c.requires.inside,
+  from_path c.args.l.now c.args.n (c.args.near - 1) c.requires.heads (omega (arith, c.requires.inside, c.requires.earlier)),
+)
 
 pub returns-then-order-eq1 : goal.returns-then-order-eq1
 returns-then-order-eq1 c =

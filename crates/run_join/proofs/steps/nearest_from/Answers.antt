@@ -13,14 +13,13 @@ nearer_one-near-requires c =
     record { path = c.requires.0; heads = c.requires.1; earlier = c.loop-k.invariant.2; inside = c.loop-k-test.true }
 
 pub loop-k-preserved : goal.loop-k-preserved
-loop-k-preserved c =
-    (
-      omega arith,
-      near_turn c.args.l.now (path_at c.args.here.now c.args.o) c.loop-k.k c.loop-k.near c.nearer_one-near.result c.loop-k.invariant.1 c.nearer_one-near.ensures,
-      chosen_few
-          (after (path_at c.args.here.now c.args.o) (from_at c.args.l.now c.loop-k.k)) (nearer c.args.l.now c.loop-k.near (from_at c.args.l.now c.loop-k.k)) c.loop-k.k c.loop-k.near
-          c.nearer_one-near.result c.loop-k.invariant.2 c.nearer_one-near.ensures,
-    )
+loop-k-preserved c = (
+  omega arith,
+  near_turn c.args.l.now (path_at c.args.here.now c.args.o) c.loop-k.k c.loop-k.near c.nearer_one-near.result c.loop-k.invariant.1 c.nearer_one-near.ensures,
+  chosen_few
+      (after (path_at c.args.here.now c.args.o) (from_at c.args.l.now c.loop-k.k)) (nearer c.args.l.now c.loop-k.near (from_at c.args.l.now c.loop-k.k)) c.loop-k.k c.loop-k.near
+      c.nearer_one-near.result c.loop-k.invariant.2 c.nearer_one-near.ensures,
+)
 
 pub returns : goal.returns
 returns c =

@@ -14,12 +14,11 @@ overflow_add-sums c =
 
 pub loop-i-preserved : goal.loop-i-preserved
 unfolding at
-loop-i-preserved c =
-    (
-      omega arith,
-      counts_turn c.args.counts c.args.l.now c.loop-i.sums c.args.k c.loop-i.i _ c.four_at.result c.loop-i-test.true c.loop-i.invariant.1
-          c.four_at.ensures.0 c.four_at.ensures.1 refl,
-    )
+loop-i-preserved c = (
+  omega arith,
+  counts_turn c.args.counts c.args.l.now c.loop-i.sums c.args.k c.loop-i.i _ c.four_at.result c.loop-i-test.true c.loop-i.invariant.1
+      c.four_at.ensures.0 c.four_at.ensures.1 refl,
+)
 
 pub returns : goal.returns
 returns c =

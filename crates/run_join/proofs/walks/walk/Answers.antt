@@ -12,19 +12,23 @@ returns-then-next-eq0 c =
     (taken_stop c.args.l.now (c.args.n - c.loop-j.j) c.loop-j.w.stand (sym c.step-next.ensures.0 ∙ c.if-next-eq0.true))
 
 pub with_head-w-requires : goal.with_head-w-requires
-with_head-w-requires c =
-    (
-      omega (arith, c.requires.0.fits, c.step-next.ensures.1, c.if-next-eq0.false),
-      record { plans = omega (arith, c.loop-j.invariant.1.few_plans, c.requires.0.few); nodes = omega (arith, c.loop-j.invariant.1.few_nodes, c.requires.0.few); counts = λ x h. omega (arith, c.loop-j.invariant.1.few x h, c.requires.0.few) },
-    )
+with_head-w-requires c = (
+  omega (arith, c.requires.0.fits, c.step-next.ensures.1, c.if-next-eq0.false),
+  record {
+    plans = omega (arith, c.loop-j.invariant.1.few_plans, c.requires.0.few);
+    nodes = omega (arith, c.loop-j.invariant.1.few_nodes, c.requires.0.few);
+    counts =
+        λ x h. omega (arith, c.loop-j.invariant.1.few x h, c.requires.0.few);
+  },
+)
 
 pub loop-j-preserved : goal.loop-j-preserved
-loop-j-preserved c =
-    (
-      omega arith,
-      underway_turn c.args.l.now c.args.n c.loop-j.j c.loop-j.w.stand c.loop-j.w.plans c.loop-j.w.nodes c.loop-j.w.counts c.loop-j.invariant.1 c.step-next.result c.with_head-w.result.stand c.with_head-w.result.plans c.with_head-w.result.nodes
-          c.with_head-w.result.counts c.loop-j-test.true c.step-next.ensures.0 c.if-next-eq0.false c.step-next.ensures.1 c.with_head-w.ensures,
-    )
+loop-j-preserved c = (
+  omega arith,
+  underway_turn c.args.l.now c.args.n c.loop-j.j c.loop-j.w.stand c.loop-j.w.plans c.loop-j.w.nodes c.loop-j.w.counts c.loop-j.invariant.1 c.step-next.result c.with_head-w.result.stand
+      c.with_head-w.result.plans c.with_head-w.result.nodes
+      c.with_head-w.result.counts c.loop-j-test.true c.step-next.ensures.0 c.if-next-eq0.false c.step-next.ensures.1 c.with_head-w.ensures,
+)
 
 pub returns : goal.returns
 returns c =

@@ -13,11 +13,10 @@ returns-then-order-ne0 c =
     (not_same (path_at c.args.l.now c.reach_place-q.result) (path_at c.args.here.now c.args.o) c.order.result c.order.ensures c.if-order-ne0.true)
 
 pub order-requires-2 : goal.order-requires-2
-order-requires-2 c =
-    (
-      from_path c.args.l.now c.args.n c.args.k c.requires.heads c.requires.inside,
-      reach_path c.args.l.now c.args.n c.args.k c.requires.heads c.requires.inside c.reach_place-q.result c.reach_place-q.ensures,
-    )
+order-requires-2 c = (
+  from_path c.args.l.now c.args.n c.args.k c.requires.heads c.requires.inside,
+  reach_path c.args.l.now c.args.n c.args.k c.requires.heads c.requires.inside c.reach_place-q.result c.reach_place-q.ensures,
+)
 
 pub returns : goal.returns
 returns c =

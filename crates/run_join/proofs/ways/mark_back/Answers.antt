@@ -12,9 +12,13 @@ pub loop-k-preserved : goal.loop-k-preserved
 loop-k-preserved c =
     let here = path_at c.args.here.now c.args.o in (
       omega arith,
-      (elim c.if-comes_to.branch [ then-comes_to w ↦ subst (Back here c.args.l.now (c.loop-k.k + 1) c.args.marks.now) (sym w.marks-is)
-          (back_yes here c.args.l.now c.loop-k.k c.args.marks.now c.loop-k.marks c.loop-k.invariant.1 _ (sym c.comes_to.ensures ∙ w.if-comes_to.true) w.mark.ensures) | else-comes_to w ↦ subst (Back here c.args.l.now (c.loop-k.k + 1) c.args.marks.now) (sym w.marks-is)
-          (back_no here c.args.l.now c.loop-k.k c.args.marks.now c.loop-k.marks c.loop-k.invariant.1 (sym c.comes_to.ensures ∙ w.if-comes_to.false)) ]),
+      (elim c.if-comes_to.branch [
+        | then-comes_to w ↦ subst (Back here c.args.l.now (c.loop-k.k + 1) c.args.marks.now) (sym w.marks-is)
+            (back_yes here c.args.l.now c.loop-k.k c.args.marks.now c.loop-k.marks c.loop-k.invariant.1 _ (sym c.comes_to.ensures ∙ w.if-comes_to.true) w.mark.ensures)
+        | else-comes_to w ↦
+            subst (Back here c.args.l.now (c.loop-k.k + 1) c.args.marks.now) (sym w.marks-is)
+            (back_no here c.args.l.now c.loop-k.k c.args.marks.now c.loop-k.marks c.loop-k.invariant.1 (sym c.comes_to.ensures ∙ w.if-comes_to.false))
+      ]),
     )
 
 pub returns : goal.returns

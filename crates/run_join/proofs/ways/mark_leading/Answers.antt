@@ -24,13 +24,12 @@ loop-next-smaller c =
     c.loop-next-test.true _ c.mark.ensures
 
 pub loop-next-preserved : goal.loop-next-preserved
-loop-next-preserved c =
-    (
-      marking_turn c.args.l.now c.args.n c.requires.1 c.loop-next.marks c.loop-next.done c.loop-next.invariant.0 c.loop-next.next c.loop-next.invariant.1
-          c.loop-next-test.true _ _ c.mark.ensures
-          c.mark_back-in-loop-next.ensures,
-      c.pending-next-in-loop-next.ensures,
-    )
+loop-next-preserved c = (
+  marking_turn c.args.l.now c.args.n c.requires.1 c.loop-next.marks c.loop-next.done c.loop-next.invariant.0 c.loop-next.next c.loop-next.invariant.1
+      c.loop-next-test.true _ _ c.mark.ensures
+      c.mark_back-in-loop-next.ensures,
+  c.pending-next-in-loop-next.ensures,
+)
 
 pub returns : goal.returns
 returns c =

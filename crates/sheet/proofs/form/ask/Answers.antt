@@ -12,14 +12,13 @@ returns-in_default c =
 
 pub ask-second-requires : goal.ask-second-requires
 ask-second-requires c =
-    let headed : Answers (header_asked c.args.sheet.now) c.ask-first.result = heading c.args.h _ c.ask-first.result c.requires.1 c.ask-first.ensures in
-    (
-  fit_of _ _ c.in-Accepted.is headed,
-  ap (λ (x : Numbers). x.variables) c.requires.1,
-  ap
-      (λ (x : Numbers). x.values) c.requires.1,
-  c.requires.2.sized,
-)
+    let headed : Answers (header_asked c.args.sheet.now) c.ask-first.result = heading c.args.h _ c.ask-first.result c.requires.1 c.ask-first.ensures in (
+      fit_of _ _ c.in-Accepted.is headed,
+      ap (λ (x : Numbers). x.variables) c.requires.1,
+      ap
+          (λ (x : Numbers). x.values) c.requires.1,
+      c.requires.2.sized,
+    )
 
 pub returns-in_default-second : goal.returns-in_default-second
 returns-in_default-second c =
@@ -29,11 +28,10 @@ returns-in_default-second c =
 
 pub ask-third-requires : goal.ask-third-requires
 ask-third-requires c =
-    let headed : Answers (header_asked c.args.sheet.now) c.ask-first.result = heading c.args.h _ c.ask-first.result c.requires.1 c.ask-first.ensures in
-    (
-  fit_of _ _ c.in-Accepted.is headed,
-  c.requires.1,
-)
+    let headed : Answers (header_asked c.args.sheet.now) c.ask-first.result = heading c.args.h _ c.ask-first.result c.requires.1 c.ask-first.ensures in (
+      fit_of _ _ c.in-Accepted.is headed,
+      c.requires.1,
+    )
 
 pub returns-in_default-third : goal.returns-in_default-third
 returns-in_default-third c =

@@ -60,27 +60,26 @@ overflow_add-x-in-loop-x c = omega (
 )
 
 pub loop-x-preserved : goal.loop-x-preserved
-loop-x-preserved c =
-    (
-      omega (arith, c.loop-x-test.true),
-      c.loop-x.invariant.1,
-      c.loop-x.invariant.2,
-      passed_more _ _ _ _ c.loop-x-test.true c.loop-x.invariant.3
-          (set_test _ _ _ _ _ _ _ _ c.is_set.ensures c.read_word-s.ensures c.loop-x.invariant.1
-          c.requires.2
-          (omega (
-            arith,
-            c.requires.0.sixteen,
-            c.requires.2,
-          )) c.if-not-is_set.false),
-      set_stored _ _ _ _ _
-          (omega (
-            arith,
-            c.loop-x-test.true,
-            c.requires.0.few,
-            c.requires.1,
-          )) c.loop-x.invariant.2 c.read_word-s.ensures c.loop-x.invariant.4,
-    )
+loop-x-preserved c = (
+  omega (arith, c.loop-x-test.true),
+  c.loop-x.invariant.1,
+  c.loop-x.invariant.2,
+  passed_more _ _ _ _ c.loop-x-test.true c.loop-x.invariant.3
+      (set_test _ _ _ _ _ _ _ _ c.is_set.ensures c.read_word-s.ensures c.loop-x.invariant.1
+      c.requires.2
+      (omega (
+        arith,
+        c.requires.0.sixteen,
+        c.requires.2,
+      )) c.if-not-is_set.false),
+  set_stored _ _ _ _ _
+      (omega (
+        arith,
+        c.loop-x-test.true,
+        c.requires.0.few,
+        c.requires.1,
+      )) c.loop-x.invariant.2 c.read_word-s.ensures c.loop-x.invariant.4,
+)
 
 pub returns : goal.returns
 returns c =

@@ -85,21 +85,21 @@ place-requires c =
 pub overflow_add-from : goal.overflow_add-from
 overflow_add-from c =
     let row : c.args.from + c.place.result < SUPPORTS = omega (
-  arith,
-  c.requires.1,
-  c.place.ensures.0,
-  c.requires.2 (16 * c.args.y +
-      c.lowest.result),
-) in
+      arith,
+      c.requires.1,
+      c.place.ensures.0,
+      c.requires.2 (16 * c.args.y +
+          c.lowest.result),
+    ) in
     omega (arith, row)
 
 pub support-requires : goal.support-requires
 support-requires c =
     let row : c.args.from + c.place.result < SUPPORTS = omega (
-  arith,
-  c.requires.1,
-  c.place.ensures.0,
-  c.requires.2 (16 * c.args.y +
-      c.lowest.result),
-) in
+      arith,
+      c.requires.1,
+      c.place.ensures.0,
+      c.requires.2 (16 * c.args.y +
+          c.lowest.result),
+    ) in
     row

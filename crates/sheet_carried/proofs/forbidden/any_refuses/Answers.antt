@@ -11,12 +11,16 @@ loop-pending-init c = λ p t h. pending_start p _ _ _ _ _ t _ h
 
 pub returns-then-refused : goal.returns-then-refused
 returns-then-refused c =
-    let asked : (p : Problem) (t : Triple p c.args.numbers.now c.args.supports.now c.args.a c.args.b c.args.e) → c.args.set < 2 ^ length p.constraints → c.refused.result ≡ refused_by (constraint_at p (count_trailing_zeros 64 c.loop-pending.pending)) c.args.a c.args.b c.args.e = λ p t h. c.refused.ensures p t.ready (pending_next p _ _ _ _ _ t _ _ (c.loop-pending.invariant p t h) c.loop-pending-test.true) in
+    let asked : (p : Problem) (t : Triple p c.args.numbers.now c.args.supports.now c.args.a c.args.b c.args.e) → c.args.set < 2 ^ length p.constraints →
+    c.refused.result ≡ refused_by (constraint_at p (count_trailing_zeros 64 c.loop-pending.pending)) c.args.a c.args.b c.args.e =
+    λ p t h. c.refused.ensures p t.ready (pending_next p _ _ _ _ _ t _ _ (c.loop-pending.invariant p t h) c.loop-pending-test.true) in
     λ p t h. pending_stop p _ _ _ _ _ t _ _ (c.loop-pending.invariant p t h) c.loop-pending-test.true (sym (asked p t h) ∙ c.if-refused.true)
 
 pub loop-pending-preserved : goal.loop-pending-preserved
 loop-pending-preserved c =
-    let asked : (p : Problem) (t : Triple p c.args.numbers.now c.args.supports.now c.args.a c.args.b c.args.e) → c.args.set < 2 ^ length p.constraints → c.refused.result ≡ refused_by (constraint_at p (count_trailing_zeros 64 c.loop-pending.pending)) c.args.a c.args.b c.args.e = λ p t h. c.refused.ensures p t.ready (pending_next p _ _ _ _ _ t _ _ (c.loop-pending.invariant p t h) c.loop-pending-test.true) in
+    let asked : (p : Problem) (t : Triple p c.args.numbers.now c.args.supports.now c.args.a c.args.b c.args.e) → c.args.set < 2 ^ length p.constraints →
+    c.refused.result ≡ refused_by (constraint_at p (count_trailing_zeros 64 c.loop-pending.pending)) c.args.a c.args.b c.args.e =
+    λ p t h. c.refused.ensures p t.ready (pending_next p _ _ _ _ _ t _ _ (c.loop-pending.invariant p t h) c.loop-pending-test.true) in
     λ p t h. pending_rest p _ _ _ _ _ t _ _ (c.loop-pending.invariant p t h) c.loop-pending-test.true (sym (asked p t h) ∙ c.if-refused.false)
 
 pub returns : goal.returns

@@ -13,16 +13,18 @@ loop-v-init c = (omega arith, omega arith, lacking_none _ _ _ _)
 pub loop-v-preserved : goal.loop-v-preserved
 loop-v-preserved c =
     let r : (c.if-not-contains.set.bits < 2 ^ 16) × Lacking c.args.supports.now c.args.base c.args.step c.args.w (c.loop-v.v + 1) c.if-not-contains.set.bits =
-        elim c.if-not-contains.branch [
-          then-not-contains u ↦
-              let q = ap (λ (s : ValueSet). s.bits) u.set-is ∙ u.union-set.ensures ∙ ap (union_mask c.loop-v.set.bits)
-                  (u.only.ensures ∙ ap (λ (f : ℕ). only_mask f c.loop-v.v) u.full.ensures) in
-              (subst (λ (s : ℕ). s < 2 ^ 16) (sym q) (mask_lt 16 _), lacking_more _ _ _ _ _ _ _ c.loop-v.invariant.2 c.support.ensures _ c.loop-v.invariant.1 c.loop-v-test.true q
-              (sym c.contains.ensures ∙ u.if-not-contains.true))
-          | else-not-contains u ↦
-              subst (λ (s : ValueSet). (s.bits < 2 ^ 16) × Lacking c.args.supports.now c.args.base c.args.step c.args.w (c.loop-v.v + 1) s.bits) (sym u.set-is)
-              (c.loop-v.invariant.1, lacking_same _ _ _ _ _ _ _ c.loop-v.invariant.2 c.support.ensures (sym c.contains.ensures ∙ u.if-not-contains.false))
-        ] in
+    elim c.if-not-contains.branch [
+      | then-not-contains u ↦
+          let q = ap (λ (s : ValueSet). s.bits) u.set-is ∙ u.union-set.ensures ∙ ap (union_mask c.loop-v.set.bits)
+          (u.only.ensures ∙ ap (λ (f : ℕ). only_mask f c.loop-v.v) u.full.ensures) in (
+            subst (λ (s : ℕ). s < 2 ^ 16) (sym q) (mask_lt 16 _),
+            lacking_more _ _ _ _ _ _ _ c.loop-v.invariant.2 c.support.ensures _ c.loop-v.invariant.1 c.loop-v-test.true q
+                (sym c.contains.ensures ∙ u.if-not-contains.true),
+          )
+      | else-not-contains u ↦
+          subst (λ (s : ValueSet). (s.bits < 2 ^ 16) × Lacking c.args.supports.now c.args.base c.args.step c.args.w (c.loop-v.v + 1) s.bits) (sym u.set-is)
+          (c.loop-v.invariant.1, lacking_same _ _ _ _ _ _ _ c.loop-v.invariant.2 c.support.ensures (sym c.contains.ensures ∙ u.if-not-contains.false))
+    ] in
     (omega arith, r.0, r.1)
 
 pub returns : goal.returns

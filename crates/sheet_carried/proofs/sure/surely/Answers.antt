@@ -10,7 +10,8 @@ returns-then-set-eq0 c = λ p r ma mb. sure_none p _ _ _
 
 pub returns : goal.returns
 returns c =
-    let found : bit_and (bit_and c.number.result c.number-2.result) c.number-3.result ≡ bit_and (bit_and (at c.args.numbers.now (c.args.a / 16)) (at c.args.numbers.now (c.args.b / 16))) (at c.args.numbers.now c.args.y) = ap₂ bit_and (ap₂ bit_and c.number.ensures c.number-2.ensures) c.number-3.ensures in
+    let found : bit_and (bit_and c.number.result c.number-2.result) c.number-3.result ≡ bit_and (bit_and (at c.args.numbers.now (c.args.a / 16)) (at c.args.numbers.now (c.args.b / 16)))
+    (at c.args.numbers.now c.args.y) = ap₂ bit_and (ap₂ bit_and c.number.ensures c.number-2.ensures) c.number-3.ensures in
     λ p r ma mb. c.refusing.ensures p _ (on_lowest p _ _ r _ _ _ ma mb c.requires.4 _ found c.if-set-eq0.false)
 
 pub number-requires : goal.number-requires
@@ -24,6 +25,8 @@ overflow_cast-set c = record { fits = lt_of_le_of_lt (trailing_le 64 _) (lit< tt
 
 pub refusing-requires : goal.refusing-requires
 refusing-requires c =
-    let found : bit_and (bit_and c.number.result c.number-2.result) c.number-3.result ≡ bit_and (bit_and (at c.args.numbers.now (c.args.a / 16)) (at c.args.numbers.now (c.args.b / 16))) (at c.args.numbers.now c.args.y) = ap₂ bit_and (ap₂ bit_and c.number.ensures c.number-2.ensures) c.number-3.ensures in
-    let small : count_trailing_zeros 64 (bit_and (bit_and c.number.result c.number-2.result) c.number-3.result) < 32 = on_small c.requires.0 _ _ c.requires.1 _ _ _ c.requires.2 c.requires.3 c.requires.4 _ found c.if-set-eq0.false in
+    let found : bit_and (bit_and c.number.result c.number-2.result) c.number-3.result ≡ bit_and (bit_and (at c.args.numbers.now (c.args.a / 16)) (at c.args.numbers.now (c.args.b / 16)))
+    (at c.args.numbers.now c.args.y) = ap₂ bit_and (ap₂ bit_and c.number.ensures c.number-2.ensures) c.number-3.ensures in
+    let small : count_trailing_zeros 64 (bit_and (bit_and c.number.result c.number-2.result) c.number-3.result) < 32 =
+    on_small c.requires.0 _ _ c.requires.1 _ _ _ c.requires.2 c.requires.3 c.requires.4 _ found c.if-set-eq0.false in
     small

@@ -10,14 +10,13 @@ pub loop-first-init : goal.loop-first-init
 loop-first-init c = λ p h. swept_none _ _ _ (c.initial-rest.ensures p h.0 h.2) (init_small p h.0.stated _ h.2)
 
 pub firsts_from-requires : goal.firsts_from-requires
-firsts_from-requires c =
-    (
-      omega (arith, c.requires.0.1.1, c.requires.0.1.0.stated.few),
-      subst (λ (n : ℕ). n < 2 ^ 16) (sym c.common-set.ensures) (mask_lt 16 _),
-      omega (arith, c.place.ensures.0, c.requires.3 (16 * c.args.z + c.lowest-u.result)),
-      c.requires.1,
-      c.requires.3,
-    )
+firsts_from-requires c = (
+  omega (arith, c.requires.0.1.1, c.requires.0.1.0.stated.few),
+  subst (λ (n : ℕ). n < 2 ^ 16) (sym c.common-set.ensures) (mask_lt 16 _),
+  omega (arith, c.place.ensures.0, c.requires.3 (16 * c.args.z + c.lowest-u.result)),
+  c.requires.1,
+  c.requires.3,
+)
 
 pub returns-then-not-firsts_from : goal.returns-then-not-firsts_from
 returns-then-not-firsts_from c = λ q. absurd (subst T (sym q) tt)

@@ -9,12 +9,11 @@ loop-rest-init c = λ p s. (s, refl)
 
 pub pair_blocked-requires : goal.pair_blocked-requires
 pair_blocked-requires c =
-    let some : c.loop-rest.rest.bits ≡ 0 → ⊥ = some_left _ _ c.is_empty.ensures c.loop-rest-test.true-raw in
-    (
-  c.requires.0,
-  beside_triple c.requires.0 _ _ _ _ _ _ _ (c.loop-rest.invariant c.requires.0 c.requires.1).0 _ _ some c.lowest-v.ensures
-      c.place.ensures.0,
-)
+    let some : c.loop-rest.rest.bits ≡ 0 → ⊥ = some_left _ _ c.is_empty.ensures c.loop-rest-test.true-raw in (
+      c.requires.0,
+      beside_triple c.requires.0 _ _ _ _ _ _ _ (c.loop-rest.invariant c.requires.0 c.requires.1).0 _ _ some c.lowest-v.ensures
+          c.place.ensures.0,
+    )
 
 pub returns-then-not-pair_blocked : goal.returns-then-not-pair_blocked
 returns-then-not-pair_blocked c =
@@ -22,7 +21,8 @@ returns-then-not-pair_blocked c =
     λ p s.
     let i = c.loop-rest.invariant p s in
     let n = some in
-    beside_stop p _ _ _ _ _ _ _ i.0 _ _ n c.lowest-v.ensures c.place.ensures.0 _ _ (c.pair_blocked.ensures p (beside_triple p _ _ _ _ _ _ _ i.0 _ _ n c.lowest-v.ensures c.place.ensures.0)) c.if-not-pair_blocked.true i.1
+    beside_stop p _ _ _ _ _ _ _ i.0 _ _ n c.lowest-v.ensures c.place.ensures.0 _ _ (c.pair_blocked.ensures p (beside_triple p _ _ _ _ _ _ _ i.0 _ _ n c.lowest-v.ensures c.place.ensures.0))
+    c.if-not-pair_blocked.true i.1
 
 pub loop-rest-smaller : goal.loop-rest-smaller
 loop-rest-smaller c =

@@ -16,7 +16,8 @@ returns-then-arity-ne2 c = λ q. absurd (subst T (sym q) tt)
 pub returns : goal.returns
 returns c =
     let found : bit_and c.number.result c.number-2.result ≡ bit_and (at c.args.numbers.now (c.args.a / 16)) (at c.args.numbers.now (c.args.b / 16)) = ap₂ bit_and c.number.ensures c.number-2.ensures in
-    let inside : (p : Problem) → Triple p c.args.numbers.now c.args.supports.now 255 c.args.a c.args.b → count_trailing_zeros 64 (bit_and c.number.result c.number-2.result) < length p.constraints = λ p t. couple_lt p _ _ _ _ t _ found c.if-set-eq0.false in
+    let inside : (p : Problem) → Triple p c.args.numbers.now c.args.supports.now 255 c.args.a c.args.b → count_trailing_zeros 64 (bit_and c.number.result c.number-2.result) < length p.constraints =
+    λ p t. couple_lt p _ _ _ _ t _ found c.if-set-eq0.false in
     λ q p t.
     couple_blocked p _ _ _ _ t _ found c.if-set-eq0.false c.requires.1
     (sym (c.arity.ensures p t.ready.framed (inside p t)) ∙ c.if-arity-ne2.false) _ c.support.ensures (sym c.contains.ensures ∙ not-true _ q)
@@ -33,7 +34,8 @@ overflow_cast-k c = record { fits = lt_of_le_of_lt (trailing_le 64 _) (lit< tt) 
 pub arity-requires : goal.arity-requires
 arity-requires c =
     let found : bit_and c.number.result c.number-2.result ≡ bit_and (at c.args.numbers.now (c.args.a / 16)) (at c.args.numbers.now (c.args.b / 16)) = ap₂ bit_and c.number.ensures c.number-2.ensures in
-    let inside : (p : Problem) → Triple p c.args.numbers.now c.args.supports.now 255 c.args.a c.args.b → count_trailing_zeros 64 (bit_and c.number.result c.number-2.result) < length p.constraints = λ p t. couple_lt p _ _ _ _ t _ found c.if-set-eq0.false in
+    let inside : (p : Problem) → Triple p c.args.numbers.now c.args.supports.now 255 c.args.a c.args.b → count_trailing_zeros 64 (bit_and c.number.result c.number-2.result) < length p.constraints =
+    λ p t. couple_lt p _ _ _ _ t _ found c.if-set-eq0.false in
     (c.requires.0.0, c.requires.0.1.ready.framed, inside c.requires.0.0 c.requires.0.1)
 
 pub overflow_mul-k : goal.overflow_mul-k

@@ -40,7 +40,8 @@ returns-then-not-third_blocked c =
     let i = c.loop-rest.invariant p s in
     let n = some in
     let k = c.surely_after-sure.ensures p s.ready s.first s.second i.2 in
-    let r = c.third_blocked.ensures p (beside_triple p _ _ _ _ _ _ _ i.0 _ _ n c.lowest-v.ensures c.place-e.ensures.0) (beside_pair p _ _ _ _ _ _ _ i.0 _ _ n c.lowest-v.ensures c.place-e.ensures.0) k in
+    let r = c.third_blocked.ensures p (beside_triple p _ _ _ _ _ _ _ i.0 _ _ n c.lowest-v.ensures c.place-e.ensures.0) (beside_pair p _ _ _ _ _ _ _ i.0 _ _ n c.lowest-v.ensures c.place-e.ensures.0) k
+    in
     beside_stop p _ _ _ _ _ _ _ i.0 _ _ n c.lowest-v.ensures c.place-e.ensures.0 _ _ r c.if-not-third_blocked.true i.1
 
 pub loop-rest-smaller : goal.loop-rest-smaller
@@ -57,7 +58,8 @@ loop-rest-preserved c =
     let i = c.loop-rest.invariant p s in
     let n = some in
     let k = c.surely_after-sure.ensures p s.ready s.first s.second i.2 in
-    let r = c.third_blocked.ensures p (beside_triple p _ _ _ _ _ _ _ i.0 _ _ n c.lowest-v.ensures c.place-e.ensures.0) (beside_pair p _ _ _ _ _ _ _ i.0 _ _ n c.lowest-v.ensures c.place-e.ensures.0) k in
+    let r = c.third_blocked.ensures p (beside_triple p _ _ _ _ _ _ _ i.0 _ _ n c.lowest-v.ensures c.place-e.ensures.0) (beside_pair p _ _ _ _ _ _ _ i.0 _ _ n c.lowest-v.ensures c.place-e.ensures.0) k
+    in
     let t = beside_rest p _ _ _ _ _ _ _ i.0 _ _ n c.lowest-v.ensures c.place-e.ensures.0 _ _ _ c.without-rest.ensures r c.if-not-third_blocked.false i.1 in
     (t.0, t.1, k)
 

@@ -13,8 +13,12 @@ returns-then-ahead-ne1 c = λ q. absurd (subst T (sym q) tt)
 pub scope_at-x-requires : goal.scope_at-x-requires
 scope_at-x-requires c =
     let At : Problem → List ℕ → Type 0 = λ p vs. Ready p c.args.numbers.now c.args.supports.now × Chosen p vs c.args.k c.args.ahead c.args.key in
-    let last : (p : Problem) (vs : List ℕ) → At p vs → c.arity.result ≡ length vs + 1 = λ p vs h. omega (arith, c.arity.ensures p h.0.framed h.1.inside, h.1.split, c.if-ahead-ne1.false) in
-    (c.requires.0, c.requires.2.framed, c.requires.3.inside, omega (arith, last c.requires.0 c.requires.1 (c.requires.2, c.requires.3), c.arity.ensures c.requires.0 c.requires.2.framed c.requires.3.inside))
+    let last : (p : Problem) (vs : List ℕ) → At p vs → c.arity.result ≡ length vs + 1 = λ p vs h. omega (arith, c.arity.ensures p h.0.framed h.1.inside, h.1.split, c.if-ahead-ne1.false) in (
+      c.requires.0,
+      c.requires.2.framed,
+      c.requires.3.inside,
+      omega (arith, last c.requires.0 c.requires.1 (c.requires.2, c.requires.3), c.arity.ensures c.requires.0 c.requires.2.framed c.requires.3.inside),
+    )
 
 pub returns : goal.returns
 returns c =

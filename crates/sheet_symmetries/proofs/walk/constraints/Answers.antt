@@ -14,19 +14,29 @@ loop-k-init c = λ p l. (omega arith, refl)
 
 pub returns-then-not-walk : goal.returns-then-not-walk
 returns-then-not-walk c =
-    let inside : (p : Problem) → Lent p c.args.numbers.now c.args.supports.now c.args.codes.now c.args.moves.now → c.loop-k.k < length p.constraints = λ p l. omega (arith, c.number-c.ensures, l.ready.framed.numbered.constraints, c.loop-k-test.true) in
-    let start : (p : Problem) → Lent p c.args.numbers.now c.args.supports.now c.args.codes.now c.args.moves.now → Walking p [] c.args.numbers.now c.args.supports.now c.args.codes.now c.args.moves.now c.loop-k.k c.arity.result 0 255 255 255 = λ p l. walk_start p _ _ _ _ _ _ l (inside p l) (c.arity.ensures p l.ready.framed (inside p l)) in
-    let some : (p : Problem) → Lent p c.args.numbers.now c.args.supports.now c.args.codes.now c.args.moves.now → c.arity.result ≡ 0 → ⊥ = λ p l z. omega (arith, c.arity.ensures p l.ready.framed (inside p l), (good p l.ready.framed.stated _ (inside p l)).some) in
-    let answer : (p : Problem) → Lent p c.args.numbers.now c.args.supports.now c.args.codes.now c.args.moves.now → kept p c.args.codes.now (constraint_at p c.loop-k.k) ≡ c.walk.result = λ p l. sym (c.walk.ensures p [] 255 (start p l) (some p l)) in
+    let inside : (p : Problem) → Lent p c.args.numbers.now c.args.supports.now c.args.codes.now c.args.moves.now → c.loop-k.k < length p.constraints =
+    λ p l. omega (arith, c.number-c.ensures, l.ready.framed.numbered.constraints, c.loop-k-test.true) in
+    let start : (p : Problem) → Lent p c.args.numbers.now c.args.supports.now c.args.codes.now c.args.moves.now →
+    Walking p [] c.args.numbers.now c.args.supports.now c.args.codes.now c.args.moves.now c.loop-k.k c.arity.result 0 255 255 255 =
+    λ p l. walk_start p _ _ _ _ _ _ l (inside p l) (c.arity.ensures p l.ready.framed (inside p l)) in
+    let some : (p : Problem) → Lent p c.args.numbers.now c.args.supports.now c.args.codes.now c.args.moves.now → c.arity.result ≡ 0 → ⊥ =
+    λ p l z. omega (arith, c.arity.ensures p l.ready.framed (inside p l), (good p l.ready.framed.stated _ (inside p l)).some) in
+    let answer : (p : Problem) → Lent p c.args.numbers.now c.args.supports.now c.args.codes.now c.args.moves.now → kept p c.args.codes.now (constraint_at p c.loop-k.k) ≡ c.walk.result =
+    λ p l. sym (c.walk.ensures p [] 255 (start p l) (some p l)) in
     λ p l. list_stop (kept p _) p.constraints none _ _ (c.loop-k.invariant p l).1 (inside p l)
     (answer p l ∙ c.if-not-walk.true)
 
 pub loop-k-preserved : goal.loop-k-preserved
 loop-k-preserved c =
-    let inside : (p : Problem) → Lent p c.args.numbers.now c.args.supports.now c.args.codes.now c.args.moves.now → c.loop-k.k < length p.constraints = λ p l. omega (arith, c.number-c.ensures, l.ready.framed.numbered.constraints, c.loop-k-test.true) in
-    let start : (p : Problem) → Lent p c.args.numbers.now c.args.supports.now c.args.codes.now c.args.moves.now → Walking p [] c.args.numbers.now c.args.supports.now c.args.codes.now c.args.moves.now c.loop-k.k c.arity.result 0 255 255 255 = λ p l. walk_start p _ _ _ _ _ _ l (inside p l) (c.arity.ensures p l.ready.framed (inside p l)) in
-    let some : (p : Problem) → Lent p c.args.numbers.now c.args.supports.now c.args.codes.now c.args.moves.now → c.arity.result ≡ 0 → ⊥ = λ p l z. omega (arith, c.arity.ensures p l.ready.framed (inside p l), (good p l.ready.framed.stated _ (inside p l)).some) in
-    let answer : (p : Problem) → Lent p c.args.numbers.now c.args.supports.now c.args.codes.now c.args.moves.now → kept p c.args.codes.now (constraint_at p c.loop-k.k) ≡ c.walk.result = λ p l. sym (c.walk.ensures p [] 255 (start p l) (some p l)) in
+    let inside : (p : Problem) → Lent p c.args.numbers.now c.args.supports.now c.args.codes.now c.args.moves.now → c.loop-k.k < length p.constraints =
+    λ p l. omega (arith, c.number-c.ensures, l.ready.framed.numbered.constraints, c.loop-k-test.true) in
+    let start : (p : Problem) → Lent p c.args.numbers.now c.args.supports.now c.args.codes.now c.args.moves.now →
+    Walking p [] c.args.numbers.now c.args.supports.now c.args.codes.now c.args.moves.now c.loop-k.k c.arity.result 0 255 255 255 =
+    λ p l. walk_start p _ _ _ _ _ _ l (inside p l) (c.arity.ensures p l.ready.framed (inside p l)) in
+    let some : (p : Problem) → Lent p c.args.numbers.now c.args.supports.now c.args.codes.now c.args.moves.now → c.arity.result ≡ 0 → ⊥ =
+    λ p l z. omega (arith, c.arity.ensures p l.ready.framed (inside p l), (good p l.ready.framed.stated _ (inside p l)).some) in
+    let answer : (p : Problem) → Lent p c.args.numbers.now c.args.supports.now c.args.codes.now c.args.moves.now → kept p c.args.codes.now (constraint_at p c.loop-k.k) ≡ c.walk.result =
+    λ p l. sym (c.walk.ensures p [] 255 (start p l) (some p l)) in
     λ p l. (
       omega (arith, inside p l),
       list_rest (kept p _) p.constraints none _ _ (c.loop-k.invariant p l).1
@@ -39,19 +49,25 @@ returns c = λ p l. list_over (kept p _) p.constraints none c.loop-k.k _ (c.loop
 
 pub arity-requires : goal.arity-requires
 arity-requires c =
-    let inside : (p : Problem) → Lent p c.args.numbers.now c.args.supports.now c.args.codes.now c.args.moves.now → c.loop-k.k < length p.constraints = λ p l. omega (arith, c.number-c.ensures, l.ready.framed.numbered.constraints, c.loop-k-test.true) in
+    let inside : (p : Problem) → Lent p c.args.numbers.now c.args.supports.now c.args.codes.now c.args.moves.now → c.loop-k.k < length p.constraints =
+    λ p l. omega (arith, c.number-c.ensures, l.ready.framed.numbered.constraints, c.loop-k-test.true) in
     (c.requires.0, c.requires.1.ready.framed, inside c.requires.0 c.requires.1)
 
 pub walk-requires : goal.walk-requires
 walk-requires c =
-    let inside : (p : Problem) → Lent p c.args.numbers.now c.args.supports.now c.args.codes.now c.args.moves.now → c.loop-k.k < length p.constraints = λ p l. omega (arith, c.number-c.ensures, l.ready.framed.numbered.constraints, c.loop-k-test.true) in
-    let start : (p : Problem) → Lent p c.args.numbers.now c.args.supports.now c.args.codes.now c.args.moves.now → Walking p [] c.args.numbers.now c.args.supports.now c.args.codes.now c.args.moves.now c.loop-k.k c.arity.result 0 255 255 255 = λ p l. walk_start p _ _ _ _ _ _ l (inside p l) (c.arity.ensures p l.ready.framed (inside p l)) in
-    let some : (p : Problem) → Lent p c.args.numbers.now c.args.supports.now c.args.codes.now c.args.moves.now → c.arity.result ≡ 0 → ⊥ = λ p l z. omega (arith, c.arity.ensures p l.ready.framed (inside p l), (good p l.ready.framed.stated _ (inside p l)).some) in
+    let inside : (p : Problem) → Lent p c.args.numbers.now c.args.supports.now c.args.codes.now c.args.moves.now → c.loop-k.k < length p.constraints =
+    λ p l. omega (arith, c.number-c.ensures, l.ready.framed.numbered.constraints, c.loop-k-test.true) in
+    let start : (p : Problem) → Lent p c.args.numbers.now c.args.supports.now c.args.codes.now c.args.moves.now →
+    Walking p [] c.args.numbers.now c.args.supports.now c.args.codes.now c.args.moves.now c.loop-k.k c.arity.result 0 255 255 255 =
+    λ p l. walk_start p _ _ _ _ _ _ l (inside p l) (c.arity.ensures p l.ready.framed (inside p l)) in
+    let some : (p : Problem) → Lent p c.args.numbers.now c.args.supports.now c.args.codes.now c.args.moves.now → c.arity.result ≡ 0 → ⊥ =
+    λ p l z. omega (arith, c.arity.ensures p l.ready.framed (inside p l), (good p l.ready.framed.stated _ (inside p l)).some) in
     (c.requires.0, [], 255, start c.requires.0 c.requires.1, some c.requires.0 c.requires.1)
 
 pub overflow_add-k : goal.overflow_add-k
 overflow_add-k c =
-    let inside : (p : Problem) → Lent p c.args.numbers.now c.args.supports.now c.args.codes.now c.args.moves.now → c.loop-k.k < length p.constraints = λ p l. omega (arith, c.number-c.ensures, l.ready.framed.numbered.constraints, c.loop-k-test.true) in
+    let inside : (p : Problem) → Lent p c.args.numbers.now c.args.supports.now c.args.codes.now c.args.moves.now → c.loop-k.k < length p.constraints =
+    λ p l. omega (arith, c.number-c.ensures, l.ready.framed.numbered.constraints, c.loop-k-test.true) in
     omega (arith, inside c.requires.0 c.requires.1, c.requires.1.ready.framed.stated.most)
 
 pub loop-k-smaller : goal.loop-k-smaller

@@ -23,7 +23,8 @@ returns-then-not-pairs_blocked c =
     λ p l h.
     let s = c.loop-rest.invariant p l h in
     let n = some in
-    let q = doubling_are p _ _ _ _ _ _ l h s n _ _ c.lowest-v.ensures c.without-rest.ensures _ c.place-in-loop-rest.ensures.0 _ (c.pairs_blocked.ensures p (doubling_beside p _ _ _ _ _ _ l h s n _ _ c.lowest-v.ensures c.without-rest.ensures _ c.place-in-loop-rest.ensures.0)) in
+    let q = doubling_are p _ _ _ _ _ _ l h s n _ _ c.lowest-v.ensures c.without-rest.ensures _ c.place-in-loop-rest.ensures.0 _
+    (c.pairs_blocked.ensures p (doubling_beside p _ _ _ _ _ _ l h s n _ _ c.lowest-v.ensures c.without-rest.ensures _ c.place-in-loop-rest.ensures.0)) in
     doubling_stop p _ _ _ _ _ _ l h s n _ _ c.lowest-v.ensures c.without-rest.ensures _ q c.if-not-pairs_blocked.true
 
 pub loop-rest-smaller : goal.loop-rest-smaller
@@ -39,7 +40,8 @@ loop-rest-preserved c =
     λ p l h.
     let s = c.loop-rest.invariant p l h in
     let n = some in
-    let q = doubling_are p _ _ _ _ _ _ l h s n _ _ c.lowest-v.ensures c.without-rest.ensures _ c.place-in-loop-rest.ensures.0 _ (c.pairs_blocked.ensures p (doubling_beside p _ _ _ _ _ _ l h s n _ _ c.lowest-v.ensures c.without-rest.ensures _ c.place-in-loop-rest.ensures.0)) in
+    let q = doubling_are p _ _ _ _ _ _ l h s n _ _ c.lowest-v.ensures c.without-rest.ensures _ c.place-in-loop-rest.ensures.0 _
+    (c.pairs_blocked.ensures p (doubling_beside p _ _ _ _ _ _ l h s n _ _ c.lowest-v.ensures c.without-rest.ensures _ c.place-in-loop-rest.ensures.0)) in
     doubling_rest p _ _ _ _ _ _ l h s n _ _ c.lowest-v.ensures c.without-rest.ensures _ q c.if-not-pairs_blocked.false
 
 pub returns : goal.returns

@@ -10,14 +10,18 @@ loop-x-init c = λ p l. (omega arith, numbers_start (kept p _) p.variables)
 
 pub returns-then-not-doubles : goal.returns-then-not-doubles
 returns-then-not-doubles c =
-    let inside : (p : Problem) → Lent p c.args.numbers.now c.args.supports.now c.args.codes.now c.args.moves.now → c.loop-x.x < p.variables = λ p l. omega (arith, c.number-n.ensures, l.ready.framed.numbered.variables, c.loop-x-test.true) in
-    let answer : (p : Problem) → Lent p c.args.numbers.now c.args.supports.now c.args.codes.now c.args.moves.now → kept p c.args.codes.now c.loop-x.x ≡ c.doubles.result = λ p l. sym (c.doubles.ensures p l (inside p l)) in
+    let inside : (p : Problem) → Lent p c.args.numbers.now c.args.supports.now c.args.codes.now c.args.moves.now → c.loop-x.x < p.variables =
+    λ p l. omega (arith, c.number-n.ensures, l.ready.framed.numbered.variables, c.loop-x-test.true) in
+    let answer : (p : Problem) → Lent p c.args.numbers.now c.args.supports.now c.args.codes.now c.args.moves.now → kept p c.args.codes.now c.loop-x.x ≡ c.doubles.result =
+    λ p l. sym (c.doubles.ensures p l (inside p l)) in
     λ p l. numbers_stop (kept p _) p.variables _ _ (c.loop-x.invariant p l).1 (inside p l) (answer p l ∙ c.if-not-doubles.true)
 
 pub loop-x-preserved : goal.loop-x-preserved
 loop-x-preserved c =
-    let inside : (p : Problem) → Lent p c.args.numbers.now c.args.supports.now c.args.codes.now c.args.moves.now → c.loop-x.x < p.variables = λ p l. omega (arith, c.number-n.ensures, l.ready.framed.numbered.variables, c.loop-x-test.true) in
-    let answer : (p : Problem) → Lent p c.args.numbers.now c.args.supports.now c.args.codes.now c.args.moves.now → kept p c.args.codes.now c.loop-x.x ≡ c.doubles.result = λ p l. sym (c.doubles.ensures p l (inside p l)) in
+    let inside : (p : Problem) → Lent p c.args.numbers.now c.args.supports.now c.args.codes.now c.args.moves.now → c.loop-x.x < p.variables =
+    λ p l. omega (arith, c.number-n.ensures, l.ready.framed.numbered.variables, c.loop-x-test.true) in
+    let answer : (p : Problem) → Lent p c.args.numbers.now c.args.supports.now c.args.codes.now c.args.moves.now → kept p c.args.codes.now c.loop-x.x ≡ c.doubles.result =
+    λ p l. sym (c.doubles.ensures p l (inside p l)) in
     λ p l. (
       omega (arith, inside p l),
       numbers_rest (kept p _) p.variables _ _ (c.loop-x.invariant p l).1 (inside p l)
@@ -30,12 +34,14 @@ returns c = λ p l. numbers_over (kept p _) p.variables _ _ (c.loop-x.invariant 
 
 pub doubles-requires : goal.doubles-requires
 doubles-requires c =
-    let inside : (p : Problem) → Lent p c.args.numbers.now c.args.supports.now c.args.codes.now c.args.moves.now → c.loop-x.x < p.variables = λ p l. omega (arith, c.number-n.ensures, l.ready.framed.numbered.variables, c.loop-x-test.true) in
+    let inside : (p : Problem) → Lent p c.args.numbers.now c.args.supports.now c.args.codes.now c.args.moves.now → c.loop-x.x < p.variables =
+    λ p l. omega (arith, c.number-n.ensures, l.ready.framed.numbered.variables, c.loop-x-test.true) in
     (c.requires.0, c.requires.1, inside c.requires.0 c.requires.1)
 
 pub overflow_add-x : goal.overflow_add-x
 overflow_add-x c =
-    let inside : (p : Problem) → Lent p c.args.numbers.now c.args.supports.now c.args.codes.now c.args.moves.now → c.loop-x.x < p.variables = λ p l. omega (arith, c.number-n.ensures, l.ready.framed.numbered.variables, c.loop-x-test.true) in
+    let inside : (p : Problem) → Lent p c.args.numbers.now c.args.supports.now c.args.codes.now c.args.moves.now → c.loop-x.x < p.variables =
+    λ p l. omega (arith, c.number-n.ensures, l.ready.framed.numbered.variables, c.loop-x-test.true) in
     omega (arith, inside c.requires.0 c.requires.1, c.requires.1.ready.framed.stated.few)
 
 pub loop-x-smaller : goal.loop-x-smaller

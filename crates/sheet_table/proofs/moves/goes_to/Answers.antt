@@ -62,23 +62,27 @@ without_lowest-rest-requires c = tt
 pub overflow_mul-x-in-loop-rest : goal.overflow_mul-x-in-loop-rest
 overflow_mul-x-in-loop-rest c =
     let some : c.loop-rest.rest.bits ≡ 0 → ⊥ = some_left _ _ c.is_empty.ensures c.loop-rest-test.true-raw in
-    let spot : 16 * c.args.x + c.lowest-v.result < 256 = omega (arith, c.requires.2, c.requires.1.stated.few, swept_small _ _ (c.loop-rest.invariant c.requires.0 c.requires.1 c.requires.2) some _ c.lowest-v.ensures) in
+    let spot : 16 * c.args.x + c.lowest-v.result < 256 =
+    omega (arith, c.requires.2, c.requires.1.stated.few, swept_small _ _ (c.loop-rest.invariant c.requires.0 c.requires.1 c.requires.2) some _ c.lowest-v.ensures) in
     omega (arith, spot)
 
 pub overflow_cast-v : goal.overflow_cast-v
 overflow_cast-v c =
     let some : c.loop-rest.rest.bits ≡ 0 → ⊥ = some_left _ _ c.is_empty.ensures c.loop-rest-test.true-raw in
-    let spot : 16 * c.args.x + c.lowest-v.result < 256 = omega (arith, c.requires.2, c.requires.1.stated.few, swept_small _ _ (c.loop-rest.invariant c.requires.0 c.requires.1 c.requires.2) some _ c.lowest-v.ensures) in
+    let spot : 16 * c.args.x + c.lowest-v.result < 256 =
+    omega (arith, c.requires.2, c.requires.1.stated.few, swept_small _ _ (c.loop-rest.invariant c.requires.0 c.requires.1 c.requires.2) some _ c.lowest-v.ensures) in
     omega (arith, spot)
 
 pub overflow_add-x-in-loop-rest : goal.overflow_add-x-in-loop-rest
 overflow_add-x-in-loop-rest c =
     let some : c.loop-rest.rest.bits ≡ 0 → ⊥ = some_left _ _ c.is_empty.ensures c.loop-rest-test.true-raw in
-    let spot : 16 * c.args.x + c.lowest-v.result < 256 = omega (arith, c.requires.2, c.requires.1.stated.few, swept_small _ _ (c.loop-rest.invariant c.requires.0 c.requires.1 c.requires.2) some _ c.lowest-v.ensures) in
+    let spot : 16 * c.args.x + c.lowest-v.result < 256 =
+    omega (arith, c.requires.2, c.requires.1.stated.few, swept_small _ _ (c.loop-rest.invariant c.requires.0 c.requires.1 c.requires.2) some _ c.lowest-v.ensures) in
     omega (arith, spot)
 
 pub place-requires : goal.place-requires
 place-requires c =
     let some : c.loop-rest.rest.bits ≡ 0 → ⊥ = some_left _ _ c.is_empty.ensures c.loop-rest-test.true-raw in
-    let spot : 16 * c.args.x + c.lowest-v.result < 256 = omega (arith, c.requires.2, c.requires.1.stated.few, swept_small _ _ (c.loop-rest.invariant c.requires.0 c.requires.1 c.requires.2) some _ c.lowest-v.ensures) in
+    let spot : 16 * c.args.x + c.lowest-v.result < 256 =
+    omega (arith, c.requires.2, c.requires.1.stated.few, swept_small _ _ (c.loop-rest.invariant c.requires.0 c.requires.1 c.requires.2) some _ c.lowest-v.ensures) in
     spot

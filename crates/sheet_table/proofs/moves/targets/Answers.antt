@@ -10,8 +10,7 @@ loop-x-init c = (c.requires.1, λ p f d b. (omega arith, moving_none p f.stated 
 pub loop-x-preserved : goal.loop-x-preserved
 loop-x-preserved c =
     let inside : (p : Problem) → Framed p c.args.numbers.now → c.loop-x.x < p.variables = λ p f. omega (arith, c.number-n.ensures, f.numbered.variables, c.loop-x-test.true) in
-    let small : 192 + c.loop-x.x < 256 = omega (arith, inside c.requires.0.0 c.requires.0.1, c.requires.0.1.stated.few) in
-    (
+    let small : 192 + c.loop-x.x < 256 = omega (arith, inside c.requires.0.0 c.requires.0.1, c.requires.0.1.stated.few) in (
       blank_moves _ _ _ _ small c.goes_to.ensures.0 c.loop-x.invariant.0,
       λ p f d a. (
         omega (arith, inside p f),
@@ -21,7 +20,8 @@ loop-x-preserved c =
 
 pub returns : goal.returns
 returns c =
-    λ p f d a. moved_all p f.stated _ _ _ (omega (arith, c.number-n.ensures, f.numbered.variables, c.loop-x-test.false, (c.loop-x.invariant.1 p f d a).0)) c.loop-x.invariant.0.small (c.loop-x.invariant.1 p f d a).1
+    λ p f d a. moved_all p f.stated _ _ _ (omega (arith, c.number-n.ensures, f.numbered.variables, c.loop-x-test.false, (c.loop-x.invariant.1 p f d a).0)) c.loop-x.invariant.0.small
+    (c.loop-x.invariant.1 p f d a).1
 
 pub goes_to-requires : goal.goes_to-requires
 goes_to-requires c =

@@ -15,7 +15,8 @@ loop-q-init c = (c.requires.1, refl, λ p l. (omega arith, seen_none p _ _ (at_r
 pub returns-then-not-is_pair : goal.returns-then-not-is_pair
 returns-then-not-is_pair c =
     let At : Problem → Type 0 = λ p. TableAt p c.args.sheet.now c.args.offset c.args.numbers.now in
-    let inside : (p : Problem) → At p → c.loop-q.q < p.variables * p.values = λ p l. subst (λ (n : ℕ). c.loop-q.q < n) (size_is p _ l.framed _ _ c.number.ensures c.number-d.ensures) c.loop-q-test.true in
+    let inside : (p : Problem) → At p → c.loop-q.q < p.variables * p.values =
+    λ p l. subst (λ (n : ℕ). c.loop-q.q < n) (size_is p _ l.framed _ _ c.number.ensures c.number-d.ensures) c.loop-q-test.true in
     let room : c.args.offset + 2 * c.loop-q.q + 2 ≤ length c.args.sheet.now = omega (arith, inside c.requires.0.0 c.requires.0.1, c.requires.0.1.whole) in
     record {
       room = c.loop-q.invariant.0;
@@ -28,14 +29,16 @@ pub returns-then-seen-y-eq1 : goal.returns-then-seen-y-eq1
 unfolding at
 returns-then-seen-y-eq1 c =
     let At : Problem → Type 0 = λ p. TableAt p c.args.sheet.now c.args.offset c.args.numbers.now in
-    let inside : (p : Problem) → At p → c.loop-q.q < p.variables * p.values = λ p l. subst (λ (n : ℕ). c.loop-q.q < n) (size_is p _ l.framed _ _ c.number.ensures c.number-d.ensures) c.loop-q-test.true in
+    let inside : (p : Problem) → At p → c.loop-q.q < p.variables * p.values =
+    λ p l. subst (λ (n : ℕ). c.loop-q.q < n) (size_is p _ l.framed _ _ c.number.ensures c.number-d.ensures) c.loop-q-test.true in
     let room : c.args.offset + 2 * c.loop-q.q + 2 ≤ length c.args.sheet.now = omega (arith, inside c.requires.0.0 c.requires.0.1, c.requires.0.1.whole) in
     record { room = c.loop-q.invariant.0; drawn = λ p l. drawn_no p _ _ _ (read_twice p _ _ _ _ _ (c.loop-q.invariant.2 p l).1 (inside p l) c.read_word-y.ensures c.if-seen-y-eq1.true) }
 
 pub returns-then-y-q : goal.returns-then-y-q
 returns-then-y-q c =
     let At : Problem → Type 0 = λ p. TableAt p c.args.sheet.now c.args.offset c.args.numbers.now in
-    let inside : (p : Problem) → At p → c.loop-q.q < p.variables * p.values = λ p l. subst (λ (n : ℕ). c.loop-q.q < n) (size_is p _ l.framed _ _ c.number.ensures c.number-d.ensures) c.loop-q-test.true in
+    let inside : (p : Problem) → At p → c.loop-q.q < p.variables * p.values =
+    λ p l. subst (λ (n : ℕ). c.loop-q.q < n) (size_is p _ l.framed _ _ c.number.ensures c.number-d.ensures) c.loop-q-test.true in
     let room : c.args.offset + 2 * c.loop-q.q + 2 ≤ length c.args.sheet.now = omega (arith, inside c.requires.0.0 c.requires.0.1, c.requires.0.1.whole) in
     record {
       room = c.loop-q.invariant.0;
@@ -48,25 +51,27 @@ pub loop-q-preserved : goal.loop-q-preserved
 unfolding at
 loop-q-preserved c =
     let At : Problem → Type 0 = λ p. TableAt p c.args.sheet.now c.args.offset c.args.numbers.now in
-    let inside : (p : Problem) → At p → c.loop-q.q < p.variables * p.values = λ p l. subst (λ (n : ℕ). c.loop-q.q < n) (size_is p _ l.framed _ _ c.number.ensures c.number-d.ensures) c.loop-q-test.true in
+    let inside : (p : Problem) → At p → c.loop-q.q < p.variables * p.values =
+    λ p l. subst (λ (n : ℕ). c.loop-q.q < n) (size_is p _ l.framed _ _ c.number.ensures c.number-d.ensures) c.loop-q-test.true in
     let values : (p : Problem) → At p → c.number-d.result ≡ p.values = λ p l. c.number-d.ensures ∙ l.framed.numbered.values in
     let value : (1 ≤ c.number-d.result) × (c.loop-q.q % c.number-d.result < 16) = let v = values c.requires.0.0 c.requires.0.1 in
     let one : 1 ≤ c.number-d.result = omega (arith, c.requires.0.1.framed.stated.one) in
     (one, omega (arith, mod-lt c.loop-q.q one, c.requires.0.1.framed.stated.sixteen)) in
     elim c.if-is_pair.branch [
-      then-is_pair+else-not-is_pair+else-seen-y-eq1 w ↦
+      | then-is_pair+else-not-is_pair+else-seen-y-eq1 w ↦
           let image_in : c.read_word-y.result < c.requires.0.0.variables * c.requires.0.0.values =
-              is_pair_lt c.requires.0.0 _ (T_of _ (sym (w.is_pair-then-is_pair.ensures c.requires.0.0 c.requires.0.1.framed) ∙ w.if-not-is_pair.false)) in
+          is_pair_lt c.requires.0.0 _ (T_of _ (sym (w.is_pair-then-is_pair.ensures c.requires.0.0 c.requires.0.1.framed) ∙ w.if-not-is_pair.false)) in
           let image_small : c.read_word-y.result < 192 = omega (arith, image_in, table_small c.requires.0.0 c.requires.0.1.framed.stated) in (
-        blank_same _ _ _ _ (blank_moves _ _ _ _ (omega (arith, w.pair_code-e.ensures.1)) value.1 (blank_codes _ _ _ _ c.loop-q.invariant.0)) w.codes-is w.moves-is,
-        ap length w.seen-is ∙ simp length-set c.loop-q.invariant.1,
-        λ p l. (
-          omega (arith, inside p l),
-          read_more p _ _ _ _ _ (c.loop-q.invariant.2 p l).1 (inside p l) c.read_word-y.ensures _ w.seen-is (sym (c.is_pair.ensures p l.framed) ∙ w.if-is_pair.true)
-              (sym (w.is_pair-then-is_pair.ensures p l.framed) ∙ w.if-not-is_pair.false) (omega (arith, image_small, c.loop-q.invariant.1)) w.if-seen-y-eq1.false,
-          read_drawn p l.framed.stated _ _ _ _ _ (c.loop-q.invariant.2 p l).1 (inside p l) c.read_word-y.ensures w.if-seen-y-eq1.false _ _ c.loop-q.invariant.0 _ _ _ (values p l) w.pair_code.ensures w.pair_code-e.ensures _ _ w.codes-is w.moves-is (c.loop-q.invariant.2 p l).2,
-        ),
-      )
+            blank_same _ _ _ _ (blank_moves _ _ _ _ (omega (arith, w.pair_code-e.ensures.1)) value.1 (blank_codes _ _ _ _ c.loop-q.invariant.0)) w.codes-is w.moves-is,
+            ap length w.seen-is ∙ simp length-set c.loop-q.invariant.1,
+            λ p l. (
+              omega (arith, inside p l),
+              read_more p _ _ _ _ _ (c.loop-q.invariant.2 p l).1 (inside p l) c.read_word-y.ensures _ w.seen-is (sym (c.is_pair.ensures p l.framed) ∙ w.if-is_pair.true)
+                  (sym (w.is_pair-then-is_pair.ensures p l.framed) ∙ w.if-not-is_pair.false) (omega (arith, image_small, c.loop-q.invariant.1)) w.if-seen-y-eq1.false,
+              read_drawn p l.framed.stated _ _ _ _ _ (c.loop-q.invariant.2 p l).1 (inside p l) c.read_word-y.ensures w.if-seen-y-eq1.false _ _ c.loop-q.invariant.0 _ _ _ (values p l) w.pair_code.ensures
+                  w.pair_code-e.ensures _ _ w.codes-is w.moves-is (c.loop-q.invariant.2 p l).2,
+            ),
+          )
       | else-is_pair+else-y-q w ↦ (
         blank_same _ _ _ _ c.loop-q.invariant.0 w.codes-is w.moves-is,
         ap length w.seen-is ∙ c.loop-q.invariant.1,
@@ -81,7 +86,8 @@ loop-q-preserved c =
 pub returns : goal.returns
 returns c =
     let At : Problem → Type 0 = λ p. TableAt p c.args.sheet.now c.args.offset c.args.numbers.now in
-    let over : (p : Problem) → At p → c.loop-q.q ≡ p.variables * p.values = λ p l. omega (arith, size_is p _ l.framed _ _ c.number.ensures c.number-d.ensures, c.loop-q-test.false, (c.loop-q.invariant.2 p l).0) in
+    let over : (p : Problem) → At p → c.loop-q.q ≡ p.variables * p.values =
+    λ p l. omega (arith, size_is p _ l.framed _ _ c.number.ensures c.number-d.ensures, c.loop-q-test.false, (c.loop-q.invariant.2 p l).0) in
     record {
       room = c.loop-q.invariant.0;
       drawn = λ p l. drawn_yes p l.framed.stated _ _ _
@@ -94,21 +100,24 @@ overflow_mul-count c = omega (arith, size_lt c.requires.0.0 _ c.requires.0.1.fra
 pub overflow_mul-q : goal.overflow_mul-q
 overflow_mul-q c =
     let At : Problem → Type 0 = λ p. TableAt p c.args.sheet.now c.args.offset c.args.numbers.now in
-    let inside : (p : Problem) → At p → c.loop-q.q < p.variables * p.values = λ p l. subst (λ (n : ℕ). c.loop-q.q < n) (size_is p _ l.framed _ _ c.number.ensures c.number-d.ensures) c.loop-q-test.true in
+    let inside : (p : Problem) → At p → c.loop-q.q < p.variables * p.values =
+    λ p l. subst (λ (n : ℕ). c.loop-q.q < n) (size_is p _ l.framed _ _ c.number.ensures c.number-d.ensures) c.loop-q-test.true in
     let small : c.loop-q.q < 192 = omega (arith, inside c.requires.0.0 c.requires.0.1, table_small c.requires.0.0 c.requires.0.1.framed.stated) in
     omega (arith, small)
 
 pub overflow_add-offset : goal.overflow_add-offset
 overflow_add-offset c =
     let At : Problem → Type 0 = λ p. TableAt p c.args.sheet.now c.args.offset c.args.numbers.now in
-    let inside : (p : Problem) → At p → c.loop-q.q < p.variables * p.values = λ p l. subst (λ (n : ℕ). c.loop-q.q < n) (size_is p _ l.framed _ _ c.number.ensures c.number-d.ensures) c.loop-q-test.true in
+    let inside : (p : Problem) → At p → c.loop-q.q < p.variables * p.values =
+    λ p l. subst (λ (n : ℕ). c.loop-q.q < n) (size_is p _ l.framed _ _ c.number.ensures c.number-d.ensures) c.loop-q-test.true in
     let room : c.args.offset + 2 * c.loop-q.q + 2 ≤ length c.args.sheet.now = omega (arith, inside c.requires.0.0 c.requires.0.1, c.requires.0.1.whole) in
     omega (arith, room)
 
 pub read_word-y-requires : goal.read_word-y-requires
 read_word-y-requires c =
     let At : Problem → Type 0 = λ p. TableAt p c.args.sheet.now c.args.offset c.args.numbers.now in
-    let inside : (p : Problem) → At p → c.loop-q.q < p.variables * p.values = λ p l. subst (λ (n : ℕ). c.loop-q.q < n) (size_is p _ l.framed _ _ c.number.ensures c.number-d.ensures) c.loop-q-test.true in
+    let inside : (p : Problem) → At p → c.loop-q.q < p.variables * p.values =
+    λ p l. subst (λ (n : ℕ). c.loop-q.q < n) (size_is p _ l.framed _ _ c.number.ensures c.number-d.ensures) c.loop-q-test.true in
     let room : c.args.offset + 2 * c.loop-q.q + 2 ≤ length c.args.sheet.now = omega (arith, inside c.requires.0.0 c.requires.0.1, c.requires.0.1.whole) in
     omega (arith, room)
 
@@ -139,7 +148,8 @@ pair_code-e-requires c =
     let value : (1 ≤ c.number-d.result) × (c.loop-q.q % c.number-d.result < 16) = let v = values c.requires.0.0 c.requires.0.1 in
     let one : 1 ≤ c.number-d.result = omega (arith, c.requires.0.1.framed.stated.one) in
     (one, omega (arith, mod-lt c.loop-q.q one, c.requires.0.1.framed.stated.sixteen)) in
-    let coded : (z : ℕ) → ((p : Problem) → At p → z < p.variables * p.values) → (1 ≤ c.number-d.result) × (c.number-d.result ≤ 16) × (z < 12 * c.number-d.result) = λ z h. let v = values c.requires.0.0 c.requires.0.1 in
+    let coded : (z : ℕ) → ((p : Problem) → At p → z < p.variables * p.values) → (1 ≤ c.number-d.result) × (c.number-d.result ≤ 16) × (z < 12 * c.number-d.result) = λ z h. let v =
+    values c.requires.0.0 c.requires.0.1 in
     (value.0, omega (arith, v, c.requires.0.1.framed.stated.sixteen), number_lt c.requires.0.0 c.requires.0.1.framed.stated _ v z (h c.requires.0.0 c.requires.0.1)) in
     let image_in : (p : Problem) → At p → c.read_word-y.result < p.variables * p.values = λ p l. is_pair_lt p _ (T_of _ (sym (c.is_pair-then-is_pair.ensures p l.framed) ∙ c.if-not-is_pair.false)) in
     coded _ image_in
@@ -150,12 +160,14 @@ overflow_cast-codes c = omega (arith, c.pair_code-e.ensures.1)
 pub pair_code-requires : goal.pair_code-requires
 pair_code-requires c =
     let At : Problem → Type 0 = λ p. TableAt p c.args.sheet.now c.args.offset c.args.numbers.now in
-    let inside : (p : Problem) → At p → c.loop-q.q < p.variables * p.values = λ p l. subst (λ (n : ℕ). c.loop-q.q < n) (size_is p _ l.framed _ _ c.number.ensures c.number-d.ensures) c.loop-q-test.true in
+    let inside : (p : Problem) → At p → c.loop-q.q < p.variables * p.values =
+    λ p l. subst (λ (n : ℕ). c.loop-q.q < n) (size_is p _ l.framed _ _ c.number.ensures c.number-d.ensures) c.loop-q-test.true in
     let values : (p : Problem) → At p → c.number-d.result ≡ p.values = λ p l. c.number-d.ensures ∙ l.framed.numbered.values in
     let value : (1 ≤ c.number-d.result) × (c.loop-q.q % c.number-d.result < 16) = let v = values c.requires.0.0 c.requires.0.1 in
     let one : 1 ≤ c.number-d.result = omega (arith, c.requires.0.1.framed.stated.one) in
     (one, omega (arith, mod-lt c.loop-q.q one, c.requires.0.1.framed.stated.sixteen)) in
-    let coded : (z : ℕ) → ((p : Problem) → At p → z < p.variables * p.values) → (1 ≤ c.number-d.result) × (c.number-d.result ≤ 16) × (z < 12 * c.number-d.result) = λ z h. let v = values c.requires.0.0 c.requires.0.1 in
+    let coded : (z : ℕ) → ((p : Problem) → At p → z < p.variables * p.values) → (1 ≤ c.number-d.result) × (c.number-d.result ≤ 16) × (z < 12 * c.number-d.result) = λ z h. let v =
+    values c.requires.0.0 c.requires.0.1 in
     (value.0, omega (arith, v, c.requires.0.1.framed.stated.sixteen), number_lt c.requires.0.0 c.requires.0.1.framed.stated _ v z (h c.requires.0.0 c.requires.0.1)) in
     coded _ inside
 
@@ -186,7 +198,8 @@ bounds-moves-e c = omega (arith, c.pair_code-e.ensures.1)
 pub overflow_add-q : goal.overflow_add-q
 overflow_add-q c =
     let At : Problem → Type 0 = λ p. TableAt p c.args.sheet.now c.args.offset c.args.numbers.now in
-    let inside : (p : Problem) → At p → c.loop-q.q < p.variables * p.values = λ p l. subst (λ (n : ℕ). c.loop-q.q < n) (size_is p _ l.framed _ _ c.number.ensures c.number-d.ensures) c.loop-q-test.true in
+    let inside : (p : Problem) → At p → c.loop-q.q < p.variables * p.values =
+    λ p l. subst (λ (n : ℕ). c.loop-q.q < n) (size_is p _ l.framed _ _ c.number.ensures c.number-d.ensures) c.loop-q-test.true in
     let small : c.loop-q.q < 192 = omega (arith, inside c.requires.0.0 c.requires.0.1, table_small c.requires.0.0 c.requires.0.1.framed.stated) in
     omega (arith, small)
 
