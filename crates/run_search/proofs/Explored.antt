@@ -1,7 +1,7 @@
 -- The walk from the empty prefix comes to the run's end. Assumes nothing.
 use Rattle.model.specs.Kit.{◌≡◌, refl, sym, ap, ap₂, ◌∙◌, subst, subst₂, Bool, true, false, List, [], ℕ, suc, ◌*◌, ◌^◌, ◌≤◌, ◌<◌, arith, eqb, eqb-true, eqb-false, length}
 use Rattle.model.specs.Run.{finished, spent, full, ended, result_of, Tally}
-use Rattle.model.specs.{Lists.at, Problem.Problem, Search.is_live, Search.nodes, Search.nodes_below, Verdict.accepted, Verdict.refused, Sheet.problem_of}
+use Rattle.model.specs.{Lists.at, Problem.Problem, Search.is_live, Search.nodes, Search.nodes_below, Sheet.problem_of}
 use native.Mathlib.Nat.{sub-zero}
 use Rattle.run_input.specs.Lent.{verdict_lent, order_lent, problem_lent}
 use Rattle.run_input.proofs.Lent.{well_sheet, ordering_lent}

@@ -2,7 +2,6 @@
 use Rattle.model.specs.Kit.{◌≡◌, sym, subst, ℕ, List, rules}
 use Rattle.model.specs.Lists.{at}
 use Rattle.arrays.specs.Inner.Places.{DEEPER}
-use Rattle.run_input.specs.Lent.{problem_lent}
 use Rattle.run_state.specs.Meaning.{tally_in}
 use Rattle.run_search.specs.Inner.Explored.{Explored}
 use Rattle.run_search.proofs.Explored.{explored_dead, explored, start_asks}

@@ -1,5 +1,5 @@
 -- No index passed is that of x. Assumes nothing.
-use Rattle.model.specs.Kit.{false, sym, ap, ◌∙◌, ℕ, arith, eqb, rules, eq-eqb, ne_eqb}
+use Rattle.model.specs.Kit.{sym, ap, ◌∙◌, ℕ, arith, eqb, rules, eq-eqb, ne_eqb}
 use Rattle.model.proofs.Masks.{least_at, least_none}
 use Rattle.order.proofs.Placing.{more_no}
 use Rattle.arrays_order.proofs.places.position.Goals as goal
