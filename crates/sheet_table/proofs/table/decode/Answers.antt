@@ -68,8 +68,8 @@ loop-q-preserved c =
               omega (arith, inside p l),
               read_more p _ _ _ _ _ (c.loop-q.invariant.2 p l).1 (inside p l) c.read_word-y.ensures _ w.seen-is (sym (c.is_pair.ensures p l.framed) ∙ w.if-is_pair.true)
                   (sym (w.is_pair-then-is_pair.ensures p l.framed) ∙ w.if-not-is_pair.false) (omega (arith, image_small, c.loop-q.invariant.1)) w.if-seen-y-eq1.false,
-              read_drawn p l.framed.stated _ _ _ _ _ (c.loop-q.invariant.2 p l).1 (inside p l) c.read_word-y.ensures w.if-seen-y-eq1.false _ _ c.loop-q.invariant.0 _ _ _ (values p l) w.pair_code.ensures
-                  w.pair_code-e.ensures _ _ w.codes-is w.moves-is (c.loop-q.invariant.2 p l).2,
+              read_drawn p l.framed.stated _ _ _ _ _ (c.loop-q.invariant.2 p l).1 (inside p l) c.read_word-y.ensures w.if-seen-y-eq1.false _ _ c.loop-q.invariant.0 _ _ _
+                  (values p l) w.pair_code.ensures w.pair_code-e.ensures _ _ w.codes-is w.moves-is (c.loop-q.invariant.2 p l).2,
             ),
           )
       | else-is_pair+else-y-q w ↦ (
