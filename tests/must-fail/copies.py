@@ -68,6 +68,26 @@ def copy(folder, to, by):
         shutil.copytree(folder, to, copy_function=by)
 
 
+def rt_check(folder, words=()):
+    return subprocess.run(['rt', 'check', *words], cwd=folder, stdin=subprocess.DEVNULL, stdout=subprocess.PIPE, stderr=subprocess.STDOUT, text=True, errors='replace')
+
+
+def newest(crate):
+    return max(os.stat(f'{at}/{name}').st_mtime for part in PARTS for at, _, names in os.walk(f'crates/{crate}/{part}') for name in names)
+
+
+def unproved(crates):
+    """Those of the crates that are not proved as they stand. One is checked here first where its `out`, or that of a crate below, lacks what a copy begins with."""
+    uses = below()
+
+    def is_kept(crate):
+        stamps = [f'crates/{name}/out/rlib/stamp' for name in uses[crate]]
+        return os.path.isdir(f'crates/{crate}/out/incremental') and all(os.path.exists(it) and newest(it.split('/')[1]) <= os.stat(it).st_mtime for it in stamps)
+
+    lacking = [name for name in uses if name in crates and not is_kept(name)]
+    return {name for name, ran in side_by_side(lambda it: rt_check(f'crates/{it}'), lacking) if ran.returncode}
+
+
 def checked(crate, edits, words=()):
     """`rt check` of a copy of the crate with these files of edits applied: its status and what it printed. None where an edit does not fit."""
     with tempfile.TemporaryDirectory(prefix='must-fail-') as room:
@@ -89,8 +109,7 @@ def checked(crate, edits, words=()):
                 return None
             with open(path, 'w', encoding='utf-8') as f:
                 f.write(was.replace(old, new))
-        ran = subprocess.run(['rt', 'check', '--jobs', '1', *words], cwd=f'{room}/crates/{crate}', stdin=subprocess.DEVNULL,
-                             stdout=subprocess.PIPE, stderr=subprocess.STDOUT, text=True, errors='replace')
+        ran = rt_check(f'{room}/crates/{crate}', ['--jobs', '1', *words])
         return ran.returncode, ran.stdout
 
 
