@@ -1,5 +1,5 @@
 -- A block of neighbouring variables that may be put in any order (paper 02, #111): the orderings of five, the symmetries that a block adds, and its questions.
-use Rattle.model.specs.Kit.{Bool, true, false, List, [], ◌∷◌, ◌++◌, map, ℕ, zero, suc, ◌+◌, ◌-◌, ◌*◌, ◌/◌, ◌%◌, length, get_or, replicate, leb, ltb}
+use Rattle.std.specs.Prelude.{Bool, true, false, List, [], ◌∷◌, ◌++◌, map, ℕ, zero, suc, ◌+◌, ◌-◌, ◌*◌, ◌/◌, ◌%◌, length, get_or, replicate, leb, ltb}
 use Rattle.model.specs.Problem.{Problem, pair, is_pair, assignments, with_symmetries}
 use Rattle.model.specs.{Lists.keep, Lists.below, Lists.at, Lists.both, ValueSets.full_mask, Verdict.Verdict, Verdict.accepted, Verdict.refused, Verdict.ask, Sheet.distinct, Sheet.symmetries_verdict}
 

@@ -1,5 +1,6 @@
 -- What paper 02 asks of the table of a block's orderings (#111). The proofs are in proofs/Claimed.antt.
-use Rattle.model.specs.Kit.{◌≡◌, Bool, ◌↔◌, List, [], ◌∷◌, Memᴰ, ℕ, zero, suc, ◌-◌, ◌≤◌, ◌<◌, length, take, drop, T, eqb, ltb}
+use Rattle.std.specs.Prelude.{◌≡◌, Bool, ◌↔◌, List, [], ◌∷◌, ℕ, zero, suc, ◌-◌, ◌≤◌, ◌<◌, length, take, drop, T, eqb, ltb}
+use Rattle.model.specs.Kit.{Memᴰ}
 use Rattle.model.specs.{Lists.all, Lists.both, Lists.at, Lists.flat, Lists.rows_ascend, Sheet.distinct}
 use Rattle.order.specs.Order.{Ordering}
 use Rattle.block.specs.Block.{orderings, ordering, factorial}

@@ -1,5 +1,5 @@
 -- What callers of `submit` and `release` hold: the contracts, one record a function.
-use Rattle.model.specs.Kit.{◌≡◌, List, [], ℕ}
+use Rattle.std.specs.Prelude.{◌≡◌, List, [], ℕ}
 use Rattle.desk.specs.{Queue.submit, Queue.release, Inner.Layout.reply_on, Inner.Layout.bytes_after, Meaning.means, Meaning.room_after, declared.Answer.Answer}
 
 -- b are the queue's bytes before and c after the call, r came back

@@ -1,6 +1,6 @@
 -- What paper 02, #113, asks of the queue, as statements; they can be read without the proofs. Jobs come and go, and turns are given, one call after
 -- another on one queue.
-use Rattle.model.specs.Kit.{◌≡◌, ◌⊎◌, Bool, false, List, [], ◌∷◌, ℕ, suc, ◌+◌, ◌*◌, ◌^◌, ◌≤◌, ◌<◌, length, T, eqb}
+use Rattle.std.specs.Prelude.{◌≡◌, ◌⊎◌, Bool, false, List, [], ◌∷◌, ℕ, suc, ◌+◌, ◌*◌, ◌^◌, ◌≤◌, ◌<◌, length, T, eqb}
 use Rattle.model.specs.{Lists.any, Lists.at, Search.nodes, Sheet.problem_of, Run.Ending, Run.spent, Run.plans_in, Run.Result, Run.result_of, Run.ended, Run.answer_of, Run.list_of, Run.Tally}
 use Rattle.model.specs.{Run.tally_of}
 use Rattle.run_cut.specs.Parts.{progress_at}

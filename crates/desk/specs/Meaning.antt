@@ -1,5 +1,5 @@
 -- What the answers mean.
-use Rattle.model.specs.Kit.{List, ℕ}
+use Rattle.std.specs.Prelude.{List, ℕ}
 use Rattle.desk.specs.Queue.{QueueReply, refusal, answered, queued, idle, served, released, standing_by}
 use Rattle.desk.specs.declared.Answer.{Answer}
 use Rattle.desk.specs.declared.Answer.TheVariants.{Queued, Idle, Stands, Released, Refused}

@@ -1,6 +1,6 @@
 -- A queue of jobs in eight slots (paper 02, #113: a desk, its halls and seats): a sheet, a limit (the allowance) and the run so far each; a turn makes 64 nodes (trials)
 -- of one of the runs.
-use Rattle.model.specs.Kit.{Bool, true, false, List, [], ◌∷◌, map, ℕ, zero, suc, ◌+◌, ◌*◌, ◌%◌, min, length, set, get_or, replicate, leb, ltb}
+use Rattle.std.specs.Prelude.{Bool, true, false, List, [], ◌∷◌, map, ℕ, zero, suc, ◌+◌, ◌*◌, ◌%◌, min, length, set, get_or, replicate, leb, ltb}
 use Rattle.model.specs.Run.{Ending, finished, spent, full, Result, written}
 use Rattle.model.specs.{Lists.flat, Lists.below, Problem.Problem, Verdict.Verdict, Verdict.accepted, Verdict.refused, Sheet.verdict_of, Sheet.problem_of}
 pub use Rattle.model.specs.Verdict.{Reply, refusal, answered}

@@ -1,5 +1,5 @@
 -- Rounds: each slot whose run hasn't ended gets up to r turns.
-use Rattle.model.specs.Kit.{not, map, ℕ, zero, suc, replicate}
+use Rattle.std.specs.Prelude.{not, map, ℕ, zero, suc, replicate}
 use Rattle.model.specs.{Lists.both, Lists.choose, Lists.total, ValueSets.mask_of}
 use Rattle.desk.specs.Queue.{goes_on, Job, job_turned, Slot, free, taken, waits, Queue, slot_at, round_from, turn, queue_end, Reply, answered}
 

@@ -1,5 +1,5 @@
 -- What the bytes of a queue are after rounds (specs/Rounds).
-use Rattle.model.specs.Kit.{◌≡◌, List, ℕ, length}
+use Rattle.std.specs.Prelude.{◌≡◌, List, ℕ, length}
 use Rattle.desk.specs.{Queue.refusal, Queue.size, Rounds.rounds_queue, Rounds.rounds_reply, Inner.Layout.queue_of, Inner.Layout.rounds_on, Inner.Layout.rounds_after, Claims.QueueBytes}
 
 -- rounds on bytes are rounds on the queue that they mean

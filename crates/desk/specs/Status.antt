@@ -1,5 +1,5 @@
 -- The status of a slot: how its run stands, and its nodes by variable (paper 02, #107, of a run at the desk).
-use Rattle.model.specs.Kit.{List, ℕ, replicate}
+use Rattle.std.specs.Prelude.{List, ℕ, replicate}
 use Rattle.desk.specs.Queue.{Slot, free, taken, Queue, slot_at, QueueReply, refusal, job_in, served_as}
 
 -- 38 where it is free

@@ -1,5 +1,5 @@
 -- What callers of `status` hold: the contract, and what it says of the bytes. b are the queue's bytes, r came back.
-use Rattle.model.specs.Kit.{◌≡◌, List, [], ℕ, length}
+use Rattle.std.specs.Prelude.{◌≡◌, List, [], ℕ, length}
 use Rattle.desk.specs.{Queue.refusal, Queue.size, Status.status_reply, Status.no_counts, Status.status_counts, Inner.Layout.queue_of, Inner.Layout.status_on, Inner.Layout.counts_on, Meaning.means}
 use Rattle.desk.specs.{declared.SlotStatus.SlotStatus}
 

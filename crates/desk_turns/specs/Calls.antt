@@ -1,5 +1,5 @@
 -- What callers of `turn` hold: the contract. b are the queue's bytes before and c after the call, r came back.
-use Rattle.model.specs.Kit.{◌≡◌, List, [], ℕ}
+use Rattle.std.specs.Prelude.{◌≡◌, List, [], ℕ}
 use Rattle.desk.specs.{Queue.turn, Inner.Layout.reply_on, Inner.Layout.bytes_after, Meaning.means, declared.Answer.Answer}
 
 pub record Turned (b c : List ℕ) (r : Answer) : Type 0 where

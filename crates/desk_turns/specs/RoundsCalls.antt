@@ -1,5 +1,5 @@
 -- What callers of `rounds` hold: the contract. b are the queue's bytes before and c after the call, r came back.
-use Rattle.model.specs.Kit.{◌≡◌, List, ℕ}
+use Rattle.std.specs.Prelude.{◌≡◌, List, ℕ}
 use Rattle.desk.specs.Inner.Layout.{rounds_on, rounds_after}
 use Rattle.desk_turns.specs.{Meaning.means_rounds, declared.Reply.Reply}
 

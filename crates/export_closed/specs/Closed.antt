@@ -1,5 +1,5 @@
 -- planner_closed (paper 02, #112): what it answers, and the bytes of the answer afterwards. Where the answer has not 12 bytes nothing is changed.
-use Rattle.model.specs.Kit.{List, ℕ, ◌+◌, ◌*◌, eqb, length}
+use Rattle.std.specs.Prelude.{List, ℕ, ◌+◌, ◌*◌, eqb, length}
 use Rattle.model.specs.Lists.{choose}
 use Rattle.families_closed.specs.{Open.Open, Open.none, Open.two, Lent.Told, Lent.refusal, Lent.answered, Lent.closed_lent}
 use Rattle.wire.specs.Wire.{wrong_length, three_numbers}

@@ -1,5 +1,5 @@
 -- Calls about columns: what each was lent, the code that comes back, and every lent buffer at the end. Each is the function's contract, that of `planner_..` too.
-use Rattle.model.specs.Kit.{◌≡◌, List, ℕ, length}
+use Rattle.std.specs.Prelude.{◌≡◌, List, ℕ, length}
 use Rattle.list_columns.specs.Columns.{columns_of, rows_of, columns_verdict, rows_verdict}
 use Rattle.wire.specs.Outcomes.{lent_code, lent_room, lent_answer}
 

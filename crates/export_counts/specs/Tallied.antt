@@ -1,5 +1,5 @@
 -- Counts as bytes (paper 02, #107).
-use Rattle.model.specs.Kit.{List, [], ◌∷◌, ◌++◌, ℕ}
+use Rattle.std.specs.Prelude.{List, [], ◌∷◌, ◌++◌, ℕ}
 use Rattle.model.specs.Bytes.{four_bytes}
 
 -- numbers of four bytes, one after another

@@ -1,6 +1,6 @@
 -- planner_desk_sit, planner_desk_turn, planner_desk_rounds, planner_desk_look and planner_desk_leave (paper 02, #113): what a call on the bytes b
 -- returns, and the bytes of every lent buffer afterwards. Where the answer has another length than is asked nothing is changed.
-use Rattle.model.specs.Kit.{◌≡◌, List, ◌++◌, ℕ, ◌+◌, ◌*◌, eqb, length}
+use Rattle.std.specs.Prelude.{◌≡◌, List, ◌++◌, ℕ, ◌+◌, ◌*◌, eqb, length}
 use Rattle.model.specs.{Lists.choose, Bytes.four_bytes, Run.finished, Run.spent, Run.full}
 use Rattle.wire.specs.Wire.{wrong_length, three_numbers}
 use Rattle.desk.specs.Queue.{Standing, running, over, QueueCall, submit, turn, release, QueueReply, Reply, refusal, answered, queued, idle, served, released}

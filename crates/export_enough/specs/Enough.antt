@@ -1,5 +1,5 @@
 -- planner_at_least (paper 02, #101): the answer has 12 bytes, three numbers: 1 yes, 2 no, 3 spent; the plans found; the nodes made.
-use Rattle.model.specs.Kit.{List, ℕ, ◌+◌, ◌*◌, eqb, length}
+use Rattle.std.specs.Prelude.{List, ℕ, ◌+◌, ◌*◌, eqb, length}
 use Rattle.model.specs.Lists.{choose}
 use Rattle.run_enough.specs.{AtLeast.enough, AtLeast.too_few, AtLeast.unknown, Lent.EnoughAnswer, Lent.refusal, Lent.answered, Lent.enough_lent}
 use Rattle.wire.specs.Wire.{wrong_length, three_numbers}

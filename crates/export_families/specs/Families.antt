@@ -1,5 +1,5 @@
 -- planner_families (paper 02, #104): what it answers, and the bytes of the answer afterwards. Where the answer has not 12 bytes nothing is changed.
-use Rattle.model.specs.Kit.{◌≡◌, List, ℕ, ◌+◌, ◌*◌, eqb, length}
+use Rattle.std.specs.Prelude.{◌≡◌, List, ℕ, ◌+◌, ◌*◌, eqb, length}
 use Rattle.model.specs.Lists.{choose}
 use Rattle.families_figure.specs.Figure.{Figure, number, dash}
 use Rattle.families_count.specs.Told.{Told, refusal, answered, counted_lent}

@@ -1,5 +1,5 @@
 -- planner_filter (paper 02, #102): what it answers, and the bytes of the sets afterwards.
-use Rattle.model.specs.Kit.{true, false, List, [], ◌∷◌, ◌++◌, ℕ, ◌+◌, ◌*◌, ◌%◌, ◌<◌, eqb, length}
+use Rattle.std.specs.Prelude.{true, false, List, [], ◌∷◌, ◌++◌, ℕ, ◌+◌, ◌*◌, ◌%◌, ◌<◌, eqb, length}
 use Rattle.model.specs.Bytes.{two_bytes}
 use Rattle.model.specs.Nogood.{FilterEnding, failed, entailed, consistent, FilterAnswer, refusal, answered, entries, filter_verdict, filter_answer, sets_after}
 use Rattle.wire.specs.Wire.{wrong_length}

@@ -1,6 +1,6 @@
 -- What a caller of `filter` (planner_filter) holds: of the bytes of the sets as they came and at the end and of the code that comes back, what crate filter's
 -- `FilterHeld` says of sets and answer. proofs/FilterBytes has the theorem.
-use Rattle.model.specs.Kit.{◌≡◌, List, ℕ, ◌+◌, ◌*◌, ◌%◌, ◌<◌, length}
+use Rattle.std.specs.Prelude.{◌≡◌, List, ℕ, ◌+◌, ◌*◌, ◌%◌, ◌<◌, length}
 use Rattle.model.specs.Lists.{at}
 use Rattle.filter.specs.declared.Answer.TheVariants.{Failed, Entailed, Consistent, Refused}
 use Rattle.filter.specs.{FilterCalls.FilterHeld, declared.Answer.Answer}

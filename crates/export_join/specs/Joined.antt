@@ -1,5 +1,5 @@
 -- planner_join: what it returns, and the bytes of the answer afterwards.
-use Rattle.model.specs.Kit.{◌≡◌, List, [], ◌∷◌, ◌++◌, ℕ, zero, suc, ◌+◌, ◌*◌, ◌/◌, ◌%◌, eqb, length, replicate}
+use Rattle.std.specs.Prelude.{◌≡◌, List, [], ◌∷◌, ◌++◌, ℕ, zero, suc, ◌+◌, ◌*◌, ◌/◌, ◌%◌, eqb, length, replicate}
 use Rattle.model.specs.{Bytes.four_bytes, Lists.at, Lists.choose, Lists.tabulate}
 use Rattle.wire.specs.Wire.{wrong_length}
 use Rattle.run_join.specs.Join.{join_verdict, reach_place, plans_of, nodes_of, count_of}

@@ -1,6 +1,6 @@
 -- Calls that are lent a sheet, pairs and a block: what comes back, and every lent buffer at the end. Each is the function's contract, that of `planner_..`
 -- too; promises' `ExportedLent` says what a caller may rely on.
-use Rattle.model.specs.Kit.{◌≡◌, List, ℕ}
+use Rattle.std.specs.Prelude.{◌≡◌, List, ℕ}
 use Rattle.export_lent.specs.Lent.{lent_question_code, lent_run_code, lent_run_list, lent_run_answer}
 
 -- `question_lent`: the code that comes back

@@ -1,5 +1,5 @@
 -- Calls that are lent a sheet, pairs and a block (paper 02, #107, #108 and #111).
-use Rattle.model.specs.Kit.{List, ◌++◌, ℕ, eqb, length}
+use Rattle.std.specs.Prelude.{List, ◌++◌, ℕ, eqb, length}
 use Rattle.model.specs.{Lists.choose, Run.Answer, Run.refusal, Run.answered, Run.nodes_in}
 use Rattle.order.specs.RunBy.{place_counts}
 use Rattle.run_input.specs.Lent.{verdict_lent, problem_with, order_lent, answer_lent, list_lent}

@@ -1,6 +1,6 @@
 -- planner_merge (paper 02, #106): its answer, and a call. The number of bytes written takes two of the answer's numbers: a merged list may have more
 -- bytes than 32 bits count.
-use Rattle.model.specs.Kit.{◌≡◌, List, ℕ, ◌%◌, ◌/◌, ◌^◌, eqb, length}
+use Rattle.std.specs.Prelude.{◌≡◌, List, ℕ, ◌%◌, ◌/◌, ◌^◌, eqb, length}
 use Rattle.model.specs.{Lists.choose, Verdict.Verdict, Room.Outcome, Room.answered, Room.refusal, Room.outcome_of}
 use Rattle.list_merge.specs.Merge.{merged, merge_verdict}
 use Rattle.wire.specs.{Wire.three_numbers, Outcomes.lent_code, Outcomes.lent_room}

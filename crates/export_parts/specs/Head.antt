@@ -1,5 +1,5 @@
 -- The head of a part of a run, in 115 bytes: how the part ended with its plans, its nodes and its twelve counts, the name of its problem, its range, and where it stands.
-use Rattle.model.specs.Kit.{List, [], ◌∷◌, ◌++◌, ℕ, ◌+◌, ◌*◌, ◌%◌, length, take}
+use Rattle.std.specs.Prelude.{List, [], ◌∷◌, ◌++◌, ℕ, ◌+◌, ◌*◌, ◌%◌, length, take}
 use Rattle.model.specs.{Lists.at, Lists.tabulate, Run.Ending, Run.Answer, Run.refusal, Run.answered}
 use Rattle.run_ranges.specs.Claims.{Part}
 use Rattle.export_run.specs.Run.{ending_bytes}

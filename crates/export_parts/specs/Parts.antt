@@ -1,5 +1,5 @@
 -- planner_run_part: what it returns, and the bytes of every lent buffer afterwards.
-use Rattle.model.specs.Kit.{◌≡◌, List, ℕ, eqb, length}
+use Rattle.std.specs.Prelude.{◌≡◌, List, ℕ, eqb, length}
 use Rattle.model.specs.Lists.{choose}
 use Rattle.run_ranges.specs.{Ranges.answer_part, Ranges.list_part, Ranges.tally_part, Ranges.last_part, Claims.Part}
 use Rattle.wire.specs.Wire.{wrong_length}

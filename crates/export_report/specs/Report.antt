@@ -1,5 +1,5 @@
 -- planner_report: what it returns, and the bytes of every lent buffer afterwards.
-use Rattle.model.specs.Kit.{◌≡◌, List, ℕ, leb, length}
+use Rattle.std.specs.Prelude.{◌≡◌, List, ℕ, leb, length}
 use Rattle.model.specs.Verdict.{Verdict, accepted, ask}
 use Rattle.report.specs.Report.{report_of}
 use Rattle.wire.specs.{Wire.four_at, Outcomes.lent_code, Outcomes.lent_room, Outcomes.lent_answer}

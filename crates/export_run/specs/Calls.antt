@@ -1,6 +1,6 @@
 -- A call of `question` and of `run` as they are exported: what it was lent, the code that comes back, and what the lent bytes are at the end. Each is the
 -- function's contract; promises' `Exported` says what a caller may rely on.
-use Rattle.model.specs.Kit.{◌≡◌, List, ℕ}
+use Rattle.std.specs.Prelude.{◌≡◌, List, ℕ}
 use Rattle.export_run.specs.Run.{question_code, run_code, run_list, run_answer}
 
 -- a call of `question`: bytes b, the code that comes back

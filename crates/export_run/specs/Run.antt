@@ -1,5 +1,5 @@
 -- planner_question and planner_run: what they answer, and the bytes of every lent buffer afterwards.
-use Rattle.model.specs.Kit.{List, ℕ, ◌+◌, ◌*◌, eqb, length}
+use Rattle.std.specs.Prelude.{List, ℕ, ◌+◌, ◌*◌, eqb, length}
 use Rattle.model.specs.{Lists.choose, Sheet.verdict_of, Run.Ending, Run.finished, Run.spent, Run.full, Run.Answer, Run.refusal, Run.answered, Run.answer_of, Run.list_of}
 use Rattle.wire.specs.Wire.{code_of, wrong_length, three_numbers}
 

@@ -1,6 +1,6 @@
 -- planner_small_sheet (paper 02, #114): what it answers, and the bytes of both lent buffers afterwards. Where the answer has not 12 bytes
 -- nothing is changed.
-use Rattle.model.specs.Kit.{true, false, List, ℕ, eqb, length}
+use Rattle.std.specs.Prelude.{true, false, List, ℕ, eqb, length}
 use Rattle.sheet_small.specs.Answers.{small_outcome, small_room}
 use Rattle.wire.specs.{Wire.wrong_length, Outcomes.outcome_code, Outcomes.outcome_answer}
 

@@ -1,5 +1,5 @@
 -- Calls about the store: what each was lent, the code that comes back, and every lent buffer at the end. Each is the function's contract, that of `planner_..` too.
-use Rattle.model.specs.Kit.{◌≡◌, List, ℕ}
+use Rattle.std.specs.Prelude.{◌≡◌, List, ℕ}
 use Rattle.store.specs.Store.{call, put, fetch, remove}
 use Rattle.export_store.specs.Stored.{stored_code, stored_answer, stored_bytes, stored_room}
 

@@ -1,6 +1,6 @@
 -- planner_store_put, planner_store_fetch and planner_store_drop (paper 02, #110): what a call on the bytes b returns, and the bytes of every lent
 -- buffer afterwards. Where the answer has not 12 bytes nothing is changed.
-use Rattle.model.specs.Kit.{List, ℕ, eqb, length}
+use Rattle.std.specs.Prelude.{List, ℕ, eqb, length}
 use Rattle.model.specs.Lists.{choose}
 use Rattle.store.specs.{Store.StoreCall, Store.call, Store.fetch, Inner.Layout.reply_on, Inner.Layout.bytes_after}
 use Rattle.wire.specs.{Wire.wrong_length, Outcomes.outcome_code, Outcomes.outcome_answer}

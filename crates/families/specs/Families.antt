@@ -1,5 +1,6 @@
 -- Families of solutions, and one solution of each (paper 02, #104 and #112). The proofs are in proofs/Joined, FamilyCount and Closed.
-use Rattle.model.specs.Kit.{◌≡◌, ◌⊎◌, Bool, not, List, [], ◌∷◌, Memᴰ, ℕ, zero, suc, ◌*◌, ◌<◌, length, T, eqb}
+use Rattle.std.specs.Prelude.{◌≡◌, ◌⊎◌, Bool, not, List, [], ◌∷◌, ℕ, zero, suc, ◌*◌, ◌<◌, length, T, eqb}
+use Rattle.model.specs.Kit.{Memᴰ}
 use Rattle.model.specs.{Lists.either, Lists.all, Lists.any, Lists.keep, Lists.below, Lists.at, Lists.same, Lists.earlier, Problem.Problem, Problem.is_solution, Problem.assignments, Problem.takes}
 
 -- from the solution a to b by none, one or more symmetries, one after another, through solutions only

@@ -1,6 +1,6 @@
 -- A call of `closed`: a sheet, pairs and a block, and the answer. It is the function's contract. And what a caller may rely on (paper 02, #112);
 -- proofs/Calls has the theorem.
-use Rattle.model.specs.Kit.{◌≡◌, ◌↔◌, List, ℕ}
+use Rattle.std.specs.Prelude.{◌≡◌, ◌↔◌, List, ℕ}
 use Rattle.model.specs.Verdict.{accepted, refused}
 use Rattle.run_input.specs.Lent.{verdict_lent, problem_with}
 use Rattle.families.specs.Families.{Closed}

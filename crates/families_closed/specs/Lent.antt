@@ -1,5 +1,5 @@
 -- Are the exchanges of a run closed that is lent a sheet, pairs and a block (paper 02, #112)? The exchanges are the sheet's own, then the block's rows.
-use Rattle.model.specs.Kit.{List, ℕ}
+use Rattle.std.specs.Prelude.{List, ℕ}
 use Rattle.model.specs.Verdict.{reply}
 use Rattle.run_input.specs.Lent.{verdict_lent, problem_with}
 use Rattle.families_closed.specs.Open.{Open, none, two, first_open}

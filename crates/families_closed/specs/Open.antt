@@ -1,5 +1,5 @@
 -- Are the symmetries closed (paper 02, #112), and if not, which are the first two whose product is missing? The proofs are in proofs/Open.antt.
-use Rattle.model.specs.Kit.{◌≡◌, Bool, true, false, not, ◌⊎◌, ℕ, ◌*◌, ◌/◌, ◌%◌, ◌<◌, length, T, ltb}
+use Rattle.std.specs.Prelude.{◌≡◌, Bool, true, false, not, ◌⊎◌, ℕ, ◌*◌, ◌/◌, ◌%◌, ◌<◌, length, T, ltb}
 use Rattle.model.specs.{Lists.either, Lists.any, ValueSets.least, Problem.Problem, Problem.symmetry_at}
 use Rattle.families.specs.Families.{makes, moves_nothing}
 

@@ -1,5 +1,5 @@
 -- A call of `families`: what it was lent, and what comes back. It is the function's contract; promises' `FamilyCalls` says what a caller may rely on.
-use Rattle.model.specs.Kit.{◌≡◌, List, ℕ}
+use Rattle.std.specs.Prelude.{◌≡◌, List, ℕ}
 use Rattle.families_count.specs.{Told.counted_lent, Told.means, declared.Answer.Answer}
 
 -- a call of `families`: r comes back

@@ -1,5 +1,5 @@
 -- The number of families on a sheet for callers (paper 02, #104): both runs have room for 4,096 plans.
-use Rattle.model.specs.Kit.{List, ℕ, ◌*◌}
+use Rattle.std.specs.Prelude.{List, ℕ, ◌*◌}
 use Rattle.model.specs.{Verdict.reply, Sheet.problem_of}
 use Rattle.run_input.specs.Lent.{verdict_lent}
 use Rattle.families_figure.specs.Figure.{Figure, number, dash, families_lent}

@@ -1,6 +1,6 @@
 -- The report's last figure (paper 02, #104): the number of families on the sheet; a dash when the run isn't finished, or when a run of the sheet
 -- without exchanges, same limit and room, isn't.
-use Rattle.model.specs.Kit.{List, [], ◌++◌, ℕ, ◌-◌, ◌*◌, take, drop}
+use Rattle.std.specs.Prelude.{List, [], ◌++◌, ℕ, ◌-◌, ◌*◌, take, drop}
 use Rattle.model.specs.{Bytes.two_bytes, Problem.Problem, Problem.with_symmetries, Sheet.header_of, Sheet.problem_of, Run.Ending, Run.finished, Run.spent, Run.full}
 use Rattle.order.specs.RunBy.{result_by}
 use Rattle.run_input.specs.Lent.{problem_with, order_lent}

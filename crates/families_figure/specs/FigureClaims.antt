@@ -1,6 +1,7 @@
 -- The sheet without exchanges is a sheet (paper 02, #104; proofs/BareSheet), and what "one plan of each family" is (#112).
 -- Families are read with all exchanges of the run, the sheet's and the block's.
-use Rattle.model.specs.Kit.{◌≡◌, ◌↔◌, List, Memᴰ, ℕ, T}
+use Rattle.std.specs.Prelude.{◌≡◌, ◌↔◌, List, ℕ, T}
+use Rattle.model.specs.Kit.{Memᴰ}
 use Rattle.model.specs.{Problem.is_solution, Verdict.accepted, Sheet.problem_of, Sheet.verdict_of}
 use Rattle.order.specs.Reordered.{earlier_by}
 use Rattle.run_input.specs.Lent.{problem_with, order_lent}

@@ -1,6 +1,6 @@
 -- Figures of paper 01's sheets and of paper 02's rotation, as one list of statements about the definitions. One theorem says that each holds
 -- (proofs/FigureExamples).
-use Rattle.model.specs.Kit.{◌≡◌, List, [], ◌∷◌}
+use Rattle.std.specs.Prelude.{◌≡◌, List, [], ◌∷◌}
 use Rattle.model.specs.Examples.{sheet_a, sheet_a0, sheet_r}
 use Rattle.families_figure.specs.Figure.{number, dash, bare_sheet, families_lent}
 

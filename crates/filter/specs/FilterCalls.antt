@@ -1,6 +1,6 @@
 -- What a caller of `filter` may rely on (paper 01, "Nogood lists" and demand 2; paper 02, #102 and #105), in terms of what it holds: the sets as they
 -- came, the three lists, the answer, and the sets afterwards. proofs/FilterCalls has the theorem.
-use Rattle.model.specs.Kit.{◌≡◌, ◌⊎◌, ◌↔◌, List, ℕ, ◌^◌, ◌≤◌, ◌<◌, length, replicate, T}
+use Rattle.std.specs.Prelude.{◌≡◌, ◌⊎◌, ◌↔◌, List, ℕ, ◌^◌, ◌≤◌, ◌<◌, length, replicate, T}
 use Rattle.model.specs.{Lists.at, ValueSets.has, Nogood.mark, Nogood.entries, Nogood.filter_verdict, Nogood.filter_answer, Nogood.sets_after, Claims.Drawn}
 use Rattle.filter.specs.declared.Answer.TheVariants.{Failed, Entailed, Consistent, Refused}
 use Rattle.filter.specs.{Meaning.means, declared.Answer.Answer}

@@ -1,5 +1,6 @@
 -- What is known of the first part of a list of nogoods for all assignments drawn from some sets, and stays known as the sets shrink and the list grows.
-use Rattle.model.specs.Kit.{◌≡◌, false, List, ◌++◌, Memᴰ, ℕ, ◌^◌, ◌<◌, T, length}
+use Rattle.std.specs.Prelude.{◌≡◌, false, List, ◌++◌, ℕ, ◌^◌, ◌<◌, T, length}
+use Rattle.model.specs.Kit.{Memᴰ}
 use Rattle.model.specs.{Lists.at, ValueSets.has, ValueSets.any_empty, ValueSets.Inside, Problem.assignments, Nogood.Entry, Nogood.equality, Nogood.obeys, Nogood.filtered, NogoodClaims.Entails}
 
 -- every equality of the entries holds and every disequality too: what comes after them decides

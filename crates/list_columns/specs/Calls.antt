@@ -1,6 +1,6 @@
 -- Calls of `to_columns` and `to_rows`: what each was lent, what it answered, and the room at the end. Each is the function's contract. And paper 02,
 -- #103, of what a caller of both holds. proofs/Calls has the theorems.
-use Rattle.model.specs.Kit.{◌≡◌, List, ℕ, ◌≤◌, length, take, drop, T, ltb}
+use Rattle.std.specs.Prelude.{◌≡◌, List, ℕ, ◌≤◌, length, take, drop, T, ltb}
 use Rattle.model.specs.{Lists.all, Room.outcome_of, Room.room_after}
 use Rattle.list_columns.specs.Columns.{columns_of, rows_of, variables, columns_verdict, rows_verdict}
 use Rattle.list_columns.specs.{Meaning.means, declared.Answer.Answer, declared.Answer.TheVariants.Written}

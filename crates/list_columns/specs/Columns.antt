@@ -1,6 +1,6 @@
 -- Plans stored by window (paper 02, #103): the store of some rows, the rows of a store, and the questions put to both. A variable is the
 -- paper's place, a row a plan.
-use Rattle.model.specs.Kit.{Bool, List, ◌++◌, map, ℕ, ◌+◌, ◌*◌, ◌/◌, ◌%◌, length, drop, leb, ltb, eqb}
+use Rattle.std.specs.Prelude.{Bool, List, ◌++◌, map, ℕ, ◌+◌, ◌*◌, ◌/◌, ◌%◌, length, drop, leb, ltb, eqb}
 use Rattle.model.specs.{Lists.both, Lists.all, Lists.flat, Lists.below, Lists.at, Bytes.two_bytes, Run.listed_plans, Sheet.«word», Room.rows_in, Verdict.Verdict, Verdict.accepted, Verdict.ask}
 
 -- ---- rows and columns

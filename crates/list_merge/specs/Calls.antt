@@ -1,5 +1,5 @@
 -- A call of `merge`: what it was lent, what it answered, and the room at the end. It is the function's contract.
-use Rattle.model.specs.Kit.{◌≡◌, List, ℕ, length}
+use Rattle.std.specs.Prelude.{◌≡◌, List, ℕ, length}
 use Rattle.model.specs.Room.{outcome_of, room_after}
 use Rattle.list_merge.specs.{Merge.merged, Merge.merge_verdict, Meaning.means, declared.Answer.Answer}
 

@@ -1,6 +1,7 @@
 -- The claims of paper 02, #106, as statements about the definitions; proofs/Claimed has the proofs. That the merge of two runs' lists has the plans of
 -- either, promises says of what callers hold.
-use Rattle.model.specs.Kit.{◌≡◌, ◌⊎◌, ◌↔◌, List, [], Memᴰ, ℕ, T}
+use Rattle.std.specs.Prelude.{◌≡◌, ◌⊎◌, ◌↔◌, List, [], ℕ, T}
+use Rattle.model.specs.Kit.{Memᴰ}
 use Rattle.model.specs.{Lists.below, Lists.rows_ascend, Verdict.accepted, Room.rows_in}
 use Rattle.order.specs.Order.{settling_order}
 use Rattle.list_merge.specs.Merge.{ascends, merged_by, merged, merge_verdict}

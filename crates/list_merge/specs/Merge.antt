@@ -1,6 +1,6 @@
 -- One list from two (paper 02, #106): the rows of either list, ascending, each once, and the questions put to the two lists.
 -- Rows are compared in the settling order of the lent pairs (#108); without pairs that is by variable.
-use Rattle.model.specs.Kit.{Bool, true, false, not, List, [], ◌∷◌, map, ℕ, ◌%◌, length, take, leb, eqb}
+use Rattle.std.specs.Prelude.{Bool, true, false, not, List, [], ◌∷◌, map, ℕ, ◌%◌, length, take, leb, eqb}
 use Rattle.model.specs.{Lists.choose, Lists.both, Lists.either, Lists.flat, Lists.same, Lists.rows_ascend, Room.rows_in, Verdict.Verdict, Verdict.accepted, Verdict.ask}
 use Rattle.order.specs.{Order.settling_order, Order.order_verdict, Reordered.read, Reordered.earlier_by}
 

@@ -1,5 +1,5 @@
 -- Numbers as bytes, low byte first.
-use Rattle.model.specs.Kit.{List, [], ◌∷◌, ℕ, ◌+◌, ◌*◌, ◌/◌, ◌%◌}
+use Rattle.std.specs.Prelude.{List, [], ◌∷◌, ℕ, ◌+◌, ◌*◌, ◌/◌, ◌%◌}
 use Rattle.model.specs.Lists.{at}
 
 -- in two bytes; the last is a byte where the number is below 2 ^ 16

@@ -1,6 +1,7 @@
 -- What question 16 shows and what a sheet with one exchange more is answered, in the paper's words; and the words of the filter, of the sets at a prefix and of the
 -- second and the third demand, in which filter and promises state them. The proofs are in proofs/Demands.antt and OneMoreAccepted.antt.
-use Rattle.model.specs.Kit.{◌≡◌, Bool, false, not, List, ◌++◌, map, Memᴰ, ℕ, suc, ◌+◌, ◌-◌, ◌*◌, ◌^◌, ◌≤◌, ◌<◌, length, take, drop, replicate, T, leb}
+use Rattle.std.specs.Prelude.{◌≡◌, Bool, false, not, List, ◌++◌, map, ℕ, suc, ◌+◌, ◌-◌, ◌*◌, ◌^◌, ◌≤◌, ◌<◌, length, take, drop, replicate, T, leb}
+use Rattle.model.specs.Kit.{Memᴰ}
 use Rattle.model.specs.{Lists.any, Lists.at, Lists.keep, Lists.flat, Lists.below, Lists.both, Lists.earlier, Bytes.two_bytes, ValueSets.has, ValueSets.any_empty, Problem.Problem}
 use Rattle.model.specs.{Problem.Constraint, Problem.is_solution, Problem.assignments, Problem.takes, Problem.respects, Verdict.accepted, Verdict.ask, Sheet.words, Sheet.problem_of, Sheet.header_of}
 use Rattle.model.specs.{Sheet.verdict_of, Sheet.permutes_pairs, Nogood.Entry, Nogood.filtered, Search.entries_of, Search.row_with, Search.nodes, Search.is_plan, Run.Ending, Run.finished, Run.spent}

@@ -1,6 +1,6 @@
 -- The starred examples of paper 01, all of them, as one list of statements about the definitions.
 -- One theorem says that each holds (proofs/Examples).
-use Rattle.model.specs.Kit.{◌≡◌, true, false, List, [], ◌∷◌, ◌++◌, map, ℕ, ◌^◌, ◌≤◌, ◌<◌, length, replicate}
+use Rattle.std.specs.Prelude.{◌≡◌, true, false, List, [], ◌∷◌, ◌++◌, map, ℕ, ◌^◌, ◌≤◌, ◌<◌, length, replicate}
 use Rattle.model.specs.Run.{Answer, refusal, answered, ended, finished, spent, full, answer_of, list_of}
 use Rattle.model.specs.{Lists.flat, Lists.at, Bytes.two_bytes, ValueSets.any_empty, Verdict.Verdict, Verdict.accepted, Nogood.entries, Nogood.filter_verdict, Nogood.sets_after, Sheet.verdict_of}
 use Rattle.model.specs.{Sheet.problem_of, Search.sets_at, Search.nodes, Search.is_live, Claims.plans_held, Claims.OneMore}

@@ -1,5 +1,5 @@
 -- The examples of paper 02, as one list of statements about the definitions. One theorem says that each holds (proofs/Examples02).
-use Rattle.model.specs.Kit.{◌≡◌, List, [], ◌∷◌, replicate}
+use Rattle.std.specs.Prelude.{◌≡◌, List, [], ◌∷◌, replicate}
 use Rattle.model.specs.{Nogood.failed, Nogood.entailed, Nogood.consistent, Nogood.entries, Nogood.filter_ending, Run.tally_of, Examples.index4, Examples.equal4, Examples.unequal4, Examples.sheet_a}
 
 abbrev pub tests02 : List (Type 0)

@@ -1,5 +1,6 @@
 -- The kit's names that specs and proofs use, passed on as they are: each means what the kit's module says.
-pub use Rattle.std.specs.Prelude.{◌%◌, ◌*◌, ◌+◌, ◌-◌, ◌/◌, ◌<◌, ◌^◌, ◌≤◌, min, suc, zero, ℕ, T, eqb, leb, ltb, drop, get_or, length, replicate, set, take, Bool, false, not, true, ◌↔◌, ◌⊎◌, ◌≡◌, refl}
+pub use Rattle.std.specs.Prelude.{List, [], ◌++◌, ◌∷◌, map, ◌%◌, ◌*◌, ◌+◌, ◌-◌, ◌/◌, ◌<◌, ◌^◌, ◌≤◌, min, suc, zero, ℕ, T, eqb, leb, ltb, drop, get_or, length, replicate, set, take, Bool, false, not}
+pub use Rattle.std.specs.Prelude.{true, ◌↔◌, ◌⊎◌, ◌≡◌, refl}
 pub use base.Logic.{SProp, emp, ent, sep}
 pub use Rattle.std.proofs.Common.{below_more, rules, eq-eqb, eqb-true, le-leb, le-ltb, leb-false, leb-true, lt-ltb, ltb-false, ltb-true, ne_eqb, T_not, eqb→eq, leb→le, lit<, ltb→lt, lt→ltb}
 pub use Rattle.std.proofs.Common.{length-append, length-drop, length-set, length-take, take-append-drop, get_or-drop, get_or-take, length-take-le, take_all, inl, inr, ⊎_elim, ◌∙◌, ap, ap₂, subst}
@@ -20,14 +21,5 @@ pub use mathlib.Core.List.Memᴰ.{map as Memᴰ-map}
 pub use mathlib.Core.List.Memᴰ.{not-nil as Memᴰ-not_nil}
 pub use mathlib.Core.List.Memᴰ.{of_map as Memᴰ-of_map}
 pub use mathlib.Core.List.Memᴰ.{tail as Memᴰ-tail}
-pub use mathlib.Core.List.{
-  List,
-  Memᴰ,
-  [],
-  ◌++◌,
-  ◌∷◌,
-  append_assoc,
-  append-nil,
-  map,
-}
+pub use mathlib.Core.List.{Memᴰ, append_assoc, append-nil}
 pub use Rattle.std.proofs.Math.Decide.{dec_lt, ℕ_discrete}

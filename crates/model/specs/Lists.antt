@@ -1,5 +1,5 @@
 -- Tests over lists, and the list of the first numbers. Each test stops at the first element that decides it.
-use Rattle.model.specs.Kit.{Bool, true, false, List, [], ◌∷◌, ◌++◌, ℕ, zero, suc, ◌+◌, get_or, eqb, ltb}
+use Rattle.std.specs.Prelude.{Bool, true, false, List, [], ◌∷◌, ◌++◌, ℕ, zero, suc, ◌+◌, get_or, eqb, ltb}
 
 abbrev pub both : Bool → Bool → Bool
 both true b = b

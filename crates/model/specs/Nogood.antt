@@ -1,5 +1,5 @@
 -- Increasing nogoods (source document 001, section 3), and the exact filter for a list of them (paper 01, "Nogood lists").
-use Rattle.model.specs.Kit.{Bool, true, false, not, List, [], ◌∷◌, ℕ, length, get_or, eqb, ltb, leb}
+use Rattle.std.specs.Prelude.{Bool, true, false, not, List, [], ◌∷◌, ℕ, length, get_or, eqb, ltb, leb}
 use Rattle.model.specs.Lists.{all, any, at, keep, both, tabulate}
 use Rattle.model.specs.{ValueSets.mask_of, ValueSets.least, Problem.assignments, Verdict.Verdict, Verdict.accepted, Verdict.ask, Verdict.reply, Verdict.kept}
 pub use Rattle.model.specs.Verdict.{Reply, refusal, answered}

@@ -1,5 +1,6 @@
 -- What an entry is, in words (paper 02, #105), and when a list says nothing more (#102). The proofs are in proofs/EntryKinds.antt.
-use Rattle.model.specs.Kit.{◌≡◌, ◌⊎◌, List, Memᴰ, ℕ, ◌<◌, T, eqb, ltb}
+use Rattle.std.specs.Prelude.{◌≡◌, ◌⊎◌, List, ℕ, ◌<◌, T, eqb, ltb}
+use Rattle.model.specs.Kit.{Memᴰ}
 use Rattle.model.specs.Nogood.{Entry, equality, disequality, obeys, mark, Kind, is_equality_lem, is_disequality, both_absent, both_present, kind_of, entry_of, entry_ok}
 use Rattle.model.specs.{Lists.both, Lists.either, Problem.assignments}
 

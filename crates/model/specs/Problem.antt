@@ -1,5 +1,5 @@
 -- The problem that a sheet states, its solutions, and the symmetries that respect it (paper 01, "Words").
-use Rattle.model.specs.Kit.{Bool, not, List, [], ◌∷◌, ◌++◌, map, ℕ, ◌+◌, ◌*◌, ◌/◌, ◌%◌, length, get_or, eqb, ltb}
+use Rattle.std.specs.Prelude.{Bool, not, List, [], ◌∷◌, ◌++◌, map, ℕ, ◌+◌, ◌*◌, ◌/◌, ◌%◌, length, get_or, eqb, ltb}
 use Rattle.model.specs.{Lists.all, Lists.any, Lists.keep, Lists.flat, Lists.below, Lists.at, Lists.same, Lists.both, ValueSets.has, ValueSets.members}
 
 -- a constraint (the paper's rule): its scope, the paper's places of the rule, and its rows

@@ -1,5 +1,5 @@
 -- A run: the nodes of the tree in their order, up to where it ends (paper 01, "The search").
-use Rattle.model.specs.Kit.{true, false, List, [], ◌∷◌, ◌++◌, ℕ, zero, suc, ◌-◌, ◌*◌, length, take, drop, leb, eqb}
+use Rattle.std.specs.Prelude.{true, false, List, [], ◌∷◌, ◌++◌, ℕ, zero, suc, ◌-◌, ◌*◌, length, take, drop, leb, eqb}
 use Rattle.model.specs.{Lists.keep, Lists.flat, Lists.tabulate, Problem.Problem, Search.nodes, Search.is_plan, Verdict.reply, Verdict.kept, Sheet.verdict_of, Sheet.problem_of}
 pub use Rattle.model.specs.Verdict.{Reply, refusal, answered}
 

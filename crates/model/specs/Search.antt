@@ -1,6 +1,6 @@
 -- The nogoods of a symmetry at a prefix, the sets at a prefix, and the tree as the list of its nodes (paper 01, "The search").
 -- A prefix is the list of the values of variables 0 to k - 1.
-use Rattle.model.specs.Kit.{Bool, true, false, not, List, [], ◌∷◌, ◌++◌, map, ℕ, zero, suc, ◌*◌, ◌/◌, ◌%◌, length, eqb, ltb}
+use Rattle.std.specs.Prelude.{Bool, true, false, not, List, [], ◌∷◌, ◌++◌, map, ℕ, zero, suc, ◌*◌, ◌/◌, ◌%◌, length, eqb, ltb}
 use Rattle.model.specs.{Lists.all, Lists.any, Lists.keep, Lists.flat, Lists.below, Lists.at, Lists.same, Lists.both, Lists.tabulate, ValueSets.has, ValueSets.mask_of, ValueSets.members}
 use Rattle.model.specs.{ValueSets.any_empty, Problem.Problem, Problem.Constraint, Problem.pair, Nogood.Entry, Nogood.equality, Nogood.disequality, Nogood.filtered}
 

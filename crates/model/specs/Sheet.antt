@@ -1,6 +1,6 @@
 -- The sheet's format, the questions put to it in their order, and the problem that it states
 -- (paper 01, "The sheet" and "Questions put to a sheet").
-use Rattle.model.specs.Kit.{Bool, true, false, not, List, [], ◌∷◌, map, ℕ, zero, suc, ◌+◌, ◌*◌, ◌^◌, length, leb, ltb, eqb}
+use Rattle.std.specs.Prelude.{Bool, true, false, not, List, [], ◌∷◌, map, ℕ, zero, suc, ◌+◌, ◌*◌, ◌^◌, length, leb, ltb, eqb}
 use Rattle.model.specs.Lists.{all, any, below, at, both, ascending, rows_ascend}
 use Rattle.model.specs.{Problem.Problem, Problem.Constraint, Problem.is_pair, Problem.respects, Verdict.Verdict, Verdict.accepted, Verdict.ask}
 

@@ -1,5 +1,5 @@
 -- A set of values is a number of sixteen bits: value v is a member of s where bit v of s is 1 (paper 01, "Words").
-use Rattle.model.specs.Kit.{Bool, true, false, not, List, ℕ, zero, suc, ◌+◌, ◌*◌, ◌/◌, ◌%◌, ◌^◌, T, eqb, ltb}
+use Rattle.std.specs.Prelude.{Bool, true, false, not, List, ℕ, zero, suc, ◌+◌, ◌*◌, ◌/◌, ◌%◌, ◌^◌, T, eqb, ltb}
 use Rattle.model.specs.Lists.{both, either, keep, below, any, at}
 
 abbrev pub bit : Bool → ℕ

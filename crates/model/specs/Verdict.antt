@@ -1,5 +1,5 @@
 -- The answer to a list of questions: accepted, or the number and the item of the first "no".
-use Rattle.model.specs.Kit.{Bool, true, false, ℕ}
+use Rattle.std.specs.Prelude.{Bool, true, false, ℕ}
 
 pub data Verdict : Type 0 where
   accepted : Verdict

@@ -1,5 +1,5 @@
 -- Bytes put into a lent buffer: where they end, and that all other bytes are as they came.
-use Rattle.model.specs.Kit.{◌≡◌, List, ◌++◌, ℕ, ◌+◌, length, take, drop}
+use Rattle.std.specs.Prelude.{◌≡◌, List, ◌++◌, ℕ, ◌+◌, length, take, drop}
 
 -- a buffer with a text at a place
 unfoldable pub placed : List ℕ → ℕ → List ℕ → List ℕ

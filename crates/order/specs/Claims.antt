@@ -1,5 +1,6 @@
 -- What paper 02, #108, asks of the pairs' questions and of the settling order. The proofs are in proofs/Order.antt.
-use Rattle.model.specs.Kit.{◌≡◌, ◌↔◌, List, Memᴰ, ℕ, ◌%◌, ◌≤◌, ◌<◌, length, T}
+use Rattle.std.specs.Prelude.{◌≡◌, ◌↔◌, List, ℕ, ◌%◌, ◌≤◌, ◌<◌, length, T}
+use Rattle.model.specs.Kit.{Memᴰ}
 use Rattle.model.specs.Verdict.{Verdict, refused, is_accepted}
 use Rattle.order.specs.Order.{Before, Circle, settling_order, order_verdict, Settling}
 

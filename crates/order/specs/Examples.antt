@@ -1,5 +1,5 @@
 -- Settling orders and answers to 28 to 30, as one list of statements. One theorem says that each holds (proofs/Order).
-use Rattle.model.specs.Kit.{◌≡◌, List, [], ◌∷◌}
+use Rattle.std.specs.Prelude.{◌≡◌, List, [], ◌∷◌}
 use Rattle.model.specs.Verdict.{accepted, refused}
 use Rattle.order.specs.Order.{settling_order, order_verdict}
 

@@ -1,6 +1,7 @@
 -- Pairs "this place before that place": the settling order, and the questions 28 to 30 (paper 02, request 108).
 -- The pairs are lent as bytes: the two places of the first pair, those of the second, ..
-use Rattle.model.specs.Kit.{◌≡◌, Bool, false, not, List, [], ◌∷◌, ◌++◌, map, Memᴰ, ℕ, zero, suc, ◌%◌, ◌<◌, length, take, T, leb, ltb, eqb}
+use Rattle.std.specs.Prelude.{◌≡◌, Bool, false, not, List, [], ◌∷◌, ◌++◌, map, ℕ, zero, suc, ◌%◌, ◌<◌, length, take, T, leb, ltb, eqb}
+use Rattle.model.specs.Kit.{Memᴰ}
 use Rattle.model.specs.{Lists.all, Lists.any, Lists.at, Lists.keep, Lists.both, ValueSets.least, Problem.within, Verdict.Verdict, Verdict.ask}
 
 -- ---- the pairs

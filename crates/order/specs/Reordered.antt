@@ -1,6 +1,6 @@
 -- A problem with its variables in another order: variable i of `reordered order p` is variable order[i] of p (paper 02, request 108).
 -- Prefixes, nodes, sets and counts of a run that is lent pairs are those of the reordered problem; rows are written by place number.
-use Rattle.model.specs.Kit.{Bool, List, map, ℕ, ◌*◌, ◌/◌, ◌%◌, length, eqb}
+use Rattle.std.specs.Prelude.{Bool, List, map, ℕ, ◌*◌, ◌/◌, ◌%◌, length, eqb}
 use Rattle.model.specs.{Lists.any, Lists.keep, Lists.below, Lists.at, Lists.earlier, ValueSets.least, Problem.Problem, Problem.Constraint, Problem.pair}
 
 -- where x stands in a list: the first index (the length where it does not stand there)

@@ -1,6 +1,6 @@
 -- A run: what its questions answered, the order in which it settles the variables, and its problem (paper 01; paper 02, #107 and #108). What it answers, lists and
 -- counts, its leaders, and its sets at a prefix by place number. promises' `Demands` says what is claimed of it.
-use Rattle.model.specs.Kit.{Bool, List, map, ℕ, length, take}
+use Rattle.std.specs.Prelude.{Bool, List, map, ℕ, length, take}
 use Rattle.model.specs.Run.{Ending, plans_in, Result, result_of, Answer, written, listed_plans, settled_by, counts_by, Tally, tally_for}
 use Rattle.model.specs.{Lists.keep, Lists.below, Lists.at, Problem.Problem, Problem.assignments, Verdict.Verdict, Verdict.reply, Verdict.kept, Sheet.verdict_of, Sheet.problem_of, Search.sets_at}
 use Rattle.model.specs.{Search.is_live, Search.nodes, Claims.is_leader}

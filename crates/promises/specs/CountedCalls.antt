@@ -1,5 +1,5 @@
 -- Of what a caller of `run_counted` holds. proofs/CountedCalls has the theorem.
-use Rattle.model.specs.Kit.{List, ℕ}
+use Rattle.std.specs.Prelude.{List, ℕ}
 use Rattle.run.specs.{Calls.CallLent, Calls.CallCounted, Calls.no_tally, declared.CountedRun.CountedRun}
 
 -- all that is said of a call of `run_lent` holds of one of `run_counted`: `demands_lent` and its like

@@ -1,7 +1,8 @@
 -- What a caller of `run` or `run_with` may rely on (paper 01's demands, and the counts of paper 02, #107), in terms of what it holds: what it lent, the answer, and the list and
 -- the tally as they came and at the end. It is said once, of how a run reads: paper 01's reads a sheet's rows as they stand (`of_sheet`), and `DemandsLent` has the run that is
 -- lent pairs and a block besides. proofs/Demands has the theorems.
-use Rattle.model.specs.Kit.{◌≡◌, ◌↔◌, Bool, List, map, Memᴰ, ℕ, ◌*◌, ◌≤◌, length, take, drop, T}
+use Rattle.std.specs.Prelude.{◌≡◌, ◌↔◌, Bool, List, map, ℕ, ◌*◌, ◌≤◌, length, take, drop, T}
+use Rattle.model.specs.Kit.{Memᴰ}
 use Rattle.model.specs.Claims.{Leader, leaders, Chain, CountsAt, Largest, OneMore}
 use Rattle.model.specs.{Lists.at, Lists.total, Lists.earlier, Lists.rows_ascend, Problem.Problem, Problem.is_solution, Verdict.Verdict, Verdict.accepted, Verdict.refused, Sheet.verdict_of}
 use Rattle.model.specs.{Sheet.problem_of, Run.listed_plans, Run.plans_in, Run.nodes_in, Run.tally_at, Search.sets_at, Search.is_live}

@@ -1,6 +1,6 @@
 -- The same of a caller of `run_lent` (paper 02, #107, #108 and #111), which is lent a sheet, pairs and a block: "reads earlier" goes by the order of the run; rows and counts go
 -- by variable number. proofs/Demands has the theorems.
-use Rattle.model.specs.Kit.{List, ℕ}
+use Rattle.std.specs.Prelude.{List, ℕ}
 use Rattle.model.specs.{Lists.at, Sheet.problem_of, Run.listed_plans, Claims.OneMore}
 use Rattle.order.specs.{Reordered.read, Reordered.reordered, RunBy.Input, RunBy.place_counts, RunBy.leaders_by, RunBy.sets_by, RunBy.is_live_by}
 use Rattle.run_input.specs.Lent.{lent_input}

@@ -1,6 +1,7 @@
 -- One list from two runs (paper 02, #106 with #108 and #111), of what two callers of `run_lent` and one of `merge` hold: two sheets for the same number
 -- of places, both lent the same pairs and block, whatever the endings. proofs/EitherCalls has the theorem.
-use Rattle.model.specs.Kit.{◌≡◌, ◌⊎◌, ◌↔◌, List, Memᴰ, ℕ, ◌+◌, ◌*◌, ◌≤◌, T, length, take, drop}
+use Rattle.std.specs.Prelude.{◌≡◌, ◌⊎◌, ◌↔◌, List, ℕ, ◌+◌, ◌*◌, ◌≤◌, T, length, take, drop}
+use Rattle.model.specs.Kit.{Memᴰ}
 use Rattle.model.specs.{Sheet.problem_of, Room.rows_in, Run.plans_in, Claims.Leader}
 use Rattle.order.specs.Reordered.{earlier_by}
 use Rattle.run_input.specs.Lent.{problem_with, order_lent}

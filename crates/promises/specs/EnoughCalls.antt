@@ -1,6 +1,6 @@
 -- At least m plans (paper 02, #101), of what a caller of `at_least` holds, and beside it a caller of `run_lent` with the same sheet, pairs and block.
 -- proofs/EnoughCalls has the theorem.
-use Rattle.model.specs.Kit.{◌≡◌, ◌↔◌, List, ℕ, ◌*◌, ◌≤◌, ◌<◌, length}
+use Rattle.std.specs.Prelude.{◌≡◌, ◌↔◌, List, ℕ, ◌*◌, ◌≤◌, ◌<◌, length}
 use Rattle.model.specs.{Run.plans_in, Verdict.accepted, Verdict.refused, Sheet.problem_of}
 use Rattle.order.specs.RunBy.{leaders_by}
 use Rattle.run_input.specs.Lent.{verdict_lent, problem_with, order_lent}

@@ -1,6 +1,6 @@
 -- What callers of planner_question and planner_run hold: the code that comes back, the list and the twelve bytes of the answer, as they came and at the
 -- end. proofs/Exported has the theorems.
-use Rattle.model.specs.Kit.{◌≡◌, ◌↔◌, List, ℕ, ◌+◌, ◌*◌, length}
+use Rattle.std.specs.Prelude.{◌≡◌, ◌↔◌, List, ℕ, ◌+◌, ◌*◌, length}
 use Rattle.model.specs.{Verdict.accepted, Verdict.refused, Sheet.verdict_of}
 use Rattle.export_run.specs.Calls.{CallCode, CallExported}
 use Rattle.run.specs.{Calls.CallRun, declared.Answer.TheVariants.Ended}

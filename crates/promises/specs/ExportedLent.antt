@@ -1,6 +1,6 @@
 -- What callers of planner_run_lent, planner_at_least and planner_closed hold: the code that comes back, the list and the bytes of the answer, as they came
 -- and at the end. proofs/ExportedLent has the theorems.
-use Rattle.model.specs.Kit.{◌≡◌, List, ℕ, ◌+◌, ◌*◌, ◌<◌, length}
+use Rattle.std.specs.Prelude.{◌≡◌, List, ℕ, ◌+◌, ◌*◌, ◌<◌, length}
 use Rattle.model.specs.{Lists.at, Verdict.accepted, Verdict.refused}
 use Rattle.run_input.specs.Lent.{verdict_lent}
 use Rattle.run_state.specs.{declared.Tally.Tally, declared.Ending.Ending}

@@ -1,6 +1,6 @@
 -- Families (paper 02, #104) and one plan of each (#112), of what callers hold: of `families`, and of `run_lent` with the same sheet, pairs and block.
 -- proofs/FamilyCalls has the theorems.
-use Rattle.model.specs.Kit.{◌≡◌, ◌↔◌, List, [], ℕ, ◌*◌, length}
+use Rattle.std.specs.Prelude.{◌≡◌, ◌↔◌, List, [], ℕ, ◌*◌, length}
 use Rattle.model.specs.{Verdict.accepted, Verdict.refused, Sheet.header_of, Sheet.problem_of}
 use Rattle.families_count.specs.{Calls.CallFamilies, declared.Answer.Answer, declared.Answer.TheVariants.Number, declared.Answer.TheVariants.Dash, declared.Answer.TheVariants.Refused}
 use Rattle.run_input.specs.Lent.{verdict_lent, problem_with}

@@ -1,6 +1,7 @@
 -- What the holder of all parts of a run has, by what `join` answered to their heads; the statements can be read without the proofs. That the heads are of calls
 -- of one sheet, one list of pairs and one block is supposed (HeldHeads): heads whose names differ are refused, and who has the bytes can compare them.
-use Rattle.model.specs.Kit.{◌≡◌, ◌↔◌, List, [], ◌∷◌, map, Memᴰ, ℕ, suc, ◌*◌, ◌≤◌, ◌<◌, T, length, take}
+use Rattle.std.specs.Prelude.{◌≡◌, ◌↔◌, List, [], ◌∷◌, map, ℕ, suc, ◌*◌, ◌≤◌, ◌<◌, T, length, take}
+use Rattle.model.specs.Kit.{Memᴰ}
 use Rattle.model.specs.{Lists.at, Lists.rows_ascend, Problem.is_solution, Sheet.problem_of, Verdict.accepted, Run.finished, Run.spent, Run.full, Run.ended, Run.written, Run.Tally, Claims.Leader}
 use Rattle.order.specs.Reordered.{read, earlier_by}
 use Rattle.run_input.specs.Lent.{verdict_lent, problem_with, order_lent, problem_lent, answer_lent, list_lent, tally_lent}

@@ -1,6 +1,6 @@
 -- Parts of a run of sheet A and their heads, as one list of statements about the definitions. One theorem says that each holds (proofs/JoinedExamples).
 -- A's tree has six nodes: 0; 0 1, a plan; 0 2, a plan; 1; 1 2, a plan; 2.
-use Rattle.model.specs.Kit.{◌≡◌, true, false, List, [], ◌∷◌, map, ℕ, length, replicate}
+use Rattle.std.specs.Prelude.{◌≡◌, true, false, List, [], ◌∷◌, map, ℕ, length, replicate}
 use Rattle.model.specs.{Lists.flat, Lists.tabulate, Run.finished, Run.spent, Run.full, Run.ended, Verdict.accepted, Verdict.refused, Examples.sheet_a}
 use Rattle.run_ranges.specs.Claims.{Part, all_plans}
 use Rattle.export_parts.specs.Parts.{part_of}

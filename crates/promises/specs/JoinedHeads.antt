@@ -1,5 +1,6 @@
 -- The heads of calls of parts, as their holder lends them to `join`. Beyond the bytes this says what each number in a head is, in terms of the call.
-use Rattle.model.specs.Kit.{◌≡◌, List, [], map, Memᴰ, ℕ, ◌+◌, ◌*◌, ◌<◌, take, get_or}
+use Rattle.std.specs.Prelude.{◌≡◌, List, [], map, ℕ, ◌+◌, ◌*◌, ◌<◌, take, get_or}
+use Rattle.model.specs.Kit.{Memᴰ}
 use Rattle.model.specs.{Lists.at, Lists.flat, Run.finished, Run.spent, Run.full, Run.Answer, Run.refusal, Run.answered, Verdict.accepted}
 use Rattle.run_input.specs.Lent.{verdict_lent}
 use Rattle.run_ranges.specs.{Ranges.plans_said, Ranges.nodes_said, Claims.Part, Claims.CallRange}

@@ -1,6 +1,6 @@
 -- The tally at every moment of a run (paper 02, #107), of what two callers of `run_lent` hold: a run, and the same run stopped after k of its trials.
 -- proofs/Moments has the theorem.
-use Rattle.model.specs.Kit.{◌≡◌, List, ℕ, ◌≤◌, length, take}
+use Rattle.std.specs.Prelude.{◌≡◌, List, ℕ, ◌≤◌, length, take}
 use Rattle.model.specs.{Lists.at, Lists.total, Sheet.problem_of, Run.plans_in, Run.nodes_in}
 use Rattle.order.specs.RunBy.{place_counts}
 use Rattle.run_input.specs.Lent.{problem_with, order_lent}

@@ -1,6 +1,6 @@
 -- What is claimed of parts of a run that are run apart, of what callers of `run_part` hold, and beside them a caller of `run_lent` with the same sheet, pairs
 -- and block. The statements can be read without the proofs.
-use Rattle.model.specs.Kit.{◌≡◌, List, [], ◌∷◌, ℕ, ◌*◌, ◌≤◌, length}
+use Rattle.std.specs.Prelude.{◌≡◌, List, [], ◌∷◌, ℕ, ◌*◌, ◌≤◌, length}
 use Rattle.model.specs.{Verdict.accepted, Sheet.problem_of}
 use Rattle.run_input.specs.Lent.{verdict_lent}
 use Rattle.run_state.specs.{Meaning.tally_in, declared.Tally.Tally}

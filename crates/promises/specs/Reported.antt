@@ -1,6 +1,7 @@
 -- The report's text (paper 01, "The report"), of what its reader holds: bytes, by their lines. Demands 2 and 3 of these; `planner_report` leaves this text.
 -- proofs/Reported has the theorem.
-use Rattle.model.specs.Kit.{◌≡◌, true, false, ◌↔◌, List, [], ◌∷◌, ◌++◌, map, Memᴰ, ℕ, ◌*◌, ◌≤◌, length, take, T, eqb}
+use Rattle.std.specs.Prelude.{◌≡◌, true, false, ◌↔◌, List, [], ◌∷◌, ◌++◌, map, ℕ, ◌*◌, ◌≤◌, length, take, T, eqb}
+use Rattle.model.specs.Kit.{Memᴰ}
 use Rattle.model.specs.{Lists.earlier, Problem.is_solution, Verdict.accepted, Verdict.refused, Sheet.verdict_of, Sheet.problem_of, Run.Ending, Run.plans_in, Run.nodes_in, Claims.CountsAt}
 use Rattle.model.specs.{Claims.Chain}
 use Rattle.model.specs.{Claims.leaders}

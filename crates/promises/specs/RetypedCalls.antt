@@ -1,6 +1,6 @@
 -- Retyped exchanges (paper 02, #109), of what two callers of `run_lent` hold: their sheets differ only in the order of the exchanges, and they lend the
 -- same pairs and block under one limit, with lists of one length, whatever stands in these and in the tallies. proofs/RetypedCalls has the theorem.
-use Rattle.model.specs.Kit.{◌≡◌, List, ℕ, ◌*◌, length, drop}
+use Rattle.std.specs.Prelude.{◌≡◌, List, ℕ, ◌*◌, length, drop}
 use Rattle.model.specs.{Run.plans_in, Verdict.accepted, Sheet.problem_of}
 use Rattle.run_input.specs.Lent.{verdict_lent}
 use Rattle.run_retyped.specs.Retyped.{SameButOrder}

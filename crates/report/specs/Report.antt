@@ -1,5 +1,5 @@
 -- The text of the report, as bytes (paper 01, "The report"); its last figure is the number of families (paper 02, #104).
-use Rattle.model.specs.Kit.{true, false, List, [], ◌∷◌, ◌++◌, map, ℕ, zero, suc, ◌+◌, ◌*◌, ◌/◌, ◌%◌, take, ltb}
+use Rattle.std.specs.Prelude.{true, false, List, [], ◌∷◌, ◌++◌, map, ℕ, zero, suc, ◌+◌, ◌*◌, ◌/◌, ◌%◌, take, ltb}
 use Rattle.model.specs.{Lists.flat, Verdict.Verdict, Verdict.accepted, Verdict.refused, Sheet.verdict_of, Sheet.problem_of, Run.Ending, Run.finished, Run.spent, Run.full, Run.Result, Run.result_of}
 use Rattle.families_figure.specs.Figure.{Figure, number, dash, report_figure}
 

@@ -1,6 +1,6 @@
 -- Reports of paper 01's sheet A and of paper 02's rotation, as one list of statements about the definitions. One theorem says that each holds
 -- (proofs/ReportExamples).
-use Rattle.model.specs.Kit.{◌≡◌, List, [], ◌∷◌}
+use Rattle.std.specs.Prelude.{◌≡◌, List, [], ◌∷◌}
 use Rattle.model.specs.Examples.{sheet_a, sheet_r}
 use Rattle.report.specs.Report.{report_of}
 

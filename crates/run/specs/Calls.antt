@@ -1,6 +1,6 @@
 -- A call of `run`, `run_with`, `run_lent`, `run_counted` and `at_least`: what it was lent, what it answered, and what the lent bytes are at the end. Each is the function's contract;
 -- promises' `Demands` and its like say what a caller may rely on.
-use Rattle.model.specs.Kit.{◌≡◌, List, ℕ, replicate}
+use Rattle.std.specs.Prelude.{◌≡◌, List, ℕ, replicate}
 use Rattle.model.specs.Run.{answer_of, list_of, tally_of}
 use Rattle.run_input.specs.Lent.{answer_lent, list_lent, tally_lent}
 use Rattle.run_enough.specs.Lent.{enough_lent}

@@ -1,5 +1,5 @@
 -- The nodes between two paths, and the tree cut at paths; a run cut after some nodes and gone on with.
-use Rattle.model.specs.Kit.{not, List, [], ◌∷◌, ℕ, take, T}
+use Rattle.std.specs.Prelude.{not, List, [], ◌∷◌, ℕ, take, T}
 use Rattle.model.specs.{Lists.keep, Lists.both, Problem.Problem, Search.nodes, Run.Ending, Run.finished, Run.spent, Run.full, Run.Result, Run.settled_by, Run.counts_by}
 use Rattle.run_cut.specs.Parts.{after, nodes_after, last_of, go_on}
 

@@ -1,5 +1,5 @@
 -- What is claimed of a run in parts, as statements about any problem; they can be read without the proofs.
-use Rattle.model.specs.Kit.{◌≡◌, List, [], ◌∷◌, map, ℕ, ◌≤◌, length}
+use Rattle.std.specs.Prelude.{◌≡◌, List, [], ◌∷◌, map, ℕ, ◌≤◌, length}
 use Rattle.model.specs.{Lists.keep, Lists.flat, Lists.total, Problem.Problem, Search.nodes, Search.is_plan, Run.spent, Run.finished, Run.nodes_in, Run.Result, Run.search, Run.result_of, Run.tally_at}
 use Rattle.run_cut.specs.{Between.ranges, Between.Cuts, Between.and_next, Between.resumed, Parts.Progress, Parts.start, Parts.progress_at, Parts.go_on, Parts.counts_after, Parts.progress_after}
 

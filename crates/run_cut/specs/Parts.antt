@@ -1,6 +1,6 @@
 -- A run in parts (paper 02, #113): the order in which the search makes its nodes, the nodes that come after a path, and a run that goes on from the last node made.
 -- A path is a list of values, as a node is; the empty path is where a run starts.
-use Rattle.model.specs.Kit.{Bool, true, false, List, [], ◌∷◌, ℕ, ◌+◌, ◌-◌, take, replicate, eqb, ltb}
+use Rattle.std.specs.Prelude.{Bool, true, false, List, [], ◌∷◌, ℕ, ◌+◌, ◌-◌, take, replicate, eqb, ltb}
 use Rattle.model.specs.{Lists.keep, Lists.at, Lists.tabulate, Problem.Problem, Search.nodes, Search.is_plan, Run.nodes_in, Run.Result, Run.search, Run.settled_by, Run.counts_by}
 
 -- ---- the order of the search

@@ -1,6 +1,6 @@
 -- Paper 02, #101: are there at least m plans? The answer, from the tree's nodes.
 -- What a caller is told is in specs/Lent, what it is good for in promises' `EnoughCalls`.
-use Rattle.model.specs.Kit.{true, false, ℕ, length, leb}
+use Rattle.std.specs.Prelude.{true, false, ℕ, length, leb}
 use Rattle.model.specs.{ValueSets.least, Problem.Problem, Search.nodes, Claims.plans_among}
 
 -- the paper's yes, no and spent; each carries the plans found and the nodes made (the trial figure)

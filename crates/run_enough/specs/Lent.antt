@@ -1,5 +1,5 @@
 -- "Are there at least m plans?" (paper 02, #101), asked of a sheet, pairs and a block: what a caller holds. No list is lent.
-use Rattle.model.specs.Kit.{List, ℕ}
+use Rattle.std.specs.Prelude.{List, ℕ}
 use Rattle.model.specs.Verdict.{reply}
 use Rattle.run_input.specs.Lent.{verdict_lent, problem_lent}
 use Rattle.run_enough.specs.AtLeast.{Enough, enough_of}

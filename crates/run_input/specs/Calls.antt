@@ -1,5 +1,5 @@
 -- A call of `question`: bytes of a sheet, pairs and a block, and the answer. proofs/Calls has the theorem; what the verdict is, is `QuestionsLentClaim`.
-use Rattle.model.specs.Kit.{◌≡◌, List, ℕ}
+use Rattle.std.specs.Prelude.{◌≡◌, List, ℕ}
 use Rattle.sheet.specs.{Meaning.means, Calls.Says, declared.Answer.Answer}
 use Rattle.run_input.specs.Lent.{verdict_lent}
 

@@ -1,6 +1,6 @@
 -- A run that is lent a sheet, pairs and a block (paper 02, #107, #108 and #111): its questions, its problem, its answer, its list and its tally.
 -- Pairs: two bytes each, "this place before that place". Block: no bytes for none, else two, its first place and how many.
-use Rattle.model.specs.Kit.{List, ℕ}
+use Rattle.std.specs.Prelude.{List, ℕ}
 use Rattle.model.specs.{Problem.Problem, Verdict.Verdict, Sheet.problem_of, Sheet.verdict_of, Run.Ending, Run.Answer, Run.Tally}
 use Rattle.order.specs.{Order.settling_order, Order.order_verdict, Reordered.reordered, RunBy.Input, RunBy.answer_by, RunBy.list_by, RunBy.plans_by, RunBy.tallied_by}
 use Rattle.block.specs.Block.{block_lent, with_lent}

@@ -1,6 +1,7 @@
 -- What is claimed of a run that is lent a sheet, pairs and a block (specs/Lent): its questions, and an empty lending. Its demands are promises' (`DemandsLent`).
 -- The proofs are in proofs/Lent.antt and LentQuestions.antt.
-use Rattle.model.specs.Kit.{◌≡◌, ◌↔◌, List, [], ◌∷◌, Memᴰ, ℕ, ◌+◌, ◌%◌, ◌≤◌, ◌<◌, length}
+use Rattle.std.specs.Prelude.{◌≡◌, ◌↔◌, List, [], ◌∷◌, ℕ, ◌+◌, ◌%◌, ◌≤◌, ◌<◌, length}
+use Rattle.model.specs.Kit.{Memᴰ}
 use Rattle.model.specs.{Verdict.accepted, Verdict.refused, Sheet.problem_of, Sheet.symmetries_verdict, Sheet.verdict_of, Run.answer_of, Run.list_of, Run.Tally, Run.tally_of}
 use Rattle.order.specs.{Order.Circle, RunBy.sheet_input}
 use Rattle.block.specs.Block.{block_tables}

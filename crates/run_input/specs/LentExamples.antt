@@ -1,5 +1,5 @@
 -- Runs that are lent pairs and a block (paper 02, #108, #107 and #111), as one list of statements about the definitions. One theorem says that each holds (proofs/LentExamples).
-use Rattle.model.specs.Kit.{◌≡◌, List, [], ◌∷◌, ℕ, replicate}
+use Rattle.std.specs.Prelude.{◌≡◌, List, [], ◌∷◌, ℕ, replicate}
 use Rattle.model.specs.{Verdict.accepted, Verdict.refused, Run.ended, Run.finished, Run.Tally, Examples.sheet_a, Examples.sheet_a0, Examples.sheet_r, Examples.sheet_f}
 use Rattle.run_input.specs.Lent.{verdict_lent, answer_lent, plans_lent, tally_lent}
 

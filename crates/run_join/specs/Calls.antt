@@ -1,5 +1,5 @@
 -- What a caller of `join` holds.
-use Rattle.model.specs.Kit.{◌≡◌, List, ℕ, ◌≤◌, ◌<◌}
+use Rattle.std.specs.Prelude.{◌≡◌, List, ℕ, ◌≤◌, ◌<◌}
 use Rattle.model.specs.{Lists.at, Lists.choose, Verdict.Verdict, Verdict.accepted, Verdict.refused}
 use Rattle.run_join.specs.Join.{join_verdict, heads_in, joined, stands, nearest, plans_of, nodes_of, count_of}
 use Rattle.run_join.specs.{declared.Answer.Answer, declared.Answer.TheVariants.Refused, declared.Answer.TheVariants.Joined, declared.Answer.TheVariants.Missing, declared.Joining.Joining}

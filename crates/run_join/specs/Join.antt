@@ -1,6 +1,6 @@
 -- Parts of a run joined by their heads, which are lent one behind the other, 115 bytes each, in any order and with repeats. A head has, in bytes: 0 its kind (1 finished,
 -- 2 spent, 3 full), 4 its plans, 8 its nodes, 12 twelve counts, 60 the name of its problem, 76 where it begins, 89 where it was to end, 102 its last node.
-use Rattle.model.specs.Kit.{Bool, true, false, List, [], ◌∷◌, map, ℕ, zero, suc, ◌+◌, ◌*◌, ◌/◌, ◌%◌, eqb, ltb, leb, length}
+use Rattle.std.specs.Prelude.{Bool, true, false, List, [], ◌∷◌, map, ℕ, zero, suc, ◌+◌, ◌*◌, ◌/◌, ◌%◌, eqb, ltb, leb, length}
 use Rattle.model.specs.{Lists.all, Lists.any, Lists.at, Lists.below, Lists.both, Lists.either, Lists.choose, Lists.same, Lists.tabulate, Lists.total, Verdict.Verdict, Verdict.accepted, Verdict.ask}
 pub use Rattle.model.specs.Bytes.{four_at}
 use Rattle.run_cut.specs.Parts.{after}

@@ -1,5 +1,5 @@
 -- What a caller of `run_part` holds, in the words of crate run_ranges.
-use Rattle.model.specs.Kit.{List, ℕ, take}
+use Rattle.std.specs.Prelude.{List, ℕ, take}
 use Rattle.run_state.specs.Meaning.{tally_in}
 use Rattle.run.specs.Meaning.{means}
 use Rattle.run_ranges.specs.Claims.{Part, CallRange}

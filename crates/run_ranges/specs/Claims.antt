@@ -1,5 +1,5 @@
 -- What is claimed of parts of a run that are run apart, of what their callers hold; the statements can be read without the proofs.
-use Rattle.model.specs.Kit.{◌≡◌, ◌⊎◌, List, [], ◌∷◌, map, ℕ, ◌*◌, ◌≤◌, T, length, replicate}
+use Rattle.std.specs.Prelude.{◌≡◌, ◌⊎◌, List, [], ◌∷◌, map, ℕ, ◌*◌, ◌≤◌, T, length, replicate}
 use Rattle.model.specs.Run.{finished, spent, full, Answer, refusal, answered, ended, written, Tally, listed_plans}
 use Rattle.model.specs.{Lists.flat, Lists.at, Lists.total, Verdict.accepted, Verdict.refused, Sheet.problem_of}
 use Rattle.run_cut.specs.{Parts.after, Parts.last_of, Between.Cuts}

@@ -1,7 +1,7 @@
 -- A part of a run that is lent a sheet, pairs and a block: the nodes of its tree that come after one path and not after another, walked along as a run
 -- walks along all of them, with a limit and a list of its own. A path is a list of values in the settling order, of any length; the empty path comes
 -- before every node, the path 255 after every node.
-use Rattle.model.specs.Kit.{List, [], map, ℕ, length, take}
+use Rattle.std.specs.Prelude.{List, [], map, ℕ, length, take}
 use Rattle.model.specs.Run.{plans_in, nodes_in, Result, search, Answer, refusal, answered, written, Tally, settled_by, counts_by}
 use Rattle.model.specs.{Lists.at, Verdict.reply, Verdict.kept}
 use Rattle.order.specs.Reordered.{write}

@@ -1,6 +1,6 @@
 -- Paper 02, #109, of what callers of `filter::filter` hold: a second call, a call with sets inside others, and calls by turns with two lists.
 -- proofs/FilterAgain has the theorems.
-use Rattle.model.specs.Kit.{◌≡◌, List, ℕ}
+use Rattle.std.specs.Prelude.{◌≡◌, List, ℕ}
 use Rattle.filter.specs.{FilterCalls.CallFilter, FilterCalls.ListsRight, declared.Answer.Answer}
 use Rattle.run_retyped.specs.Retyped.{Within}
 

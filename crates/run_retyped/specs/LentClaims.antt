@@ -1,6 +1,6 @@
 -- Retyped exchanges (paper 02, #109): two sheets that differ only in the order of their exchanges, both lent the same pairs and block.
 -- The proofs are in proofs/LentRetyped.antt.
-use Rattle.model.specs.Kit.{◌≡◌, ◌↔◌, List, ℕ}
+use Rattle.std.specs.Prelude.{◌≡◌, ◌↔◌, List, ℕ}
 use Rattle.model.specs.{Verdict.accepted, Run.Tally}
 use Rattle.order.specs.RunBy.{sets_by}
 use Rattle.run_input.specs.Lent.{verdict_lent, problem_with, order_lent, problem_lent, answer_lent, list_lent, tally_lent}

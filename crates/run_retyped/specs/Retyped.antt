@@ -1,6 +1,6 @@
 -- Paper 02, #109: sets inside others; problems and sheets that differ only in the order of their symmetries (the paper's exchanges). The proofs are in
 -- proofs/SameSearch.antt and proofs/Retyped.antt.
-use Rattle.model.specs.Kit.{◌≡◌, List, map, ℕ, ◌+◌, ◌*◌, length, take, drop, T}
+use Rattle.std.specs.Prelude.{◌≡◌, List, map, ℕ, ◌+◌, ◌*◌, length, take, drop, T}
 use Rattle.model.specs.{Lists.at, Lists.below, ValueSets.has, Problem.Problem, Sheet.Header, Sheet.header_of, Search.sets_at, Search.is_live, Search.is_plan, Search.nodes, Run.result_of}
 use mathlib.Core.List.{Permᴰ}
 

@@ -1,6 +1,6 @@
 -- A call of `question`, and what a caller may rely on: the answer is the first "no" with its number and item, or that there is none. proofs/Calls has the
 -- theorems.
-use Rattle.model.specs.Kit.{◌≡◌, ◌↔◌, List, ℕ, ◌<◌, T}
+use Rattle.std.specs.Prelude.{◌≡◌, ◌↔◌, List, ℕ, ◌<◌, T}
 use Rattle.model.specs.{Problem.respects, Verdict.Verdict, Verdict.accepted, Verdict.refused, Sheet.header_of, Sheet.problem_of, Sheet.permutes_pairs, Sheet.verdict_of, Claims.OneMore}
 use Rattle.model.specs.{Claims.exchange_in}
 use Rattle.sheet.specs.{Meaning.means, declared.Answer.Answer, declared.Answer.TheVariants.Accepted, declared.Answer.TheVariants.Refused}

@@ -1,5 +1,5 @@
 -- The answer to the questions put to a sheet, as paper 01 has it.
-use Rattle.model.specs.Kit.{◌≡◌, Bool, List, ℕ}
+use Rattle.std.specs.Prelude.{◌≡◌, Bool, List, ℕ}
 use Rattle.model.specs.{Lists.all, Verdict.Verdict, Verdict.accepted, Verdict.refused, Verdict.ask, Verdict.is_accepted, Sheet.problem_of, Sheet.form_verdict, Sheet.permutes_pairs}
 use Rattle.sheet.specs.{declared.Answer.Answer, declared.Answer.TheVariants.Accepted, declared.Answer.TheVariants.Refused}
 

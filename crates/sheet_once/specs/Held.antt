@@ -1,5 +1,5 @@
 -- Paper 02, #114, of what a caller of `small_sheet` holds. proofs/Calls has the theorem.
-use Rattle.model.specs.Kit.{◌≡◌, List, [], ◌∷◌, map, ℕ, ◌≤◌, ◌<◌, length, take, drop}
+use Rattle.std.specs.Prelude.{◌≡◌, List, [], ◌∷◌, map, ℕ, ◌≤◌, ◌<◌, length, take, drop}
 use Rattle.model.specs.{Problem.Constraint, Verdict.accepted, Sheet.problem_of, Sheet.verdict_of}
 use Rattle.sheet_small.specs.{Calls.CallSmall, declared.Answer.Answer, declared.Answer.TheVariants.Written, declared.Answer.TheVariants.Refused}
 

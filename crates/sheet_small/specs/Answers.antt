@@ -1,5 +1,5 @@
 -- What is answered about a position, and what the lent room holds afterwards.
-use Rattle.model.specs.Kit.{List, [], ℕ, ltb, leb, length, get_or}
+use Rattle.std.specs.Prelude.{List, [], ℕ, ltb, leb, length, get_or}
 use Rattle.model.specs.{Verdict.Verdict, Verdict.accepted, Verdict.ask, Room.Outcome, Room.wrote, Room.refusal, Room.outcome_of, Room.room_after}
 use Rattle.sheet_small.specs.{Small.small_sheets, declared.Answer.Answer, declared.Answer.TheVariants.Written, declared.Answer.TheVariants.Refused}
 

@@ -1,5 +1,5 @@
 -- A call of `small_sheet`: the position, the room as it came, the answer, and the room at the end. It is the function's contract.
-use Rattle.model.specs.Kit.{◌≡◌, List, ℕ}
+use Rattle.std.specs.Prelude.{◌≡◌, List, ℕ}
 use Rattle.sheet_small.specs.{Answers.means, Answers.small_outcome, Answers.small_room, declared.Answer.Answer}
 
 abbrev pub CallSmall : ℕ → List ℕ → Answer → List ℕ → Type 0

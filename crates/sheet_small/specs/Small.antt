@@ -1,5 +1,5 @@
 -- Every sheet of two variables and two values with one constraint on both and at most one symmetry (paper 02, #114), in the paper's order.
-use Rattle.model.specs.Kit.{Bool, List, [], ◌∷◌, ◌++◌, map, ℕ, ◌+◌, ◌*◌, ◌/◌, ◌%◌, length}
+use Rattle.std.specs.Prelude.{Bool, List, [], ◌∷◌, ◌++◌, map, ℕ, ◌+◌, ◌*◌, ◌/◌, ◌%◌, length}
 use Rattle.model.specs.{Lists.keep, Lists.flat, Lists.up_from, Lists.below, ValueSets.members, Problem.assignments, Verdict.is_accepted, Sheet.verdict_of, Sheet.distinct, Bytes.two_bytes}
 
 -- what such a sheet states but for its symmetry: the two initial sets, and the set of its rows, bits 0 to 3 for 00, 01, 10, 11

@@ -1,6 +1,7 @@
 -- Calls of `put`, `fetch` and `remove`: the store's bytes, owner and key, the table or the room as it came, the answer, and the bytes at the end. Each is
 -- the function's contract. And paper 02, #110, of what the owners hold who make calls one after another; proofs/Isolated has the theorem.
-use Rattle.model.specs.Kit.{◌≡◌, List, [], ◌∷◌, Memᴰ, ℕ, ◌<◌, length, replicate, eqb}
+use Rattle.std.specs.Prelude.{◌≡◌, List, [], ◌∷◌, ℕ, ◌<◌, length, replicate, eqb}
+use Rattle.model.specs.Kit.{Memᴰ}
 use Rattle.model.specs.{Lists.at, Lists.choose, Room.refusal}
 use Rattle.store.specs.Store.{empty_store, Action, StoreCall, call, put, fetch, remove, store_after, room_in, reply_to, calls_of, size}
 use Rattle.store.specs.{Inner.Layout.store_of, Inner.Layout.reply_on, Inner.Layout.bytes_after, Meaning.means, declared.Answer.Answer}

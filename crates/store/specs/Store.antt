@@ -1,6 +1,6 @@
 -- The symmetry store (paper 02, #110: the store of exchange tables): tables under an owner (the paper's course) and a key (its hall), the three
 -- calls, what each gives back and the store that it leaves.
-use Rattle.model.specs.Kit.{Bool, true, false, List, [], ℕ, length, leb, ltb, eqb}
+use Rattle.std.specs.Prelude.{Bool, true, false, List, [], ℕ, length, leb, ltb, eqb}
 use Rattle.model.specs.Lists.{keep, below, both, either, choose}
 use Rattle.model.specs.{Verdict.Verdict, Verdict.accepted, Verdict.ask, Verdict.is_accepted, Room.Outcome, Room.outcome_of, Room.room_after}
 

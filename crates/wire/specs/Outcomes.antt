@@ -1,5 +1,5 @@
 -- Calls that write a text to lent room under a verdict (paper 02): what they return, and the bytes of the room and of the answer afterwards.
-use Rattle.model.specs.Kit.{List, ℕ, ◌+◌, ◌*◌, eqb, length}
+use Rattle.std.specs.Prelude.{List, ℕ, ◌+◌, ◌*◌, eqb, length}
 use Rattle.model.specs.{Lists.choose, Verdict.Verdict, Room.Outcome, Room.answered, Room.refusal, Room.outcome_of, Room.room_after}
 use Rattle.wire.specs.Wire.{wrong_length, three_numbers}
 

@@ -1,5 +1,5 @@
 -- An answer as one number and as three numbers in bytes: what the exported functions return and leave in the lent answer.
-use Rattle.model.specs.Kit.{List, ◌++◌, ℕ, ◌+◌, ◌*◌}
+use Rattle.std.specs.Prelude.{List, ◌++◌, ℕ, ◌+◌, ◌*◌}
 use Rattle.model.specs.{Bytes.four_bytes, Verdict.Verdict, Verdict.accepted, Verdict.refused}
 pub use Rattle.model.specs.Bytes.{four_at}
 

@@ -1,5 +1,5 @@
 -- What the arrays of a compiled problem hold. The questions fill them once, and the search reads nothing else of the sheet.
-use Rattle.model.specs.Kit.{◌≡◌, List, [], ◌∷◌, ◌++◌, ℕ, suc, ◌+◌, ◌*◌, ◌/◌, ◌%◌, ◌^◌, ◌≤◌, ◌<◌, length, eqb}
+use Rattle.std.specs.Prelude.{◌≡◌, List, [], ◌∷◌, ◌++◌, ℕ, suc, ◌+◌, ◌*◌, ◌/◌, ◌%◌, ◌^◌, ◌≤◌, ◌<◌, length, eqb}
 use Rattle.model.specs.{Lists.any, Lists.at, Lists.same, ValueSets.has, ValueSets.mask_of, Problem.Problem, Problem.pair, Problem.constraint_at, Problem.symmetry_at}
 use Rattle.arrays.specs.Inner.Places.{INITIAL, SCOPES, VARIABLES, VALUES, CONSTRAINTS, SYMMETRIES}
 

@@ -1,5 +1,5 @@
 -- Where the arrays of the compiled problem have what, and the numbers that name an outcome: the constants of src/lib.rt.
-use Rattle.model.specs.Kit.{ℕ}
+use Rattle.std.specs.Prelude.{ℕ}
 
 -- ---- the arrays
 abbrev pub NUMBERS : ℕ

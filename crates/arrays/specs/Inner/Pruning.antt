@@ -1,5 +1,5 @@
 -- What the parts of pruning say of sixteen sets at hand, of which the first are those of p's variables.
-use Rattle.model.specs.Kit.{◌≡◌, false, List, ℕ, ◌<◌, T, take}
+use Rattle.std.specs.Prelude.{◌≡◌, false, List, ℕ, ◌<◌, T, take}
 use Rattle.model.specs.{Lists.at, ValueSets.has, ValueSets.any_empty, ValueSets.Inside, Problem.Problem, Problem.Constraint, Search.supported, Inner.Pruning.Sets}
 use Rattle.model.specs.Inner.Pruning.{Prunes}
 use Rattle.arrays.specs.Inner.Tables.{goes}

@@ -1,5 +1,5 @@
 -- What the search reads besides the arrays of Layout: tables that are made once from them, before the first node.
-use Rattle.model.specs.Kit.{◌≡◌, Bool, true, false, not, List, [], ◌∷◌, ℕ, ◌+◌, ◌*◌, ◌%◌, ◌^◌, ◌<◌, length, T, eqb, ltb, leb}
+use Rattle.std.specs.Prelude.{◌≡◌, Bool, true, false, not, List, [], ◌∷◌, ℕ, ◌+◌, ◌*◌, ◌%◌, ◌^◌, ◌<◌, length, T, eqb, ltb, leb}
 use Rattle.model.specs.Lists.{any, at, keep, same, both, either}
 use Rattle.model.specs.{ValueSets.has, ValueSets.mask_of, ValueSets.members, ValueSets.least, Problem.Problem, Problem.constraint_at, Problem.symmetry_at}
 use Rattle.arrays.specs.Inner.Places.{SCOPES, VALUES, LINKED, BY_ROWS, OTHERS, LOOSE, LOOKS, SPREAD, UNIONS, SMALLER, OWN}

@@ -1,5 +1,5 @@
 -- What the functions of this crate are lent.
-use Rattle.model.specs.Kit.{◌≡◌, List, ℕ, ◌+◌, ◌*◌, ◌≤◌, ◌<◌, length}
+use Rattle.std.specs.Prelude.{◌≡◌, List, ℕ, ◌+◌, ◌*◌, ◌≤◌, ◌<◌, length}
 use Rattle.model.specs.{Lists.at, Lists.flat, Problem.Problem, Problem.respects, Inner.Filling.Filled, Sheet.words, Sheet.permutes_pairs, Inner.WellFormed.WellFormed}
 use Rattle.sheet_table.specs.Inner.Table.{Framed, Ready, answer_of}
 use Rattle.arrays.specs.{Inner.Layout.Images, Inner.Layout.pair_code_of, Inner.Places.IMAGES, Inner.Places.WIDE}

@@ -1,5 +1,5 @@
 -- Reordering the compiled problem: what the crate's function asks and leaves.
-use Rattle.model.specs.Kit.{◌≡◌, List, ℕ, ◌*◌, ◌≤◌, length, take}
+use Rattle.std.specs.Prelude.{◌≡◌, List, ℕ, ◌*◌, ◌≤◌, length, take}
 use Rattle.model.specs.{Lists.at, Problem.Problem, Inner.WellFormed.WellFormed}
 use Rattle.order.specs.{Order.Ordering, Reordered.reordered}
 use Rattle.arrays.specs.{Inner.Layout.Compiled, Inner.Places.NUMBERS, Inner.Places.SUPPORTS}

@@ -1,5 +1,6 @@
 -- What the functions inside this crate say to each other.
-use Rattle.model.specs.Kit.{◌≡◌, Bool, false, ◌↔◌, List, [], ◌∷◌, ◌++◌, Memᴰ, ℕ, suc, ◌+◌, ◌*◌, ◌/◌, ◌%◌, ◌^◌, ◌≤◌, ◌<◌, bit_or, eqb, length}
+use Rattle.std.specs.Prelude.{◌≡◌, Bool, false, ◌↔◌, List, [], ◌∷◌, ◌++◌, ℕ, suc, ◌+◌, ◌*◌, ◌/◌, ◌%◌, ◌^◌, ◌≤◌, ◌<◌, eqb, length}
+use Rattle.model.specs.Kit.{Memᴰ, bit_or}
 use Rattle.model.specs.{Lists.at, Lists.both, ValueSets.has, ValueSets.mask_of, ValueSets.least, Inner.Filling.Filled}
 use Rattle.order.specs.Reordered.{value_of}
 use Rattle.model.proofs.Lists.{Sorted}

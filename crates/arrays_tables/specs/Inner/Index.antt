@@ -1,5 +1,5 @@
 -- Making the search's tables from the compiled problem: what the crate's function asks and leaves.
-use Rattle.model.specs.Kit.{◌≡◌, List, ℕ, ◌≤◌, ◌<◌, length}
+use Rattle.std.specs.Prelude.{◌≡◌, List, ℕ, ◌≤◌, ◌<◌, length}
 use Rattle.model.specs.{Lists.at, Problem.Problem, Inner.WellFormed.WellFormed}
 use Rattle.arrays.specs.{Inner.Places.LINKED, Inner.Places.NUMBERS, Inner.Places.TABLES, Inner.Layout.Compiled, Inner.Tables.Indexed}
 

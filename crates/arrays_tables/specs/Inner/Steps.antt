@@ -1,5 +1,5 @@
 -- What the functions inside this crate say to each other.
-use Rattle.model.specs.Kit.{◌≡◌, Bool, true, false, List, [], ◌∷◌, ℕ, ◌+◌, ◌*◌, ◌/◌, ◌%◌, ◌^◌, ◌≤◌, ◌<◌, T, eqb, ltb, leb, length, set}
+use Rattle.std.specs.Prelude.{◌≡◌, Bool, true, false, List, [], ◌∷◌, ℕ, ◌+◌, ◌*◌, ◌/◌, ◌%◌, ◌^◌, ◌≤◌, ◌<◌, T, eqb, ltb, leb, length, set}
 use Rattle.model.specs.{Lists.any, Lists.at, Lists.keep, Lists.same, Lists.either, ValueSets.has, ValueSets.mask_of, ValueSets.members, Problem.Problem, Problem.constraint_at}
 use Rattle.model.specs.Inner.WellFormed.{WellFormed}
 use Rattle.arrays.specs.Inner.Places.{INITIAL, SCOPES, VARIABLES, VALUES, CONSTRAINTS, LINKED, LOOSE, SPREAD, UNIONS, SMALLER, OWN}

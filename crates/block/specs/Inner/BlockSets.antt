@@ -1,6 +1,7 @@
 -- What the orderings of a block of variables say at a prefix (paper 02, #111): a block variable settled later has no smaller value than one settled earlier.
 -- A block is a test of variables; its symmetries are any that reorder its variables, the trade of any two among them.
-use Rattle.model.specs.Kit.{◌≡◌, Bool, not, List, Memᴰ, ◌⊎◌, ℕ, ◌<◌, T, ltb, length}
+use Rattle.std.specs.Prelude.{◌≡◌, Bool, not, List, ◌⊎◌, ℕ, ◌<◌, T, ltb, length}
+use Rattle.model.specs.Kit.{Memᴰ}
 use Rattle.model.specs.{Lists.both, Lists.at, Lists.tabulate, ValueSets.has, ValueSets.mask_of, Problem.Problem, Problem.pair}
 
 -- ---- the symmetries of a block

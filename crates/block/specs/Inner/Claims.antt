@@ -1,6 +1,7 @@
 -- What else holds of a block's orderings (paper 02, #111 and #112): which of its questions are enough, what they say at a prefix, and that they are closed. The proofs
 -- are in proofs/Claimed.antt.
-use Rattle.model.specs.Kit.{◌≡◌, Bool, false, ◌↔◌, List, [], Memᴰ, ℕ, ◌*◌, ◌≤◌, ◌<◌, length, T}
+use Rattle.std.specs.Prelude.{◌≡◌, Bool, false, ◌↔◌, List, [], ℕ, ◌*◌, ◌≤◌, ◌<◌, length, T}
+use Rattle.model.specs.Kit.{Memᴰ}
 use Rattle.model.specs.{Lists.at, ValueSets.has, ValueSets.any_empty, Problem.Problem, Problem.respects, Verdict.accepted, Sheet.permutes_pairs, Search.is_plan, Claims.Consistent}
 use Rattle.model.specs.Inner.WellFormed.{WellFormed}
 use Rattle.order.specs.{Order.Ordering, Reordered.reordered}

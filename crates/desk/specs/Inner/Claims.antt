@@ -1,6 +1,7 @@
 -- What else holds of the queue: paper 02, #113, in words about the definitions; what the proofs keep of a job (`HoldsRun`). The claims that a reader needs are in
 -- specs/Claims.
-use Rattle.model.specs.Kit.{◌≡◌, ◌⊎◌, true, false, List, [], ◌∷◌, ◌++◌, Memᴰ, ℕ, suc, ◌+◌, ◌*◌, ◌≤◌, ◌<◌, length, replicate, T}
+use Rattle.std.specs.Prelude.{◌≡◌, ◌⊎◌, true, false, List, [], ◌∷◌, ◌++◌, ℕ, suc, ◌+◌, ◌*◌, ◌≤◌, ◌<◌, length, replicate, T}
+use Rattle.model.specs.Kit.{Memᴰ}
 use Rattle.model.specs.{Lists.flat, Verdict.refused, Search.nodes, Sheet.verdict_of, Sheet.problem_of, Run.spent, Run.plans_in, Run.nodes_in, Run.written, Run.tally_at}
 use Rattle.run_cut.specs.Parts.{progress_at}
 use Rattle.desk.specs.Queue.{Standing, running, over, goes_on, Job, new_job, job_turned, free, taken, is_free, waits, Queue, empty_queue, slot_at, QueueCall, submit, turn, release, QueueReply}

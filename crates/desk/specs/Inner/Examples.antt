@@ -1,6 +1,6 @@
 -- Jobs that stay, worked through (proved by computation in proofs/Cases): what is supposed in `Fair`, `AsAlone`, `SixtyFourEach` and `SameAsRun`
 -- (specs/Claims, specs/Inner/Claims) is met by them.
-use Rattle.model.specs.Kit.{◌≡◌, List, [], ◌∷◌, map, ℕ, replicate}
+use Rattle.std.specs.Prelude.{◌≡◌, List, [], ◌∷◌, map, ℕ, replicate}
 use Rattle.model.specs.{Lists.flat, Bytes.two_bytes, Run.finished, Examples.sheet_a}
 use Rattle.desk.specs.Queue.{running, over, Queue, empty_queue, new_job, job_turned, taken, slot_at, submit, turn, answered, queued, idle, served, queue_end, queue_replies}
 use Rattle.desk.specs.{Status.status_reply, Status.status_counts, Claims.WaitsOn, Inner.Claims.Throughout, Inner.Claims.Remains}

@@ -1,5 +1,5 @@
 -- What the code that looks for a slot answers.
-use Rattle.model.specs.Kit.{ℕ, ltb}
+use Rattle.std.specs.Prelude.{ℕ, ltb}
 use Rattle.model.specs.Lists.{choose}
 use Rattle.desk.specs.Queue.{Found, none_found, slot}
 

@@ -1,6 +1,6 @@
 -- The queue's bytes: eight slots, and one byte for the slot where the next turn begins to look; specs/Inner/Places says where a slot has what. Any bytes of the
 -- queue's size are a queue; zeros are the empty one.
-use Rattle.model.specs.Kit.{List, [], ◌∷◌, ◌++◌, map, ℕ, ◌+◌, ◌-◌, ◌*◌, ◌%◌, min, length, take, drop, set, replicate, eqb}
+use Rattle.std.specs.Prelude.{List, [], ◌∷◌, ◌++◌, map, ℕ, ◌+◌, ◌-◌, ◌*◌, ◌%◌, min, length, take, drop, set, replicate, eqb}
 use Rattle.model.specs.{Lists.at, Lists.choose, Lists.flat, Lists.below, Lists.tabulate, Verdict.Verdict, Verdict.accepted, Verdict.refused, Sheet.«word», Sheet.verdict_of, Bytes.two_bytes}
 use Rattle.model.specs.{Bytes.four_bytes, Written.placed, Run.finished, Run.spent, Run.full, Run.listed_plans}
 use Rattle.sheet.specs.Meaning.{compilable}

@@ -1,5 +1,5 @@
 -- Where a queue's bytes have what: the constants of src/lib.rt. Their number, the plans of a list and the nodes of a turn stand in specs/Queue.
-use Rattle.model.specs.Kit.{ℕ}
+use Rattle.std.specs.Prelude.{ℕ}
 
 -- ---- in a slot, low bytes first; its first byte says whether it is taken (0: free)
 -- the sheet's length, two bytes

@@ -1,5 +1,5 @@
 -- Rounds of a queue of eight slots as the code goes them: each slot gets its turns at once. The proofs are in proofs/Rounds.
-use Rattle.model.specs.Kit.{◌≡◌, List, [], ◌∷◌, map, ℕ, ◌+◌, ◌%◌, length, leb, ltb}
+use Rattle.std.specs.Prelude.{◌≡◌, List, [], ◌∷◌, map, ℕ, ◌+◌, ◌%◌, length, leb, ltb}
 use Rattle.model.specs.Lists.{both, choose}
 use Rattle.desk.specs.{Queue.Slot, Queue.free, Queue.taken, Queue.Queue, Queue.slot_at, Queue.round_from, Rounds.due_at, Rounds.given, Rounds.rounds_queue}
 

@@ -1,5 +1,5 @@
 -- What going on with a slot's run, and giving it turns, says.
-use Rattle.model.specs.Kit.{◌≡◌, List, ℕ, ◌+◌, ◌^◌, ◌≤◌, ◌<◌, eqb, length}
+use Rattle.std.specs.Prelude.{◌≡◌, List, ℕ, ◌+◌, ◌^◌, ◌≤◌, ◌<◌, eqb, length}
 use Rattle.model.specs.{Lists.at, Lists.flat, Lists.choose, Problem.Problem, Sheet.problem_of, Written.placed, Run.nodes_in, Run.Result, Run.Tally, Run.settled_by, Run.counts_by}
 use Rattle.arrays.specs.Inner.Places.{PLANS, LAST}
 use Rattle.run_cut.specs.Parts.{go_on, made_in, last_after}

@@ -1,5 +1,5 @@
 -- What the functions inside the crate say to each other.
-use Rattle.model.specs.Kit.{◌≡◌, List, ℕ, ◌^◌, ◌<◌, length, get_or}
+use Rattle.std.specs.Prelude.{◌≡◌, List, ℕ, ◌^◌, ◌<◌, length, get_or}
 
 -- twelve counts that four bytes hold each
 pub record Twelve (counts : List ℕ) : Type 0 where

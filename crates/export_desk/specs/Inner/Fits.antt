@@ -1,5 +1,5 @@
 -- Between the functions of the crate: numbers that the code and an answer of n bytes hold.
-use Rattle.model.specs.Kit.{◌≡◌, ℕ, ◌^◌, ◌<◌}
+use Rattle.std.specs.Prelude.{◌≡◌, ℕ, ◌^◌, ◌<◌}
 use Rattle.desk.specs.Queue.{QueueReply, refusal, answered, queued, idle, served, released}
 
 -- of a reply

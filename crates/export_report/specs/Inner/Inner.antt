@@ -1,5 +1,5 @@
 -- What the functions inside the crate say to each other.
-use Rattle.model.specs.Kit.{◌≡◌, ℕ, ◌*◌, ◌≤◌, List, length}
+use Rattle.std.specs.Prelude.{◌≡◌, ℕ, ◌*◌, ◌≤◌, List, length}
 use Rattle.model.specs.Run.{Ending, finished, plans_in}
 use Rattle.families_figure.specs.Figure.{Figure, dash}
 

@@ -1,5 +1,5 @@
 -- What the functions inside the crate say to each other.
-use Rattle.model.specs.Kit.{◌^◌, ◌<◌}
+use Rattle.std.specs.Prelude.{◌^◌, ◌<◌}
 use Rattle.model.specs.Run.{Ending, plans_in, nodes_in}
 
 -- counts that four bytes hold

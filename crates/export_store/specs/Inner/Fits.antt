@@ -1,5 +1,5 @@
 -- Between the functions of the crate: numbers that the code and the answer hold.
-use Rattle.model.specs.Kit.{◌^◌, ◌<◌}
+use Rattle.std.specs.Prelude.{◌^◌, ◌<◌}
 use Rattle.model.specs.Room.{Outcome, answered, refusal}
 
 abbrev pub OutcomeFits : Outcome → Type 0

@@ -1,6 +1,6 @@
 -- What families are, said of every problem that the questions can pass, with the exchanges of a block or without (paper 02, #104 and #112); of callers it is in
 -- promises' FamilyCalls. The proofs are in proofs/Joined, FamilyCount and Closed.
-use Rattle.model.specs.Kit.{List, ℕ, T, ◌≡◌, ◌↔◌, length}
+use Rattle.std.specs.Prelude.{List, ℕ, T, ◌≡◌, ◌↔◌, length}
 use Rattle.model.specs.{Problem.Problem, Problem.is_solution, Inner.WellFormed.WellFormed, Inner.WellFormed.Respected, Lists.earlier, Claims.Leader, Claims.leaders}
 use Rattle.families.specs.Families.{Joined, FamilyCount, Closed, families_of}
 

@@ -1,5 +1,5 @@
 -- What the functions that count families are lent, of which problem.
-use Rattle.model.specs.Kit.{◌≡◌, List, ℕ, zero, suc, ◌+◌, ◌-◌, ◌*◌, ◌/◌, ◌%◌, ◌^◌, ◌≤◌, ◌<◌, length, T}
+use Rattle.std.specs.Prelude.{◌≡◌, List, ℕ, zero, suc, ◌+◌, ◌-◌, ◌*◌, ◌/◌, ◌%◌, ◌^◌, ◌≤◌, ◌<◌, length, T}
 use Rattle.model.specs.{Lists.at, Problem.Problem, Problem.is_solution, Inner.WellFormed.WellFormed, Inner.WellFormed.Respected}
 use Rattle.arrays.specs.Inner.Layout.{Images}
 use Rattle.families.specs.{Families.solutions_of, Inner.Walk.solution_at, Inner.Walk.Walk}

@@ -1,6 +1,6 @@
 -- For the code that counts families: the number of an image, and breadth-first search over the numbers of the solutions. The steps are proved in
 -- proofs/Numbers.antt and proofs/Walk.antt.
-use Rattle.model.specs.Kit.{◌≡◌, List, [], ℕ, ◌≤◌, ◌<◌, length, take, get_or}
+use Rattle.std.specs.Prelude.{◌≡◌, List, [], ℕ, ◌≤◌, ◌<◌, length, take, get_or}
 use Rattle.model.specs.{Lists.keep, Lists.at, ValueSets.least, Problem.Problem, Problem.takes, Problem.symmetry_at}
 use Rattle.families.specs.Families.{Joined, solutions_of, is_earliest}
 

@@ -1,5 +1,5 @@
 -- The first two whose product is missing, of a problem; of a caller it is in specs/Calls. The proofs are in proofs/Open.antt.
-use Rattle.model.specs.Kit.{◌≡◌, ◌↔◌, ℕ}
+use Rattle.std.specs.Prelude.{◌≡◌, ◌↔◌, ℕ}
 use Rattle.model.specs.Problem.{Problem}
 use Rattle.families.specs.Families.{Closed}
 use Rattle.families_closed.specs.Open.{first_open, FirstOpen, none, two}

@@ -1,6 +1,6 @@
 -- Exchanges that are closed, and some that are not, as one list of statements about the definitions. One theorem says that each holds
 -- (proofs/ClosedExamples).
-use Rattle.model.specs.Kit.{◌≡◌, List, [], ◌∷◌}
+use Rattle.std.specs.Prelude.{◌≡◌, List, [], ◌∷◌}
 use Rattle.model.specs.{Sheet.problem_of, Examples.sheet_a, Examples.sheet_a0, Examples.sheet_a3, Examples.sheet_r}
 use Rattle.run_input.specs.Lent.{problem_with}
 use Rattle.families.specs.Families.{Closed}

@@ -1,5 +1,5 @@
 -- What the functions are lent: the images of the pairs of a problem.
-use Rattle.model.specs.Kit.{◌≡◌, List, ℕ, ◌≤◌, length}
+use Rattle.std.specs.Prelude.{◌≡◌, List, ℕ, ◌≤◌, length}
 use Rattle.model.specs.{Problem.Problem, Inner.WellFormed.WellFormed, Verdict.accepted, Sheet.problem_of}
 use Rattle.arrays.specs.{Inner.Layout.Numbers, Inner.Layout.Images, Inner.Places.IMAGES}
 use Rattle.run_input.specs.Lent.{verdict_lent}

@@ -1,5 +1,5 @@
 -- What the functions are lent and leave.
-use Rattle.model.specs.Kit.{◌≡◌, List, ℕ, ◌*◌, ◌≤◌, ◌<◌, length, take}
+use Rattle.std.specs.Prelude.{◌≡◌, List, ℕ, ◌*◌, ◌≤◌, ◌<◌, length, take}
 use Rattle.model.specs.{Lists.at, Problem.Problem, Inner.WellFormed.Respected, Verdict.accepted, Sheet.verdict_of, Sheet.problem_of, Run.plans_in, Run.nodes_in, Run.result_of, Run.written, Run.Tally}
 use Rattle.run_input.specs.{Lent.verdict_lent, Lent.problem_lent, Inner.Compile.WithinLimits}
 use Rattle.arrays.specs.{Inner.Places.LIMIT, Inner.Places.PLANS, Inner.Places.NUMBERS, Inner.Layout.Compiled}

@@ -1,5 +1,6 @@
 -- The figure of a run, and one plan of each family: what promises' `FamilyCalls` says of callers, over the definitions. The proofs are in proofs/FamiliesLent.
-use Rattle.model.specs.Kit.{◌≡◌, ◌↔◌, ◌⊎◌, List, [], Memᴰ, ℕ, length, T}
+use Rattle.std.specs.Prelude.{◌≡◌, ◌↔◌, ◌⊎◌, List, [], ℕ, length, T}
+use Rattle.model.specs.Kit.{Memᴰ}
 use Rattle.model.specs.{Problem.is_solution, Verdict.accepted, Sheet.header_of, Sheet.problem_of, Run.Ending, Run.finished, Run.ended, Run.written}
 use Rattle.order.specs.RunBy.{result_by}
 use Rattle.run_input.specs.Lent.{verdict_lent, problem_with, order_lent, answer_lent, list_lent, plans_lent}

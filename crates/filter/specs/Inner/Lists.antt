@@ -1,5 +1,5 @@
 -- What the functions that read the three lists say to each other.
-use Rattle.model.specs.Kit.{◌≡◌, Bool, true, false, List, [], map, ℕ, ◌≤◌, ◌<◌, length, set, take, drop}
+use Rattle.std.specs.Prelude.{◌≡◌, Bool, true, false, List, [], map, ℕ, ◌≤◌, ◌<◌, length, set, take, drop}
 use Rattle.model.specs.Nogood.{Entry, equality, filtered, filter_ending, answered, Kind, is_equality_lem, is_disequality, both_absent, both_present, entry_of, entries}
 use Rattle.model.specs.{Lists.at, ValueSets.only_mask, Verdict.Verdict, Verdict.accepted, Verdict.refused}
 use Rattle.filter.specs.{Meaning.means, declared.Answer.Answer, declared.Ending.Ending, declared.Kind.TheVariants.Equality, declared.Kind.TheVariants.Disequality}

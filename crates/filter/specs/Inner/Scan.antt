@@ -1,5 +1,5 @@
 -- What the functions of the crate say to each other: what one entry does to the sets, and what the entries passed so far come to.
-use Rattle.model.specs.Kit.{◌≡◌, Bool, true, false, List, ℕ, ◌^◌, ◌≤◌, ◌<◌, length, set, take, T, eqb}
+use Rattle.std.specs.Prelude.{◌≡◌, Bool, true, false, List, ℕ, ◌^◌, ◌≤◌, ◌<◌, length, set, take, T, eqb}
 use Rattle.model.specs.Nogood.{Entry, equality, disequality, obeying, filtered, ending_by, filter_ending}
 use Rattle.model.specs.{Lists.any, Lists.at, ValueSets.without_mask, ValueSets.only_mask, ValueSets.Inside}
 use Rattle.filter.specs.declared.entry.Step.{Step}

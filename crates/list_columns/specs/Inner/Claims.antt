@@ -1,6 +1,6 @@
 -- The claims of paper 02, #103, about the definitions: rows to columns to rows gives the rows; an accepted store to rows and back gives the store; 23 is
 -- given exactly to what is no store. Of callers they are in specs/Calls.
-use Rattle.model.specs.Kit.{◌≡◌, true, List, ℕ, ◌+◌, ◌*◌, ◌≤◌, length, T, ltb}
+use Rattle.std.specs.Prelude.{◌≡◌, true, List, ℕ, ◌+◌, ◌*◌, ◌≤◌, length, T, ltb}
 use Rattle.model.specs.{Lists.all, Sheet.«word», Verdict.accepted, Verdict.refused}
 use Rattle.list_columns.specs.Columns.{columns_of, rows_of, variables, plans, columns_verdict, is_store, rows_verdict}
 

@@ -1,5 +1,5 @@
 -- What the functions inside the crate say to each other.
-use Rattle.model.specs.Kit.{◌≡◌, List, ℕ, ◌+◌, ◌*◌, ◌<◌}
+use Rattle.std.specs.Prelude.{◌≡◌, List, ℕ, ◌+◌, ◌*◌, ◌<◌}
 use Rattle.model.specs.Lists.{at}
 
 -- `count` indexes, one every `step` from `start` on, are below a length

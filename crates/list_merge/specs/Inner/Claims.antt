@@ -1,5 +1,5 @@
 -- What else holds of the merge (paper 02, #106): proofs/Claimed has the proofs.
-use Rattle.model.specs.Kit.{◌≡◌, List, [], ℕ}
+use Rattle.std.specs.Prelude.{◌≡◌, List, [], ℕ}
 use Rattle.model.specs.Verdict.{accepted}
 use Rattle.list_merge.specs.Merge.{merged, merge_verdict}
 

@@ -1,5 +1,6 @@
 -- What the functions of the crate say to each other.
-use Rattle.model.specs.Kit.{◌≡◌, Bool, true, false, not, List, Memᴰ, ℕ, ◌+◌, ◌*◌, ◌%◌, ◌≤◌, ◌<◌, length, take, get_or, T, eqb}
+use Rattle.std.specs.Prelude.{◌≡◌, Bool, true, false, not, List, ℕ, ◌+◌, ◌*◌, ◌%◌, ◌≤◌, ◌<◌, length, take, get_or, T, eqb}
+use Rattle.model.specs.Kit.{Memᴰ}
 use Rattle.model.specs.{Lists.both, Lists.same, Lists.below, Written.Written, Room.rows_in, Room.Outcome, Room.wrote, Room.refusal}
 use Rattle.order.specs.Reordered.{earlier_by}
 use Rattle.list_merge.specs.{Merge.ascends, declared.Way.Way, declared.Way.TheVariants.Before, declared.Way.TheVariants.Same, declared.Way.TheVariants.After}

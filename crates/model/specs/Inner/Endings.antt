@@ -1,5 +1,6 @@
 -- How the filter ends (paper 02, #102), for any sets and any list; of callers filter's FilterCalls says it. The proofs are in proofs/Endings.antt.
-use Rattle.model.specs.Kit.{◌≡◌, ◌↔◌, List, Memᴰ, ℕ, T}
+use Rattle.std.specs.Prelude.{◌≡◌, ◌↔◌, List, ℕ, T}
+use Rattle.model.specs.Kit.{Memᴰ}
 use Rattle.model.specs.{Problem.assignments, Nogood.Entry, Nogood.obeys, Nogood.filtered, Nogood.failed, Nogood.entailed, Nogood.consistent, Nogood.filter_ending, NogoodClaims.Entails}
 
 -- no assignment from the sets obeys the nogoods

@@ -1,5 +1,5 @@
 -- Loops over the first numbers: each turn stores one number, or unites a set with one member more.
-use Rattle.model.specs.Kit.{◌≡◌, Bool, List, ℕ, ◌<◌, ltb, length}
+use Rattle.std.specs.Prelude.{◌≡◌, Bool, List, ℕ, ◌<◌, ltb, length}
 use Rattle.model.specs.{Lists.both, Lists.at, ValueSets.has}
 
 -- i numbers were stored, number v at index `slot v`, and nothing else was

@@ -1,5 +1,5 @@
 -- Lists of sets, and what pruning in any order says of them.
-use Rattle.model.specs.Kit.{◌≡◌, List, ℕ, ◌^◌, ◌<◌, length}
+use Rattle.std.specs.Prelude.{◌≡◌, List, ℕ, ◌^◌, ◌<◌, length}
 use Rattle.model.specs.{Lists.at, ValueSets.Inside, Problem.Problem, Search.pruned, Search.narrowed, Search.largest_at}
 
 -- n sets, each of sixteen bits

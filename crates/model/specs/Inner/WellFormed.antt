@@ -1,6 +1,7 @@
 -- What the questions show of the problem that an accepted sheet states (proofs/Accepted): questions 1 to 15 that it is well formed,
 -- question 16 that its symmetries respect it.
-use Rattle.model.specs.Kit.{◌≡◌, List, Memᴰ, ℕ, ◌*◌, ◌^◌, ◌≤◌, ◌<◌, length, T}
+use Rattle.std.specs.Prelude.{◌≡◌, List, ℕ, ◌*◌, ◌^◌, ◌≤◌, ◌<◌, length, T}
+use Rattle.model.specs.Kit.{Memᴰ}
 use Rattle.model.specs.{Lists.at, Lists.ascending, Problem.Problem, Problem.Constraint, Problem.respects, Sheet.permutes_pairs}
 
 pub record GoodConstraint (p : Problem) (c : Constraint) : Type 0 where

@@ -2,7 +2,8 @@
 -- tally. Paper 01's run is lent a sheet and settles the variables as they are numbered (`sheet_input`): a leader is then a solution onto which no exchange takes one that
 -- reads earlier. They are stated once, of any order of the variables (#108): crate run_input has the run that is lent pairs and a block besides.
 -- The proofs are in proofs/Demanded.antt.
-use Rattle.model.specs.Kit.{◌≡◌, ◌↔◌, List, map, Memᴰ, ℕ, ◌*◌, ◌≤◌, length, take, drop, T}
+use Rattle.std.specs.Prelude.{◌≡◌, ◌↔◌, List, map, ℕ, ◌*◌, ◌≤◌, length, take, drop, T}
+use Rattle.model.specs.Kit.{Memᴰ}
 use Rattle.model.specs.Run.{Ending, finished, plans_in, nodes_in, refusal, ended, answer_of, list_of, Tally, tally_of}
 use Rattle.model.specs.Claims.{Leader, leaders, Chain, CountsAt, Largest, OneMore}
 use Rattle.model.specs.{Lists.at, Lists.below, Lists.earlier, Lists.rows_ascend, Lists.total, Problem.is_solution, Verdict.accepted, Verdict.refused, Sheet.problem_of, Sheet.verdict_of, Search.nodes}

@@ -1,5 +1,5 @@
 -- What the function of this crate answers, and what those inside it say to each other.
-use Rattle.model.specs.Kit.{◌≡◌, Bool, List, ℕ, ◌+◌, ◌*◌, ◌^◌, ◌≤◌, ◌<◌, T, eqb, length, take, drop}
+use Rattle.std.specs.Prelude.{◌≡◌, Bool, List, ℕ, ◌+◌, ◌*◌, ◌^◌, ◌≤◌, ◌<◌, T, eqb, length, take, drop}
 use Rattle.model.specs.{Lists.any, Lists.at, ValueSets.has, Verdict.Verdict, Verdict.ask}
 use Rattle.order.specs.Order.{settling_order, settles_all, order_verdict}
 

@@ -1,7 +1,7 @@
 -- What the functions of this crate ask and leave: the sets at a prefix (paper 01, "The search") on a lent stack of thirteen depths.
 -- Depth k has the sets of sixteen variables from 16 k on. The numbers of `work` from 0 to 11 are the prefix, the value of variable j at j;
 -- from 16 k + MARKS on, the marks of depth k: what is known there of each symmetry's nogoods.
-use Rattle.model.specs.Kit.{◌≡◌, Bool, false, not, List, [], ◌∷◌, ◌++◌, ℕ, ◌+◌, ◌*◌, ◌≤◌, ◌<◌, T, length, take}
+use Rattle.std.specs.Prelude.{◌≡◌, Bool, false, not, List, [], ◌∷◌, ◌++◌, ℕ, ◌+◌, ◌*◌, ◌≤◌, ◌<◌, T, length, take}
 use Rattle.model.specs.{Lists.at, ValueSets.has, Problem.Problem, Problem.with_symmetries, Search.sets_at, Search.is_live, Inner.WellFormed.WellFormed}
 use Rattle.arrays.specs.{Inner.Places.BLOCK, Inner.Places.MARKS, Inner.Places.STACK, Inner.Places.WORK, Inner.Tables.Indexed}
 use Rattle.block.specs.Inner.BlockSets.{BlockIn}

@@ -1,5 +1,6 @@
 -- What the functions inside this crate say to each other: sixteen sets at hand, of which the first are those of p's variables.
-use Rattle.model.specs.Kit.{◌≡◌, Bool, true, false, not, List, Memᴰ, ℕ, ◌+◌, ◌-◌, ◌*◌, ◌≤◌, ◌<◌, T, eqb, ltb, length, take}
+use Rattle.std.specs.Prelude.{◌≡◌, Bool, true, false, not, List, ℕ, ◌+◌, ◌-◌, ◌*◌, ◌≤◌, ◌<◌, T, eqb, ltb, length, take}
+use Rattle.model.specs.Kit.{Memᴰ}
 use Rattle.model.specs.{Lists.both, Lists.at, Lists.tabulate, ValueSets.has, ValueSets.mask_of, ValueSets.any_empty, ValueSets.Inside, Problem.Problem, Problem.with_symmetries, Problem.constraint_at}
 use Rattle.model.specs.{Nogood.filtered, Search.nogoods_of, Search.sets_at, Search.is_live, Inner.Pruning.Sets, Inner.Pruning.Way, Inner.Pruning.Prunes}
 use Rattle.model.specs.Inner.WellFormed.{WellFormed}

@@ -1,5 +1,5 @@
 -- Numbers of eight lanes of eight bits: bit 8 j + w is value w of lane j.
-use Rattle.model.specs.Kit.{List, ℕ, ◌+◌, ◌*◌, ◌<◌, T}
+use Rattle.std.specs.Prelude.{List, ℕ, ◌+◌, ◌*◌, ◌<◌, T}
 use Rattle.model.specs.{Lists.at, ValueSets.has}
 use Rattle.arrays.specs.Inner.Tables.{UnionOf}
 

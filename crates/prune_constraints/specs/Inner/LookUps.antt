@@ -1,6 +1,7 @@
 -- Constraints on three variables whose first two sets have one value each, the first that of the prefix in `work`, the second the same for all: what the
 -- functions that look the third up ask and leave.
-use Rattle.model.specs.Kit.{◌≡◌, List, ℕ, ◌-◌, ◌^◌, ◌<◌, T, length, bit_and, bit_or}
+use Rattle.std.specs.Prelude.{◌≡◌, List, ℕ, ◌-◌, ◌^◌, ◌<◌, T, length}
+use Rattle.model.specs.Kit.{bit_and, bit_or}
 use Rattle.model.specs.{Lists.at, ValueSets.has, ValueSets.Inside, Problem.Problem, Problem.constraint_at, Inner.Pruning.Sets}
 use Rattle.arrays.specs.{Inner.Places.DEAD, Inner.Pruning.Lessened, Inner.Pruning.Ended}
 use Rattle.prune_constraints.specs.{Inner.Revised.ConstraintsPending, Inner.Steps.OneValue, Inner.Steps.Touched}

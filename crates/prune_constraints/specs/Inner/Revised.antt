@@ -1,5 +1,6 @@
 -- Pruning by the constraints alone: what one constraint leaves of the sets, and what the functions of this crate say of a problem.
-use Rattle.model.specs.Kit.{◌≡◌, false, not, List, Memᴰ, ℕ, ◌<◌, T, eqb, length}
+use Rattle.std.specs.Prelude.{◌≡◌, false, not, List, ℕ, ◌<◌, T, eqb, length}
+use Rattle.model.specs.Kit.{Memᴰ}
 use Rattle.model.specs.{Lists.both, Lists.at, Lists.tabulate, ValueSets.has, ValueSets.mask_of, ValueSets.Inside, Problem.Problem, Problem.Constraint, Problem.constraint_at, Search.supported}
 use Rattle.model.specs.{Inner.Pruning.Sets, Inner.WellFormed.WellFormed}
 use Rattle.model.proofs.Sets.{size}

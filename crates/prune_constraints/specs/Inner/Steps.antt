@@ -1,5 +1,6 @@
 -- What the functions inside this crate say to each other: tables of sets, and one constraint at a time.
-use Rattle.model.specs.Kit.{◌≡◌, not, ◌⊎◌, List, [], ◌∷◌, ◌++◌, Memᴰ, ℕ, suc, ◌+◌, ◌*◌, ◌^◌, ◌<◌, T, eqb, length, set, bit_and, bit_or}
+use Rattle.std.specs.Prelude.{◌≡◌, not, ◌⊎◌, List, [], ◌∷◌, ◌++◌, ℕ, suc, ◌+◌, ◌*◌, ◌^◌, ◌<◌, T, eqb, length, set}
+use Rattle.model.specs.Kit.{Memᴰ, bit_and, bit_or}
 use Rattle.model.specs.{Lists.any, Lists.at, Lists.same, Lists.ascending, ValueSets.has, ValueSets.mask_of, ValueSets.one_if, Problem.Problem, Problem.Constraint}
 use Rattle.model.specs.Inner.WellFormed.{WellFormed}
 use Rattle.arrays.specs.{Inner.Places.VALUES, Inner.Places.OTHERS, Inner.Places.DEAD, Inner.Layout.Numbers, Inner.Layout.Supports, Inner.Layout.place, Inner.Tables.Words}

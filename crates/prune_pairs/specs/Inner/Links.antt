@@ -1,5 +1,5 @@
 -- Pruning by the constraints on two variables, by variable: what the crate's function asks and leaves.
-use Rattle.model.specs.Kit.{◌≡◌, false, List, ℕ, ◌<◌, T}
+use Rattle.std.specs.Prelude.{◌≡◌, false, List, ℕ, ◌<◌, T}
 use Rattle.model.specs.{Lists.at, ValueSets.has, ValueSets.Inside, Problem.Problem, Inner.Pruning.Sets, Inner.WellFormed.WellFormed}
 use Rattle.arrays.specs.{Inner.Places.DEAD, Inner.Tables.Linked, Inner.Tables.Rows, Inner.Pruning.Given, Inner.Pruning.Lessened, Inner.Pruning.Ended, Inner.Pruning.Arc}
 use Rattle.arrays.specs.Inner.Pruning.{sets_of}

@@ -1,5 +1,6 @@
 -- What the functions inside this crate say to each other: the cover of a variable's set, and one cut by it.
-use Rattle.model.specs.Kit.{◌≡◌, false, ◌⊎◌, List, ℕ, ◌+◌, ◌*◌, ◌^◌, ◌<◌, bit_and, bit_or, T, length}
+use Rattle.std.specs.Prelude.{◌≡◌, false, ◌⊎◌, List, ℕ, ◌+◌, ◌*◌, ◌^◌, ◌<◌, T, length}
+use Rattle.model.specs.Kit.{bit_and, bit_or}
 use Rattle.model.specs.{Lists.at, Lists.either, ValueSets.has, ValueSets.Inside, Problem.Problem, Inner.Pruning.Sets, Inner.WellFormed.WellFormed}
 use Rattle.arrays.specs.{Inner.Places.DEAD, Inner.Tables.goes, Inner.Tables.Rows, Inner.Pruning.Given, Inner.Pruning.Lessened, Inner.Pruning.Ended, Inner.Pruning.Arc}
 use Rattle.arrays.specs.Inner.Pruning.{sets_of}

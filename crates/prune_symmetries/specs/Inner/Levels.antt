@@ -1,6 +1,7 @@
 -- The filter of one symmetry at a prefix: what the crate's function asks and answers, and what its parts say to each other.
 -- A level is what one variable of the prefix adds to the symmetry's list. No list is built: the entries are read from the tables.
-use Rattle.model.specs.Kit.{◌≡◌, Bool, true, false, List, [], ◌∷◌, ◌++◌, map, ◌⊎◌, ℕ, ◌+◌, ◌-◌, ◌*◌, ◌/◌, ◌%◌, ◌^◌, ◌≤◌, ◌<◌, bit_and, T, eqb, ltb, leb, length, take}
+use Rattle.std.specs.Prelude.{◌≡◌, Bool, true, false, List, [], ◌∷◌, ◌++◌, map, ◌⊎◌, ℕ, ◌+◌, ◌-◌, ◌*◌, ◌/◌, ◌%◌, ◌^◌, ◌≤◌, ◌<◌, T, eqb, ltb, leb, length, take}
+use Rattle.model.specs.Kit.{bit_and}
 use Rattle.model.specs.Nogood.{Entry, equality, disequality, filtered, FilterEnding, failed, entailed, consistent, filter_ending}
 use Rattle.model.specs.{Lists.at, Lists.choose, Lists.keep, Lists.flat, Lists.up_from, ValueSets.has, ValueSets.members, ValueSets.any_empty, ValueSets.Inside, Problem.Problem, Problem.symmetry_at}
 use Rattle.model.specs.{NogoodClaims.Entails, Search.nogoods_of, Inner.WellFormed.WellFormed}

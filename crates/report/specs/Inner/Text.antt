@@ -1,5 +1,5 @@
 -- The text of an ending, in parts, and in a buffer that it fits or not.
-use Rattle.model.specs.Kit.{◌≡◌, List, ◌∷◌, ◌++◌, map, ℕ, ◌≤◌, ◌<◌, length, drop}
+use Rattle.std.specs.Prelude.{◌≡◌, List, ◌∷◌, ◌++◌, map, ℕ, ◌≤◌, ◌<◌, length, drop}
 use Rattle.model.specs.{Lists.flat, Run.Ending, Run.listed_plans, Run.plans_in}
 use Rattle.families_figure.specs.Figure.{Figure}
 use Rattle.report.specs.Report.{decimal, line, plan_word, result_text}

@@ -1,5 +1,5 @@
 -- What a run says of "at least m plans" (paper 02, #101).
-use Rattle.model.specs.Kit.{List, ℕ}
+use Rattle.std.specs.Prelude.{List, ℕ}
 use Rattle.model.specs.{Verdict.reply, Run.finished, Run.spent, Run.full, Run.Answer, Run.refusal, Run.answered}
 use Rattle.run_input.specs.Lent.{verdict_lent}
 use Rattle.run_enough.specs.{AtLeast.enough, AtLeast.too_few, AtLeast.unknown, Lent.EnoughAnswer}

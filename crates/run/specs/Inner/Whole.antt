@@ -1,5 +1,5 @@
 -- What the parts of a run ask and leave, around the search itself.
-use Rattle.model.specs.Kit.{◌≡◌, List, ℕ, ◌-◌, ◌*◌, ◌^◌, ◌<◌}
+use Rattle.std.specs.Prelude.{◌≡◌, List, ℕ, ◌-◌, ◌*◌, ◌^◌, ◌<◌}
 use Rattle.model.specs.{Lists.at, Verdict.accepted, Verdict.refused, Run.refusal, Run.ended, Run.plans_in, Run.nodes_in, Run.result_of, Sheet.problem_of}
 use Rattle.run_input.specs.Lent.{verdict_lent, problem_lent}
 use Rattle.arrays.specs.Inner.Places.{PLANS, NUMBER, ITEM, DEEPER, REFUSED}

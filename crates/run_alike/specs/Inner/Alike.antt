@@ -1,6 +1,7 @@
 -- Two prefixes of one length that leave the same to do: the same sets behind them, the same settled values in each constraint that has two
 -- variables left, and the same of each symmetry's nogoods.
-use Rattle.model.specs.Kit.{◌≡◌, Bool, true, false, List, [], ◌∷◌, ◌++◌, Memᴰ, ℕ, ◌+◌, ◌^◌, ◌≤◌, ◌<◌, length, drop, T, eqb, leb}
+use Rattle.std.specs.Prelude.{◌≡◌, Bool, true, false, List, [], ◌∷◌, ◌++◌, ℕ, ◌+◌, ◌^◌, ◌≤◌, ◌<◌, length, drop, T, eqb, leb}
+use Rattle.model.specs.Kit.{Memᴰ}
 use Rattle.model.specs.Nogood.{Entry, equality, disequality, obeys}
 use Rattle.model.specs.{Lists.at, Lists.keep, ValueSets.has, Problem.Problem, Problem.Constraint, Problem.assignments, Search.nogoods_of, Search.sets_at, Search.is_live, Claims.Drawn}
 

@@ -1,5 +1,6 @@
 -- What is claimed of two prefixes that leave the same to do. They can be read without the proofs.
-use Rattle.model.specs.Kit.{◌≡◌, List, ◌++◌, map, Memᴰ, ℕ, ◌+◌, ◌≤◌, ◌<◌, length, take, drop, T}
+use Rattle.std.specs.Prelude.{◌≡◌, List, ◌++◌, map, ℕ, ◌+◌, ◌≤◌, ◌<◌, length, take, drop, T}
+use Rattle.model.specs.Kit.{Memᴰ}
 use Rattle.model.specs.{Lists.keep, Lists.at, Problem.Problem, Search.nogoods_of, Search.sets_at, Search.is_live, Search.nodes_below, Search.is_plan, Run.settled_by, Run.counts_by}
 use Rattle.model.specs.Inner.WellFormed.{WellFormed, Respected}
 use Rattle.run_alike.specs.Inner.Alike.{residue, Vacuous, Alike, moved}

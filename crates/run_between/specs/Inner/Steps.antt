@@ -1,5 +1,5 @@
 -- What the inner functions ask and leave: a walk along the nodes of a part below a prefix, one value at a time.
-use Rattle.model.specs.Kit.{◌≡◌, Bool, true, false, List, [], ◌∷◌, ◌++◌, ℕ, suc, ◌+◌, ◌-◌, ◌*◌, ◌≤◌, ◌<◌, min, T, length}
+use Rattle.std.specs.Prelude.{◌≡◌, Bool, true, false, List, [], ◌∷◌, ◌++◌, ℕ, suc, ◌+◌, ◌-◌, ◌*◌, ◌≤◌, ◌<◌, min, T, length}
 use Rattle.model.specs.{Lists.at, Lists.both, ValueSets.has, ValueSets.mask_of, Problem.Problem, Search.sets_at, Search.is_live, Run.Tally}
 use Rattle.arrays.specs.Inner.Places.{LIMIT, LAST, MARKS, ALL, DEEPER}
 use Rattle.run_state.specs.{Inner.Walk.with_node, Inner.Walk.no_nodes, Inner.Memo.Remembers, Inner.Pair.prefix_of, Inner.Pair.settling, Inner.Pair.AtPrefix, Inner.Pair.Walked, Inner.Pair.order_in}

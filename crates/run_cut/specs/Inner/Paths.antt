@@ -1,5 +1,5 @@
 -- The nodes of the tree by their paths.
-use Rattle.model.specs.Kit.{Bool, true, List, [], ◌∷◌, ◌++◌, map, ℕ, length, eqb}
+use Rattle.std.specs.Prelude.{Bool, true, List, [], ◌∷◌, ◌++◌, map, ℕ, length, eqb}
 use Rattle.model.specs.{Lists.any, Lists.flat, Lists.at, Lists.both, ValueSets.members, Problem.Problem, Search.sets_at, Search.nodes_below}
 
 -- the nodes of some values of the variable behind a prefix, k variables left to settle after it

@@ -1,5 +1,5 @@
 -- What is claimed of "at least m plans?" (paper 02, #101), asked of a sheet, pairs and a block. The proofs are in proofs/LentEnough.antt.
-use Rattle.model.specs.Kit.{◌≡◌, ◌↔◌, List, ℕ, ◌*◌, ◌≤◌, ◌<◌, length}
+use Rattle.std.specs.Prelude.{◌≡◌, ◌↔◌, List, ℕ, ◌*◌, ◌≤◌, ◌<◌, length}
 use Rattle.model.specs.{Verdict.accepted, Verdict.refused, Sheet.problem_of, Run.finished, Run.spent, Run.ended, Claims.plans_among}
 use Rattle.order.specs.RunBy.{leaders_by}
 use Rattle.run_input.specs.Lent.{verdict_lent, problem_with, order_lent, problem_lent, answer_lent, plans_lent}

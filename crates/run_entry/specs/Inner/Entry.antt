@@ -1,5 +1,6 @@
 -- What the functions of an entry ask and leave.
-use Rattle.model.specs.Kit.{◌≡◌, ◌⊎◌, List, Memᴰ, map, ℕ, ◌+◌, ◌-◌, ◌*◌, ◌≤◌, ◌<◌, length}
+use Rattle.std.specs.Prelude.{◌≡◌, ◌⊎◌, List, map, ℕ, ◌+◌, ◌-◌, ◌*◌, ◌≤◌, ◌<◌, length}
+use Rattle.model.specs.Kit.{Memᴰ}
 use Rattle.model.specs.{Lists.at, Run.Tally}
 use Rattle.order.specs.{Order.Ordering, Reordered.write}
 use Rattle.arrays.specs.Inner.Places.{VARIABLES, LIMIT, ROOM, PLANS, LAST, IDLE, DEPTH, LOW, GOOD, NODES, LENGTH, ROWS, FIRST, SETS, ENDS, COUNTS, WORK}

@@ -1,5 +1,5 @@
 -- What `compile` leaves.
-use Rattle.model.specs.Kit.{◌≡◌, List, ℕ, ◌≤◌, length, take}
+use Rattle.std.specs.Prelude.{◌≡◌, List, ℕ, ◌≤◌, length, take}
 use Rattle.model.specs.{Problem.Problem, Sheet.problem_of, Inner.WellFormed.WellFormed}
 use Rattle.order.specs.{Order.settling_order, Order.order_verdict, Order.Ordering, Reordered.reordered}
 use Rattle.arrays.specs.Inner.Layout.{Compiled}

@@ -1,5 +1,5 @@
 -- What the functions inside the crate say to each other.
-use Rattle.model.specs.Kit.{◌≡◌, Bool, true, false, List, ℕ, ◌+◌, ◌-◌, ◌*◌, ◌/◌, ◌%◌, ◌^◌, ◌≤◌, ◌<◌, T, eqb, length}
+use Rattle.std.specs.Prelude.{◌≡◌, Bool, true, false, List, ℕ, ◌+◌, ◌-◌, ◌*◌, ◌/◌, ◌%◌, ◌^◌, ◌≤◌, ◌<◌, T, eqb, length}
 use Rattle.model.specs.{Lists.at, Lists.both, Lists.either, Lists.choose, Lists.same, ValueSets.has, Verdict.Verdict, Verdict.accepted, Verdict.refused}
 use Rattle.run_cut.specs.Parts.{after}
 use Rattle.run_join.specs.Join.{four_at, path_shaped, reach_at, head_shaped, heads_in, goes_on, joined, leads, may_take, stand_path, nearest_of, stands, plans_of, nodes_of, count_of}

@@ -1,5 +1,6 @@
 -- The key of a prefix: what a program compares at two of them, and that then the subtrees below are alike.
-use Rattle.model.specs.Kit.{◌≡◌, Bool, not, List, ℕ, ◌+◌, ◌*◌, ◌%◌, ◌<◌, ◌≤◌, bit_and, T, eqb, ltb, leb}
+use Rattle.std.specs.Prelude.{◌≡◌, Bool, not, List, ℕ, ◌+◌, ◌*◌, ◌%◌, ◌<◌, ◌≤◌, T, eqb, ltb, leb}
+use Rattle.model.specs.Kit.{bit_and}
 use Rattle.model.specs.{Lists.at, Lists.choose, Lists.either, ValueSets.has}
 use Rattle.arrays.specs.Inner.Places.{ENTAILED, OBEYED, SETS, ENTRIES}
 use Rattle.run_state.specs.Inner.Memo.{entry_at}

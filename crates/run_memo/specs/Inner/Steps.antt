@@ -1,5 +1,5 @@
 -- What the functions of the memo ask and leave.
-use Rattle.model.specs.Kit.{◌≡◌, List, ℕ, ◌+◌, ◌-◌, ◌^◌, ◌≤◌, ◌<◌, length}
+use Rattle.std.specs.Prelude.{◌≡◌, List, ℕ, ◌+◌, ◌-◌, ◌^◌, ◌≤◌, ◌<◌, length}
 use Rattle.model.specs.{Lists.at, Lists.tabulate, Problem.Problem, Search.nodes_below, Run.Tally}
 use Rattle.arrays.specs.Inner.Places.{PLANS, ALL, MEMO, ENTRIES, DEPTH, NODES, COUNTS, ASKS, VAIN, WORK}
 use Rattle.run_state.specs.{Inner.Memo.entry_at, Inner.Pair.prefix_of, Inner.Pair.AtPrefix, Inner.Pair.Walked}

@@ -1,6 +1,6 @@
 -- A block's orderings say of what is left to do only what the sets say: what goes on behind one prefix is carried over to another with the same sets behind it,
 -- whatever values of the block either has settled.
-use Rattle.model.specs.Kit.{◌≡◌, Bool, List, ℕ, T, length, drop}
+use Rattle.std.specs.Prelude.{◌≡◌, Bool, List, ℕ, T, length, drop}
 use Rattle.model.specs.{Problem.Problem, Problem.with_symmetries, Search.sets_at, Search.is_live, Inner.WellFormed.WellFormed}
 use Rattle.block.specs.Inner.BlockSets.{Reorders, BlockIn}
 use Rattle.run_alike.specs.Inner.Alike.{Carries}

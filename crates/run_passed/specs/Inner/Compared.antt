@@ -1,6 +1,6 @@
 -- What a program compares at two prefixes of one depth: the sets behind them, some settled values, and the symmetries' marks.
 -- A block's orderings are not asked.
-use Rattle.model.specs.Kit.{◌≡◌, Bool, ◌⊎◌, List, ℕ, ◌+◌, ◌%◌, ◌≤◌, ◌<◌, T, length, drop}
+use Rattle.std.specs.Prelude.{◌≡◌, Bool, ◌⊎◌, List, ℕ, ◌+◌, ◌%◌, ◌≤◌, ◌<◌, T, length, drop}
 use Rattle.model.specs.{Lists.at, Problem.Problem, Problem.with_symmetries, Search.sets_at, Search.is_live, Inner.WellFormed.WellFormed, Inner.WellFormed.Respected}
 use Rattle.arrays.specs.Inner.Places.{ENTAILED, OBEYED}
 use Rattle.prune_symmetries.specs.Inner.Levels.{Mark}

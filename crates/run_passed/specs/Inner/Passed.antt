@@ -1,5 +1,5 @@
 -- What a walk along nodes comes to where neither limit nor room stops it, and with what was found below another prefix.
-use Rattle.model.specs.Kit.{◌≡◌, List, [], ◌∷◌, map, ℕ, suc, ◌+◌, ◌*◌, ◌≤◌, length}
+use Rattle.std.specs.Prelude.{◌≡◌, List, [], ◌∷◌, map, ℕ, suc, ◌+◌, ◌*◌, ◌≤◌, length}
 use Rattle.model.specs.{Lists.at, Lists.keep, Lists.tabulate, Problem.Problem, Search.nodes_below, Search.is_plan, Run.settled_by, Run.counts_by}
 use Rattle.order.specs.Reordered.{write}
 use Rattle.arrays.specs.Inner.Places.{ALL}

@@ -1,5 +1,5 @@
 -- The nodes of a part below a prefix, as a search makes them.
-use Rattle.model.specs.Kit.{Bool, true, false, not, List, [], ◌∷◌, ◌++◌, ℕ, eqb, ltb}
+use Rattle.std.specs.Prelude.{Bool, true, false, not, List, [], ◌∷◌, ◌++◌, ℕ, eqb, ltb}
 use Rattle.model.specs.{Lists.both, Lists.any, Lists.keep, Problem.Problem, Search.nodes_below}
 use Rattle.run_cut.specs.{Parts.after, Inner.Paths.nodes_of, Inner.Paths.candidates_at}
 

@@ -1,6 +1,7 @@
 -- A run that goes on from its last node (paper 02, #113), on arrays that are lent: `put_progress`, `prepare_again` and `go_on`, one after the other.
 -- What is carried from one part to the next stands in `work` and in the list.
-use Rattle.model.specs.Kit.{◌≡◌, List, [], Memᴰ, ℕ, ◌+◌, ◌*◌, ◌/◌, ◌≤◌, ◌<◌, T, length}
+use Rattle.std.specs.Prelude.{◌≡◌, List, [], ℕ, ◌+◌, ◌*◌, ◌/◌, ◌≤◌, ◌<◌, T, length}
+use Rattle.model.specs.Kit.{Memᴰ}
 use Rattle.model.specs.{Lists.at, Lists.choose, Lists.below, Problem.Problem, Search.nodes, Sheet.problem_of, Run.plans_in, Run.nodes_in, Run.written, Run.Tally, Run.settled_by, Run.counts_by}
 use Rattle.run_cut.specs.Parts.{Progress, go_on, made_in, last_after}
 use Rattle.arrays.specs.Inner.Places.{LIMIT, ROOM, PLANS, LAST, ALL, DEEPER, NUMBERS, STACK, SUPPORTS, TABLES, WORK}

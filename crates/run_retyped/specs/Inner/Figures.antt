@@ -1,5 +1,5 @@
 -- Retyped exchanges: the same answer to "at least m plans?" and the same families. The proofs are in proofs/LentRetyped.antt.
-use Rattle.model.specs.Kit.{◌≡◌, ◌↔◌, List, ℕ}
+use Rattle.std.specs.Prelude.{◌≡◌, ◌↔◌, List, ℕ}
 use Rattle.model.specs.Verdict.{accepted}
 use Rattle.run_input.specs.Lent.{verdict_lent, problem_with}
 use Rattle.families.specs.Families.{Joined, families_of}

@@ -1,6 +1,6 @@
 -- Sheet A with two exchanges, and the same with these the other way round (specs/Retyped, `SameButOrder`), as one list of statements about the definitions.
 -- One theorem says that each holds (proofs/RetypedExamples).
-use Rattle.model.specs.Kit.{◌≡◌, List, [], ◌∷◌, ◌++◌, ℕ, take, drop, replicate}
+use Rattle.std.specs.Prelude.{◌≡◌, List, [], ◌∷◌, ◌++◌, ℕ, take, drop, replicate}
 use Rattle.model.specs.{Verdict.accepted, Sheet.verdict_of, Run.ended, Run.finished, Run.answer_of, Examples.sheet_a2}
 use Rattle.run_retyped.specs.Retyped.{SameButOrder}
 

@@ -1,6 +1,6 @@
 -- Paper 02, #109, of the filter's definition: applied again, to smaller sets, and by turns with another list. Of callers specs/FilterAgain says it. The proofs are in
 -- proofs/Turns.antt.
-use Rattle.model.specs.Kit.{◌≡◌, true, false, List, ℕ, zero, suc, ◌*◌, ◌^◌, ◌<◌, length}
+use Rattle.std.specs.Prelude.{◌≡◌, true, false, List, ℕ, zero, suc, ◌*◌, ◌^◌, ◌<◌, length}
 use Rattle.model.specs.{Lists.at, Lists.same, Nogood.Entry, Nogood.filtered}
 use Rattle.run_retyped.specs.Retyped.{Within}
 

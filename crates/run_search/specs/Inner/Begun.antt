@@ -1,5 +1,5 @@
 -- What is made of a compiled problem before the search, and the search from there.
-use Rattle.model.specs.Kit.{◌≡◌, false, List, [], ℕ, ◌*◌, ◌^◌, ◌<◌, T, length, take}
+use Rattle.std.specs.Prelude.{◌≡◌, false, List, [], ℕ, ◌*◌, ◌^◌, ◌<◌, T, length, take}
 use Rattle.model.specs.{Lists.at, ValueSets.has, Problem.Problem, Problem.with_symmetries, Search.is_live, Run.Tally, Inner.WellFormed.WellFormed, Inner.WellFormed.Respected}
 use Rattle.order.specs.Order.{Ordering}
 use Rattle.block.specs.Inner.BlockSets.{BlockIn}

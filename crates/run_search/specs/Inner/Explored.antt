@@ -1,5 +1,5 @@
 -- What a run on lent arrays leaves.
-use Rattle.model.specs.Kit.{◌≡◌, List, map, ℕ, ◌<◌, length}
+use Rattle.std.specs.Prelude.{◌≡◌, List, map, ℕ, ◌<◌, length}
 use Rattle.model.specs.{Lists.at, Problem.Problem, Search.nodes, Verdict.accepted, Run.plans_in, Run.nodes_in, Run.Result, Run.result_of, Run.Tally, Sheet.problem_of}
 use Rattle.order.specs.Reordered.{write}
 use Rattle.run_input.specs.Lent.{verdict_lent, order_lent, problem_lent}

@@ -1,5 +1,5 @@
 -- What is made of a lending before the search.
-use Rattle.model.specs.Kit.{◌≡◌, false, List, [], ℕ, ◌-◌, ◌*◌, ◌^◌, ◌<◌, eqb, length}
+use Rattle.std.specs.Prelude.{◌≡◌, false, List, [], ℕ, ◌-◌, ◌*◌, ◌^◌, ◌<◌, eqb, length}
 use Rattle.model.specs.{Lists.at, Lists.choose, Search.is_live, Verdict.accepted, Verdict.refused, Sheet.problem_of}
 use Rattle.run_input.specs.Lent.{verdict_lent, order_lent, problem_lent}
 use Rattle.arrays.specs.Inner.Places.{LIMIT, ROOM, PLANS, NUMBER, ITEM, ALL, DEEPER, REFUSED, NUMBERS, STACK, SUPPORTS, TABLES, WORK, WANTED}

@@ -1,5 +1,5 @@
 -- The memo of a run, in `work` from MEMO on: what is kept of the nodes below a prefix that were all walked along.
-use Rattle.model.specs.Kit.{◌≡◌, List, [], ◌∷◌, map, ℕ, suc, ◌+◌, ◌-◌, ◌*◌, ◌%◌, ◌≤◌, ◌<◌, T, eqb, length}
+use Rattle.std.specs.Prelude.{◌≡◌, List, [], ◌∷◌, map, ℕ, suc, ◌+◌, ◌-◌, ◌*◌, ◌%◌, ◌≤◌, ◌<◌, T, eqb, length}
 use Rattle.model.specs.{Lists.at, Lists.keep, Lists.tabulate, Inner.Filling.Gathered, Problem.Problem, Search.sets_at, Search.is_live, Search.nodes_below, Search.is_plan, Run.settled_by}
 use Rattle.model.specs.{Run.counts_by}
 use Rattle.order.specs.Reordered.{write}

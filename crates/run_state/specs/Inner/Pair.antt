@@ -1,6 +1,6 @@
 -- What the functions of the search ask and leave: `settle` walks along the nodes of some values of a variable, and `try_value` along the lowest
 -- value's node and those below it.
-use Rattle.model.specs.Kit.{◌≡◌, List, [], ◌∷◌, ◌++◌, ℕ, suc, ◌+◌, ◌-◌, ◌*◌, ◌^◌, ◌≤◌, ◌<◌, T, length, take}
+use Rattle.std.specs.Prelude.{◌≡◌, List, [], ◌∷◌, ◌++◌, ℕ, suc, ◌+◌, ◌-◌, ◌*◌, ◌^◌, ◌≤◌, ◌<◌, T, length, take}
 use Rattle.model.specs.Search.{sets_at, is_live, nodes_below}
 use Rattle.model.specs.{Lists.at, Lists.tabulate, ValueSets.has, ValueSets.lowest_of, Problem.Problem, Problem.with_symmetries, Run.Tally, Inner.WellFormed.WellFormed, Inner.WellFormed.Respected}
 use Rattle.order.specs.{Order.Ordering, Reordered.write}

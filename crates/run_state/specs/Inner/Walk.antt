@@ -1,7 +1,7 @@
 -- A run as a walk along a list of nodes (paper 01, "The search"): what each node does to the tally and to the caller's list.
 -- The search goes down the tree and takes one step for each node; proofs/Walk has the laws that join the steps, and proofs/Outcome says that
 -- the walk along all nodes of the tree is the run of model's `search`.
-use Rattle.model.specs.Kit.{◌≡◌, List, [], ◌∷◌, ◌++◌, map, ℕ, suc, ◌+◌, ◌*◌, length, take, set, replicate, leb, eqb}
+use Rattle.std.specs.Prelude.{◌≡◌, List, [], ◌∷◌, ◌++◌, map, ℕ, suc, ◌+◌, ◌*◌, length, take, set, replicate, leb, eqb}
 use Rattle.model.specs.Run.{Ending, finished, spent, full, written, Tally, settled_by, counts_by}
 use Rattle.model.specs.{Written.placed, Lists.flat, Lists.choose, Lists.at, Lists.total, ValueSets.members, Problem.Problem, Search.is_plan, Search.nodes_below}
 use Rattle.order.specs.Reordered.{write}

@@ -1,5 +1,5 @@
 -- The task of a run, and what is put among the numbers before the search.
-use Rattle.model.specs.Kit.{List, ℕ, zero, suc, ◌+◌, ◌-◌, ◌/◌, eqb, set}
+use Rattle.std.specs.Prelude.{List, ℕ, zero, suc, ◌+◌, ◌-◌, ◌/◌, eqb, set}
 use Rattle.model.specs.Lists.{at, choose}
 use Rattle.arrays.specs.Inner.Places.{ORDER}
 

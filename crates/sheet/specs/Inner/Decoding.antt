@@ -1,5 +1,5 @@
 -- What decoding a table of symmetries stores, and what decoding all of them says.
-use Rattle.model.specs.Kit.{◌≡◌, Bool, true, List, ℕ, ◌+◌, ◌*◌, ◌≤◌, ◌<◌, length}
+use Rattle.std.specs.Prelude.{◌≡◌, Bool, true, List, ℕ, ◌+◌, ◌*◌, ◌≤◌, ◌<◌, length}
 use Rattle.model.specs.{Lists.at, Lists.all, Verdict.accepted, Sheet.word, Sheet.problem_of, Sheet.form_verdict, Sheet.permutes_pairs}
 use Rattle.arrays.specs.{Inner.Layout.pair_code_of, Inner.Layout.Numbers, Inner.Layout.Images, Inner.Places.IMAGES}
 

@@ -1,5 +1,6 @@
 -- What the questions on the constraints store: the scope of each, the constraints that touch a variable, and the support sets.
-use Rattle.model.specs.Kit.{◌≡◌, Bool, true, List, ℕ, zero, suc, ◌+◌, ◌*◌, ◌/◌, ◌%◌, ◌^◌, ◌≤◌, ◌<◌, set, bit_or, T, ltb}
+use Rattle.std.specs.Prelude.{◌≡◌, Bool, true, List, ℕ, zero, suc, ◌+◌, ◌*◌, ◌/◌, ◌%◌, ◌^◌, ◌≤◌, ◌<◌, set, T, ltb}
+use Rattle.model.specs.Kit.{bit_or}
 use Rattle.model.specs.{Lists.at, Lists.all, Lists.both, Lists.ascending, Lists.choose, ValueSets.union_mask, Sheet.word, Sheet.words}
 use Rattle.arrays.specs.Inner.Places.{SCOPES}
 

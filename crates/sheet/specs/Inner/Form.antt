@@ -1,5 +1,5 @@
 -- What questions 1 to 14 leave in the arrays.
-use Rattle.model.specs.Kit.{◌≡◌, Bool, true, List, ℕ, length, set}
+use Rattle.std.specs.Prelude.{◌≡◌, Bool, true, List, ℕ, length, set}
 use Rattle.model.specs.{Lists.at, Verdict.accepted, Sheet.header_of, Sheet.problem_of, Sheet.form_verdict, Sheet.verdict_of}
 use Rattle.arrays.specs.Inner.{Places.VARIABLES, Places.VALUES, Places.CONSTRAINTS, Places.SYMMETRIES, Places.IMAGES, Places.NUMBERS, Places.SUPPORTS, Layout.Numbers, Layout.Supports, Layout.Compiled}
 use Rattle.reader.specs.{Inner.Read.stated, declared.Header.Header}

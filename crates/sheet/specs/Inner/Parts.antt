@@ -1,5 +1,5 @@
 -- The questions in parts, each with what is asked after it, and what the first parts leave.
-use Rattle.model.specs.Kit.{List, ◌≡◌, ℕ, ◌+◌, ◌*◌, ◌≤◌, ◌<◌, length}
+use Rattle.std.specs.Prelude.{List, ◌≡◌, ℕ, ◌+◌, ◌*◌, ◌≤◌, ◌<◌, length}
 use Rattle.model.specs.{Lists.below, Lists.at, Verdict.Verdict, Sheet.header_of, Sheet.word, Sheet.header_verdict, Sheet.sets_verdict}
 use Rattle.arrays.specs.Inner.Places.{INITIAL, SCOPES}
 use Rattle.sheet.specs.{Meaning.Answers, declared.Answer.Answer, declared.Answer.TheVariants.Accepted}

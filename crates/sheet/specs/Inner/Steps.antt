@@ -1,5 +1,5 @@
 -- What asking one constraint, and all of them, says.
-use Rattle.model.specs.Kit.{◌≡◌, List, ℕ, zero, suc, ◌≤◌}
+use Rattle.std.specs.Prelude.{◌≡◌, List, ℕ, zero, suc, ◌≤◌}
 use Rattle.model.specs.{Verdict.Verdict, Verdict.refused, Sheet.header_of, Sheet.after_at, Sheet.constraint_verdict, Sheet.constraints_verdict}
 use Rattle.sheet.specs.{Inner.Fill.numbers_with, Inner.Fill.supports_with, Meaning.Answers, declared.Answer.Answer, declared.Answer.TheVariants.Accepted, declared.constraints.Step.Step}
 use Rattle.sheet.specs.{declared.constraints.Step.TheVariants.Next, declared.constraints.Step.TheVariants.Refused}

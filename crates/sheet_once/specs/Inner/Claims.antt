@@ -1,5 +1,5 @@
 -- What is claimed of the small sheets (paper 02, #114) by position; of a caller it is in specs/Held.
-use Rattle.model.specs.Kit.{◌≡◌, List, [], ℕ, ◌≤◌, ◌<◌, length, get_or}
+use Rattle.std.specs.Prelude.{◌≡◌, List, [], ℕ, ◌≤◌, ◌<◌, length, get_or}
 use Rattle.sheet_small.specs.Small.{plain_sheets, symmetric_sheets, small_sheets}
 use Rattle.sheet_once.specs.Held.{IsSmall}
 

@@ -1,5 +1,5 @@
 -- The order of the small sheets by numbers, and the bytes that the code makes.
-use Rattle.model.specs.Kit.{◌≡◌, true, false, List, [], ◌∷◌, ℕ, ◌+◌, ◌-◌, ◌*◌, ◌/◌, ◌%◌, ◌≤◌, ◌<◌, ltb, length, take, set, replicate}
+use Rattle.std.specs.Prelude.{◌≡◌, true, false, List, [], ◌∷◌, ℕ, ◌+◌, ◌-◌, ◌*◌, ◌/◌, ◌%◌, ◌≤◌, ◌<◌, ltb, length, take, set, replicate}
 use Rattle.sheet_small.specs.{Small.Shape, Small.sheet_of, Small.small_sheets, Answers.sheet_at, declared.Draft.Draft, declared.Images.Images}
 
 -- the number at index i, from 0, of those below 4 that are not a

@@ -1,5 +1,5 @@
 -- The words in which the functions below question 16 speak.
-use Rattle.model.specs.Kit.{◌≡◌, Bool, true, false, not, List, [], ◌∷◌, ◌++◌, map, ◌⊎◌, ℕ, ◌+◌, ◌*◌, ◌^◌, ◌/◌, ◌%◌, ◌≤◌, ◌<◌, suc, length, take, drop, T, eqb, ltb}
+use Rattle.std.specs.Prelude.{◌≡◌, Bool, true, false, not, List, [], ◌∷◌, ◌++◌, map, ◌⊎◌, ℕ, ◌+◌, ◌*◌, ◌^◌, ◌/◌, ◌%◌, ◌≤◌, ◌<◌, suc, length, take, drop, T, eqb, ltb}
 use Rattle.model.specs.{Lists.all, Lists.any, Lists.at, Lists.same, Lists.both, Lists.either, Lists.choose, ValueSets.has, ValueSets.members, Problem.Problem, Problem.Constraint, Problem.pair}
 use Rattle.model.specs.{Problem.forbidden, Problem.within, Problem.constraint_at, Sheet.permutes_pairs}
 use Rattle.arrays.specs.Inner.Layout.{image_code}

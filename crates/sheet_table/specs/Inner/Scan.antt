@@ -1,5 +1,5 @@
 -- What the loops over a table have found of its first numbers.
-use Rattle.model.specs.Kit.{◌≡◌, Bool, true, false, List, ℕ, ◌%◌, ◌<◌, T, eqb}
+use Rattle.std.specs.Prelude.{◌≡◌, Bool, true, false, List, ℕ, ◌%◌, ◌<◌, T, eqb}
 use Rattle.model.specs.{Lists.at, Problem.Problem, Problem.is_pair}
 use Rattle.arrays.specs.Inner.Layout.{pair_code_of}
 

@@ -1,5 +1,5 @@
 -- Questions 15 and 16 for one table (paper 01): what is known of the problem before they are asked, and their answer.
-use Rattle.model.specs.Kit.{Bool, true, false, List, ℕ, ◌+◌, ◌*◌, ◌≤◌, length}
+use Rattle.std.specs.Prelude.{Bool, true, false, List, ℕ, ◌+◌, ◌*◌, ◌≤◌, length}
 use Rattle.model.specs.{Problem.Problem, Problem.respects, Sheet.words, Sheet.permutes_pairs, Inner.WellFormed.Stated}
 use Rattle.arrays.specs.Inner.Layout.{Numbers, Supports}
 

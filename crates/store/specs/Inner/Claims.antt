@@ -1,6 +1,6 @@
 -- What else holds of the store: paper 02, #110, in words about the definitions. Calls of any owners (the paper's courses) are made one after another on one
 -- store. What callers may rely on is in specs/Calls.
-use Rattle.model.specs.Kit.{List, [], ◌∷◌, ℕ, eqb, ◌≡◌, ◌⊎◌, Bool, true, false, not, ◌++◌, map, ◌+◌, ◌*◌, ◌≤◌, ◌<◌, length, drop, T, leb}
+use Rattle.std.specs.Prelude.{List, [], ◌∷◌, ℕ, eqb, ◌≡◌, ◌⊎◌, Bool, true, false, not, ◌++◌, map, ◌+◌, ◌*◌, ◌≤◌, ◌<◌, length, drop, T, leb}
 use Rattle.model.specs.{Lists.choose, Lists.both, Lists.below, Verdict.Verdict, Verdict.accepted, Verdict.refused, Verdict.ask, Verdict.is_accepted, Sheet.words, Sheet.header_of, Sheet.problem_of}
 use Rattle.model.specs.{Sheet.symmetries_verdict, Sheet.verdict_of}
 use Rattle.store.specs.Store.{Store, StoreCall, call_verdict, store_after, StoreReply, reply_of, owner_of, call, none, table, is_table, empty_store, keys_of, Action, put, fetch, remove, calls_of}

@@ -1,6 +1,6 @@
 -- Calls of two owners on one store, as one list of statements about the definitions (Claims, `Isolated` and `FetchesLast`). One theorem says that
 -- each holds (proofs/Examples).
-use Rattle.model.specs.Kit.{◌≡◌, true, List, [], ◌∷◌, ◌++◌}
+use Rattle.std.specs.Prelude.{◌≡◌, true, List, [], ◌∷◌, ◌++◌}
 use Rattle.model.specs.{Verdict.accepted, Room.wrote, Room.refusal}
 use Rattle.store.specs.Store.{empty_store, put, fetch, remove, StoreCall, call, call_verdict, store_after, calls_of}
 use Rattle.store.specs.Inner.Claims.{store_end, replies_to, all_spare}

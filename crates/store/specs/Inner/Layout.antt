@@ -1,6 +1,6 @@
 -- The store's bytes: sixteen slots of 2,052 bytes, four an owner. A slot has a flag (0 is free), the key, the table's length in two bytes, low
 -- byte first, and 2,048 bytes for the table. Any bytes of the store's size are a store; zeros are the empty one.
-use Rattle.model.specs.Kit.{Bool, not, List, ◌∷◌, ◌++◌, ℕ, zero, suc, ◌+◌, ◌*◌, min, length, take, drop, set, ltb, eqb}
+use Rattle.std.specs.Prelude.{Bool, not, List, ◌∷◌, ◌++◌, ℕ, zero, suc, ◌+◌, ◌*◌, min, length, take, drop, set, ltb, eqb}
 use Rattle.model.specs.{ValueSets.least, Lists.both, Lists.either, Lists.choose, Lists.at, Verdict.Verdict, Verdict.ask, Verdict.is_accepted, Sheet.«word», Bytes.two_bytes, Written.placed}
 use Rattle.store.specs.Store.{none, table, Store, put, fetch, remove, StoreCall, call, call_verdict, StoreReply, reply_of, size}
 

@@ -39,4 +39,4 @@ returns c =
     c.bounded-plans.ensures c.byte.ensures
     c.bounded.ensures c.bounded-size.ensures
     c.args.more _ _ _ _ _ _ _ _ c.put_progress.ensures c.prepare_again-step.ensures))
-    c.before.queue3.given.0
+    c.go_on.auto.list
