@@ -2,7 +2,7 @@
 use Rattle.model.specs.Kit.{◌≡◌, refl, sym, ap, ap₂, ◌∙◌, subst, ◌⊎◌, inl, inr, ⊎_elim, ◌↔◌, Bool, true, not, List, [], ◌∷◌, ℕ, zero, suc, ◌^◌, ◌<◌, arith, T, T_not, not_T, eqb, leb, ltb, eqb→eq}
 use Rattle.model.specs.Kit.{leb→le, ltb→lt, eqb_refl, length, get_or, replicate, eq-eqb, ne_eqb, lt-ltb, le-leb}
 use Rattle.model.specs.Verdict.{Verdict, accepted, refused, ask, reply}
-use Rattle.model.specs.Nogood.{Entry, equality, disequality, is, obeys_from, obeys, filtered, FilterEnding, failed, entailed, consistent, filter_ending, mark, Kind, is_equality_lem, is_disequality}
+use Rattle.model.specs.Nogood.{Entry, equality, disequality, is, obeys_from, obeys, filtered, FilterEnding, failed, entailed, consistent, filter_ending, mark, Kind, is_equality, is_disequality}
 use Rattle.model.specs.Nogood.{both_absent, both_present, kind_by, kind_of, value_ok, entry_in, entry_of, entry_ok, entries, first_wrong, filter_verdict, sets_after, refusal, answered, filter_answer}
 use Rattle.model.specs.{Lists.at, Lists.both, ValueSets.has, NogoodClaims.CaseOf, NogoodClaims.Entails, Inner.Endings.Fails, Claims.Drawn}
 use mathlib.Core.Logic.{∥∥₁_elim, ∥∥₁_prop}
@@ -17,11 +17,11 @@ use Rattle.filter.proofs.Questions.{wrong_at, wrong_none, wrong_entry, all_right
 abbrev RightMarks : ℕ → ℕ → Type 0
 RightMarks e u = ((e < 16) × (u ≡ mark)) ⊎ ((e ≡ mark) × (u < 16))
 
-is_equality : (x e u : ℕ) → e < 16 → u ≡ mark → entry_of x e u ≡ equality x e
-is_equality x e u l q = ap₂ (λ (b c : Bool). entry_in (kind_by b c) x e u) (ne_eqb e mark (λ z. omega arith)) (eq-eqb u mark q)
+equality_is : (x e u : ℕ) → e < 16 → u ≡ mark → entry_of x e u ≡ equality x e
+equality_is x e u l q = ap₂ (λ (b c : Bool). entry_in (kind_by b c) x e u) (ne_eqb e mark (λ z. omega arith)) (eq-eqb u mark q)
 
-is_disequality_lem : (x e u : ℕ) → e ≡ mark → u < 16 → entry_of x e u ≡ disequality x u
-is_disequality_lem x e u q l = ap₂ (λ (b c : Bool). entry_in (kind_by b c) x e u) (eq-eqb e mark q) (ne_eqb u mark (λ z. omega arith))
+disequality_is : (x e u : ℕ) → e ≡ mark → u < 16 → entry_of x e u ≡ disequality x u
+disequality_is x e u q l = ap₂ (λ (b c : Bool). entry_in (kind_by b c) x e u) (eq-eqb e mark q) (ne_eqb u mark (λ z. omega arith))
 
 ok_i : (n x e u : ℕ) → x < n → RightMarks e u → entry_ok n x e u ≡ true
 ok_i n x e u l m =
@@ -34,7 +34,7 @@ ok_e : (n x e u : ℕ) → T (entry_ok n x e u) → (x < n) × RightMarks e u
 ok_e n x e u t = (ltb→lt x n (both_l (ltb x n) (value_ok (kind_of e u) e u) t), go (kind_of e u) (kind_holds e u) (both_r (ltb x n) (value_ok (kind_of e u) e u) t))
   where
     go : (k : Kind) → CaseOf k e u → T (value_ok k e u) → RightMarks e u
-    go is_equality_lem c t = inl (ltb→lt e 16 t, c.1)
+    go is_equality c t = inl (ltb→lt e 16 t, c.1)
     go is_disequality c t = inr (c.0, ltb→lt u 16 t)
     go both_absent c t = absurd t
     go both_present c t = absurd t
@@ -104,8 +104,8 @@ module _ (a : List ℕ) where
       let first = right 0 (omega arith) in
       let again = obeys_e xs es us (omega arith) (omega arith) (λ i l. right (suc i) (omega arith)) in
       ⊎_elim {C = ⊥}
-      (λ m. equal_e x e u xs es us first.0 held h again m (subst (λ (y : Entry). T (obeys_from held a (y ∷ entries xs es us))) (is_equality x e u m.0 m.1) t) j b)
-      (λ m. unequal_e x e u xs es us first.0 held h again m (subst (λ (y : Entry). T (obeys_from held a (y ∷ entries xs es us))) (is_disequality_lem x e u m.0 m.1) t) j b)
+      (λ m. equal_e x e u xs es us first.0 held h again m (subst (λ (y : Entry). T (obeys_from held a (y ∷ entries xs es us))) (equality_is x e u m.0 m.1) t) j b)
+      (λ m. unequal_e x e u xs es us first.0 held h again m (subst (λ (y : Entry). T (obeys_from held a (y ∷ entries xs es us))) (disequality_is x e u m.0 m.1) t) j b)
       first.1
 
   obeys_i : (xs es us : List ℕ) → length es ≡ length xs → length us ≡ length xs → AllRight xs es us → (held : Bool) → (T held → Obeys a xs es us) → T (obeys_from held a (entries xs es us))
@@ -117,8 +117,8 @@ module _ (a : List ℕ) where
       let first = right 0 (omega arith) in
       let again = obeys_i xs es us (omega arith) (omega arith) (λ i l. right (suc i) (omega arith)) in
       ⊎_elim {C = T (obeys_from held a (entry_of x e u ∷ entries xs es us))}
-      (λ m. subst (λ (y : Entry). T (obeys_from held a (y ∷ entries xs es us))) (sym (is_equality x e u m.0 m.1)) (equal_i x e u xs es us first.0 held o again m))
-      (λ m. subst (λ (y : Entry). T (obeys_from held a (y ∷ entries xs es us))) (sym (is_disequality_lem x e u m.0 m.1)) (unequal_i x e u xs es us first.0 held o again m))
+      (λ m. subst (λ (y : Entry). T (obeys_from held a (y ∷ entries xs es us))) (sym (equality_is x e u m.0 m.1)) (equal_i x e u xs es us first.0 held o again m))
+      (λ m. subst (λ (y : Entry). T (obeys_from held a (y ∷ entries xs es us))) (sym (disequality_is x e u m.0 m.1)) (unequal_i x e u xs es us first.0 held o again m))
       first.1
 
 -- ---- the call

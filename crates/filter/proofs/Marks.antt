@@ -2,7 +2,7 @@
 -- or is obeyed for good. Assumes nothing.
 use Rattle.model.specs.Kit.{◌≡◌, refl, sym, ap, ap₂, ◌∙◌, subst, Bool, true, false, not, List, [], ◌∷◌, ◌++◌, append_assoc, append-nil, Memᴰ, Memᴰ-head, Memᴰ-tail, Memᴰ-not_nil}
 use Rattle.model.specs.Kit.{Memᴰ-append_left, ⊎_elim, ℕ, ◌%◌, ◌^◌, ◌<◌, ◌≤◌, mod-eq_of_lt, arith, T, eqb, ltb, eqb→eq, eqb_refl, length, eq-eqb, eqb-true, lt-ltb, le-ltb}
-use Rattle.model.specs.Nogood.{Entry, equality, disequality, Kind, is_equality_lem, is_disequality, both_absent, both_present, mark, kind_by, kind_of, entry_in, entry_of, value_ok, entry_ok, is}
+use Rattle.model.specs.Nogood.{Entry, equality, disequality, Kind, is_equality, is_disequality, both_absent, both_present, mark, kind_by, kind_of, entry_in, entry_of, value_ok, entry_ok, is}
 use Rattle.model.specs.Nogood.{obeys_from, obeys}
 use Rattle.model.specs.Nogood.{obeying}
 use Rattle.model.specs.{Lists.at, Lists.both, ValueSets.has, ValueSets.mask_of, ValueSets.without_mask, ValueSets.only_mask, ValueSets.Inside, Problem.assignments}
@@ -25,7 +25,7 @@ module _ (x e u : ℕ) (r : Right 16 (entry_of x e u)) where
   reads_variable = go (kind_of e u) r
     where
       go : (k : Kind) → Right 16 (entry_in k x e u) → x < 16
-      go is_equality_lem r = r.0
+      go is_equality r = r.0
       go is_disequality r = r.0
       go both_absent r = r.0
       go both_present r = r.0
@@ -35,7 +35,7 @@ module _ (x e u : ℕ) (r : Right 16 (entry_of x e u)) where
   reads_equality v q = go (kind_of e u) r q
     where
       go : (k : Kind) → Right 16 (entry_in k x e u) → Equality v ≡ kind_as k e u → entry_in k x e u ≡ equality x (v % 16)
-      go is_equality_lem r q = let z : v ≡ e = cc in ap (equality x) (sym (ap (λ (n : ℕ). n % 16) z ∙ mod-eq_of_lt r.1))
+      go is_equality r q = let z : v ≡ e = cc in ap (equality x) (sym (ap (λ (n : ℕ). n % 16) z ∙ mod-eq_of_lt r.1))
       go is_disequality r q = never (cc)
       go both_absent r q = never (cc)
       go both_present r q = never (cc)
@@ -44,7 +44,7 @@ module _ (x e u : ℕ) (r : Right 16 (entry_of x e u)) where
   reads_present q = go (kind_of e u) r q
     where
       go : (k : Kind) → Right 16 (entry_in k x e u) → BothPresent ≡ kind_as k e u → entry_in k x e u ≡ equality x (e % 16)
-      go is_equality_lem r q = never (cc)
+      go is_equality r q = never (cc)
       go is_disequality r q = never (cc)
       go both_absent r q = never (cc)
       go both_present r q = ap (equality x) (sym (mod-eq_of_lt r.1))
@@ -54,7 +54,7 @@ module _ (x e u : ℕ) (r : Right 16 (entry_of x e u)) where
   reads_disequality v q = go (kind_of e u) r q
     where
       go : (k : Kind) → Right 16 (entry_in k x e u) → Disequality v ≡ kind_as k e u → entry_in k x e u ≡ disequality x (v % 16)
-      go is_equality_lem r q = never (cc)
+      go is_equality r q = never (cc)
       go is_disequality r q = let z : v ≡ u = cc in ap (disequality x) (sym (ap (λ (n : ℕ). n % 16) z ∙ mod-eq_of_lt r.1))
       go both_absent r q = never (cc)
       go both_present r q = never (cc)
@@ -63,7 +63,7 @@ module _ (x e u : ℕ) (r : Right 16 (entry_of x e u)) where
   reads_absent q = go (kind_of e u) r q
     where
       go : (k : Kind) → Right 16 (entry_in k x e u) → BothAbsent ≡ kind_as k e u → entry_in k x e u ≡ disequality x (u % 16)
-      go is_equality_lem r q = never (cc)
+      go is_equality r q = never (cc)
       go is_disequality r q = never (cc)
       go both_absent r q = ap (disequality x) (sym (mod-eq_of_lt r.1))
       go both_present r q = never (cc)
@@ -93,7 +93,7 @@ module _ (n x e u : ℕ) where
   ok_kind h k q = ap ok_as q ∙ go (kind_of e u) ∙ ap (λ (b : Bool). both b (value_ok (kind_of e u) e u)) (sym (lt-ltb x n h))
     where
       go : (k : Kind) → ok_as (kind_as k e u) ≡ value_ok k e u
-      go is_equality_lem = refl
+      go is_equality = refl
       go is_disequality = refl
       go both_absent = refl
       go both_present = refl

@@ -19,7 +19,7 @@ said n ss xs es us start rs r v e h = subst (λ (w : Reached). PassResult n ss x
 -- ---- at the equality of entry k
 module _ {n : ℕ} {ss xs es us : List ℕ} {k : ℕ} (f : AtSplit n ss xs es us k) where
   split_right : Right n (equality (at xs k) (at es k))
-  split_right = subst (Right n) f.is_equality (f.listed.right k f.bound)
+  split_right = subst (Right n) f.equality_is (f.listed.right k f.bound)
 
   pub split_asks : at xs k < 16
   split_asks = omega (arith, split_right.0, f.live.few)
@@ -31,7 +31,7 @@ module _ {n : ℕ} {ss xs es us : List ℕ} {k : ℕ} (f : AtSplit n ss xs es us
   split_passed =
       Front.pass_as
       (entry_at xs es us k f.listed.equals f.listed.others f.bound
-      ∙ ap (λ (e : Entry). e ∷ drop (suc k) (entries xs es us)) f.is_equality)
+      ∙ ap (λ (e : Entry). e ∷ drop (suc k) (entries xs es us)) f.equality_is)
       (Front.begin (drop k (entries xs es us)) f.live)
 
   -- with the pair forced
@@ -85,9 +85,9 @@ module _ {n : ℕ} {ss xs es us : List ℕ} {k : ℕ} (f : AtSplit n ss xs es us
           let w = next.at_split in
           Front.split_some (at xs j) (at es j) (drop (suc j) (entries xs es us))
           (Front.pass_as
-          (entry_at xs es us j w.listed.equals w.listed.others w.bound ∙ ap (λ (e : Entry). e ∷ drop (suc j) (entries xs es us)) w.is_equality)
+          (entry_at xs es us j w.listed.equals w.listed.others w.bound ∙ ap (λ (e : Entry). e ∷ drop (suc j) (entries xs es us)) w.equality_is)
           next.passed)
-          (subst (Right n) w.is_equality (w.listed.right j w.bound))
+          (subst (Right n) w.equality_is (w.listed.right j w.bound))
           w.split
 
       pub next_split : AtSplit n rs xs es us j

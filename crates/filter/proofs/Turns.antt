@@ -1,6 +1,6 @@
 -- A pass over the three lists: what each turn does, and what its end says. Assumes nothing.
 use Rattle.model.specs.Kit.{◌≡◌, refl, sym, ap, ◌∙◌, subst, Bool, true, false, List, [], ◌∷◌, ℕ, zero, suc, ◌+◌, ◌≤◌, ◌<◌, not-suc-le-zero, le_of_suc-le-suc, add-one, arith, eqb, length, drop}
-use Rattle.model.specs.Nogood.{Entry, equality, disequality, Kind, is_equality_lem, is_disequality, both_absent, both_present, kind_of, entry_in, entry_of, entries}
+use Rattle.model.specs.Nogood.{Entry, equality, disequality, Kind, is_equality, is_disequality, both_absent, both_present, kind_of, entry_in, entry_of, entries}
 use Rattle.model.specs.{Lists.at, ValueSets.without_mask}
 use Rattle.model.proofs.Lists.{never}
 use Rattle.filter.specs.declared.entry.Step.TheVariants.{Next, Failed, Obeyed, Split}
@@ -45,7 +45,7 @@ split_is : (rs : List ℕ) (x e u : ℕ) → step_of rs (entry_of x e u) ≡ Spl
 split_is rs x e u h = go (kind_of e u) h
   where
     go : (k : Kind) → step_of rs (entry_in k x e u) ≡ Split → (entry_in k x e u ≡ equality x e) × (step_of rs (equality x e) ≡ Split) × (after rs (entry_in k x e u) ≡ rs)
-    go is_equality_lem h = (refl, h, refl)
+    go is_equality h = (refl, h, refl)
     go is_disequality h = absurd (never_split (eqb (without_mask (at rs x) u) 0) h)
     go both_absent h = absurd (never_split (eqb (without_mask (at rs x) u) 0) h)
     go both_present h = (refl, h, refl)
@@ -87,4 +87,4 @@ module _ {n : ℕ} {ss xs es us : List ℕ} {start : ℕ} (w : Ready n ss xs es 
         turn_split b e =
             let q = split_is rs (at xs i) (at es i) (at us i) (sym s.step ∙ e) in
             subst (λ (l : List ℕ). SplitReached n ss xs es us start l i) (sym (s.sets ∙ q.2))
-            record { at_split = record { listed = w.listed; live = p.live; bound = h; is_equality = q.0; split = q.1 }; begun = b; passed = p }
+            record { at_split = record { listed = w.listed; live = p.live; bound = h; equality_is = q.0; split = q.1 }; begun = b; passed = p }

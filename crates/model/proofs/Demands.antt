@@ -35,7 +35,7 @@ pub reply_refused : {A : Type 0} (v : Verdict) (x : A) (number item : ℕ) → r
 reply_refused accepted x number item h = never (cc)
 reply_refused (refused n i) x number item h = cc
 
--- an accepted sheet states a well_formed_lem problem
+-- an accepted sheet states a well-formed problem
 pub of_accepted : (b : List ℕ) → verdict_of b ≡ accepted → Passed b
 of_accepted b h = passed b (subst (λ (v : Verdict). T (is_accepted v)) (sym h) tt)
 

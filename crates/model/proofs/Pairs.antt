@@ -1,4 +1,4 @@
--- The laws of pairs, and of solutions of a well_formed_lem problem. Assumes nothing.
+-- The laws of pairs, and of solutions of a well-formed problem. Assumes nothing.
 use Rattle.model.specs.Kit.{◌≡◌, refl, sym, ap, ap₂, ◌∙◌, subst, not, List, [], ◌∷◌, map, Memᴰ, Memᴰ-head, Memᴰ-tail, Memᴰ-append_left, Memᴰ-cast, Memᴰ-map, Memᴰ-of_map, ◌⊎◌, inl}
 use Rattle.model.specs.Kit.{inr, ⊎_elim, ℕ, suc, ◌+◌, ◌<◌, ◌/◌, ◌%◌, ◌*◌, ◌^◌, mod-eq_of_lt, mul-le-mul_right, arith, T, T_not, not_T, eqb, ltb, eqb→eq, eqb_refl, ltb→lt, lt→ltb}
 use Rattle.model.specs.Problem.{pairs_at, Problem, Constraint, pair, is_pair, pairs_of, within, assignments, excluded, doubled, forbidden, values_at, satisfies, is_solution}

@@ -1,4 +1,4 @@
--- The laws of a symmetry that respects a well_formed_lem problem: it permutes the pairs, and the preimage of a solution is a solution. Assumes nothing.
+-- The laws of a symmetry that respects a well-formed problem: it permutes the pairs, and the preimage of a solution is a solution. Assumes nothing.
 use Rattle.model.specs.Kit.{◌≡◌, refl, sym, ap, ap₂, ◌∙◌, subst, subst₂, Bool, true, false, List, [], ◌∷◌, map, Memᴰ, Memᴰ-head, Memᴰ-tail, Memᴰ-not_nil}
 use Rattle.model.specs.Kit.{Memᴰ-cases_cons, Memᴰ-cast, Memᴰ-map, Memᴰ-of_map, ◌⊎◌, inl, inr, ⊎_elim, ℕ, ◌<◌, ◌/◌, ◌%◌, ◌*◌, lt_of_lt_of_le, ℕ_discrete, dec_lt, arith, T, eqb, eqb→eq}
 use Rattle.model.specs.Kit.{length, length-map}

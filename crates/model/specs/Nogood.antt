@@ -66,7 +66,7 @@ mark = 255
 -- what an entry is, by its two marks (paper 02, #105), beside what 001, section 3, says of the tuple (I, E, N); it writes the mark as a bottom sign
 pub data Kind : Type 0 where
   -- equal is a value, not-equal is the mark. 001: "If N = mark, then the tuple is encoding x = E on the LHS of a nogood"
-  is_equality_lem : Kind
+  is_equality : Kind
   -- equal is the mark, not-equal is a value. 001: "If E = mark, then it is encoding x /= N on the RHS of a nogood"
   is_disequality : Kind
   -- two marks. In 001 both conditions hold; its lists (3) have no such tuple
@@ -76,7 +76,7 @@ pub data Kind : Type 0 where
 
 -- by whether equal is absent, and whether not-equal is
 abbrev pub kind_by : Bool → Bool → Kind
-kind_by false true = is_equality_lem
+kind_by false true = is_equality
 kind_by true false = is_disequality
 kind_by true true = both_absent
 kind_by false false = both_present
@@ -86,7 +86,7 @@ kind_of equal unequal = kind_by (eqb equal mark) (eqb unequal mark)
 
 -- what an entry of each kind says; question 19 shuts the last two out, so nobody meets what they say
 abbrev pub entry_in : Kind → ℕ → ℕ → ℕ → Entry
-entry_in is_equality_lem x equal unequal = equality x equal
+entry_in is_equality x equal unequal = equality x equal
 entry_in is_disequality x equal unequal = disequality x unequal
 entry_in both_absent x equal unequal = disequality x unequal
 entry_in both_present x equal unequal = equality x equal
@@ -102,7 +102,7 @@ entries (x ∷ xs) (e ∷ es) (u ∷ us) = entry_of x e u ∷ entries xs es us
 
 -- an entry is right: its variable is one of the n sets', just one of the two is the mark, and the other is below 16
 abbrev pub value_ok : Kind → ℕ → ℕ → Bool
-value_ok is_equality_lem equal unequal = ltb equal 16
+value_ok is_equality equal unequal = ltb equal 16
 value_ok is_disequality equal unequal = ltb unequal 16
 value_ok both_absent equal unequal = false
 value_ok both_present equal unequal = false

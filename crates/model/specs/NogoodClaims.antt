@@ -1,12 +1,12 @@
 -- What an entry is, in words (paper 02, #105), and when a list says nothing more (#102). The proofs are in proofs/EntryKinds.antt.
 use Rattle.std.specs.Prelude.{◌≡◌, ◌⊎◌, List, ℕ, ◌<◌, T, eqb, ltb}
 use Rattle.model.specs.Kit.{Memᴰ}
-use Rattle.model.specs.Nogood.{Entry, equality, disequality, obeys, mark, Kind, is_equality_lem, is_disequality, both_absent, both_present, kind_of, entry_of, entry_ok}
+use Rattle.model.specs.Nogood.{Entry, equality, disequality, obeys, mark, Kind, is_equality, is_disequality, both_absent, both_present, kind_of, entry_of, entry_ok}
 use Rattle.model.specs.{Lists.both, Lists.either, Problem.assignments}
 
 -- each case as a condition on the two numbers
 abbrev pub CaseOf : Kind → ℕ → ℕ → Type 0
-CaseOf is_equality_lem equal unequal = (equal ≡ mark → ⊥) × (unequal ≡ mark)
+CaseOf is_equality equal unequal = (equal ≡ mark → ⊥) × (unequal ≡ mark)
 CaseOf is_disequality equal unequal = (equal ≡ mark) × (unequal ≡ mark → ⊥)
 CaseOf both_absent equal unequal = (equal ≡ mark) × (unequal ≡ mark)
 CaseOf both_present equal unequal = (equal ≡ mark → ⊥) × (unequal ≡ mark → ⊥)

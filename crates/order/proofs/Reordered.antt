@@ -687,7 +687,7 @@ module _ (p : Problem) (order : List ℕ) (o : Ordering p.variables order) where
           p2 : Problem
           p2 = reordered order p
 
-    -- ---- a well_formed_lem problem stays well_formed_lem
+    -- ---- a well-formed problem stays well-formed
     pub well_reordered : WellFormed (reordered order p)
     well_reordered = record {
       some = w.some;

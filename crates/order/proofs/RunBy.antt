@@ -1,4 +1,4 @@
--- The run of any well_formed_lem problem in any order (specs/RunBy): what it lists, its leaders, chains and counts. Assumes nothing.
+-- The run of any well-formed problem in any order (specs/RunBy): what it lists, its leaders, chains and counts. Assumes nothing.
 use Rattle.model.specs.Kit.{◌≡◌, refl, sym, ap, ap₂, ◌∙◌, subst, Bool, true, false, ◌↔◌, List, [], ◌∷◌, map, Memᴰ, Memᴰ-head, Memᴰ-tail, Memᴰ-not_nil, Memᴰ-cast, Memᴰ-map}
 use Rattle.model.specs.Kit.{Memᴰ-of_map, ℕ, zero, suc, ◌≤◌, ◌<◌, arith, T, length, take, length-map}
 use Rattle.model.specs.{Lists.keep, Lists.below, Lists.at, Lists.earlier, Lists.rows_ascend, Lists.total, Problem.Problem, Problem.pair, Problem.is_solution, Problem.assignments}
@@ -45,7 +45,7 @@ map_back : {A B : Type 0} (f : A → B) (g : B → A) (l : List A) → ((x : A) 
 map_back f g [] h = refl
 map_back {A} {B} f g (x ∷ l) h = ap₂ (λ (y : A) (r : List A). y ∷ r) (h x (Memᴰ-head refl)) (map_back f g l (λ y m. h y (Memᴰ-tail m)))
 
--- ---- a well_formed_lem problem in any order
+-- ---- a well-formed problem in any order
 module _ (p : Problem) (w : WellFormed p) (respected : Respected p) (order : List ℕ) (o : Ordering p.variables order) where
   abbrev p2 : Problem
   p2 = reordered order p

@@ -5,7 +5,7 @@ use Rattle.sheet_table.specs.Inner.Table.{Framed, Ready, answer_of}
 use Rattle.arrays.specs.{Inner.Layout.Images, Inner.Layout.pair_code_of, Inner.Places.IMAGES, Inner.Places.WIDE}
 use Rattle.block.specs.Block.{orderings, factorial, ordering_table}
 
--- both arrays hold a well_formed_lem problem of at most sixteen symmetries
+-- both arrays hold a well-formed problem of at most sixteen symmetries
 pub record Held (p : Problem) (numbers supports : List ℕ) : Type 0 where
   pub well_formed : WellFormed p
   pub ready : Ready p numbers supports

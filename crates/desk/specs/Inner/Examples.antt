@@ -25,7 +25,7 @@ pub record Stay : Type 0 where
   -- a longer run goes on after its first turn, and has made 64 nodes
   pub submit_done : slot_at longer 0 ≡ taken (new_job sheet_open 1000000)
   pub stays : Throughout (Remains 0) longer (turn ∷ [])
-  pub goes_on_lem : status_reply (queue_end longer (turn ∷ [])) 0 ≡ answered (served 0 running 48 64)
+  pub still_goes_on : status_reply (queue_end longer (turn ∷ [])) 0 ≡ answered (served 0 running 48 64)
   pub counted : status_counts (queue_end longer (turn ∷ [])) 0 ≡ 4 ∷ 12 ∷ 48 ∷ replicate 9 0
   pub ends : status_reply (queue_end longer (turn ∷ turn ∷ [])) 0 ≡ answered (served 0 (over (finished 64 84)) 64 84)
   pub all : status_counts (queue_end longer (turn ∷ turn ∷ [])) 0 ≡ 4 ∷ 16 ∷ 64 ∷ replicate 9 0

@@ -1,6 +1,6 @@
 -- What the functions that read the three lists say to each other.
 use Rattle.std.specs.Prelude.{◌≡◌, Bool, true, false, List, [], map, ℕ, ◌≤◌, ◌<◌, length, set, take, drop}
-use Rattle.model.specs.Nogood.{Entry, equality, filtered, filter_ending, answered, Kind, is_equality_lem, is_disequality, both_absent, both_present, entry_of, entries}
+use Rattle.model.specs.Nogood.{Entry, equality, filtered, filter_ending, answered, Kind, is_equality, is_disequality, both_absent, both_present, entry_of, entries}
 use Rattle.model.specs.{Lists.at, ValueSets.only_mask, Verdict.Verdict, Verdict.accepted, Verdict.refused}
 use Rattle.filter.specs.{Meaning.means, declared.Answer.Answer, declared.Ending.Ending, declared.Kind.TheVariants.Equality, declared.Kind.TheVariants.Disequality}
 use Rattle.filter.specs.{declared.Kind.TheVariants.BothAbsent, declared.Kind.TheVariants.BothPresent, declared.Reached.Reached, declared.Reached.TheVariants.Failed}
@@ -18,7 +18,7 @@ verdict_is (verdict.Refused number item) = refused number item
 
 -- an entry's kind as the code has it: with the value that is there
 abbrev pub kind_as : Kind → ℕ → ℕ → kind.Kind
-kind_as is_equality_lem equal unequal = Equality equal
+kind_as is_equality equal unequal = Equality equal
 kind_as is_disequality equal unequal = Disequality unequal
 kind_as both_absent equal unequal = BothAbsent
 kind_as both_present equal unequal = BothPresent
@@ -40,7 +40,7 @@ pub record AtSplit (n : ℕ) (ss xs es us : List ℕ) (k : ℕ) : Type 0 where
   pub listed : Listed n xs es us
   pub live : Live n ss
   pub bound : k < length xs
-  pub is_equality : entry_of (at xs k) (at es k) (at us k) ≡ equality (at xs k) (at es k)
+  pub equality_is : entry_of (at xs k) (at es k) (at us k) ≡ equality (at xs k) (at es k)
   pub split : step_of ss (equality (at xs k) (at es k)) ≡ step.Split
 
 pub record SplitReached (n : ℕ) (ss xs es us : List ℕ) (start : ℕ) (rs : List ℕ) (k : ℕ) : Type 0 where
