@@ -1,15 +1,22 @@
 -- `ending_report`: a finished run is taken apart, the two others are a stop. Assumes nothing.
-use Rattle.model.specs.Kit.{sym, subst}
+use Rattle.model.specs.Kit.{◌≡◌, refl, sym, subst, ℕ}
+use Rattle.model.specs.Run.{finished}
+use Rattle.model.proofs.Lists.{never}
 use Rattle.families_figure.specs.Figure.{Figure}
-use Rattle.families_count.proofs.Bare.{stopped}
 use Rattle.report.specs.Inner.Text.{ended_text, Fitted}
-use Rattle.run_state.specs.{declared.Ending.Ending, Meaning.ending_of}
+use Rattle.run_state.specs.{declared.Ending.Ending, declared.Ending.TheVariants.Finished, declared.Ending.TheVariants.Spent, declared.Ending.TheVariants.Full, Meaning.ending_of}
 use Rattle.export_report.specs.Inner.Inner.{Listed}
 use Rattle.export_report.proofs.text.ending_report.Goals as goal
 
+-- an ending of another case is not a finished run
+stopped : (e : Ending) → ((p m : ℕ) → e ≡ Finished p m → ⊥) → (plans nodes : ℕ) → ending_of e ≡ finished plans nodes → ⊥
+stopped (Finished plans nodes) k p m q = k plans nodes refl
+stopped (Spent plans nodes) k p m q = never (cc)
+stopped (Full plans nodes) k p m q = never (cc)
+
 pub returns-in_default : goal.returns-in_default
 returns-in_default c = λ f t k.
-    let n = k (stopped c.args.e c.in-Finished.keys2) in
+    let n = k (stopped c.args.e c.in_default.not-Finished) in
     subst (λ (g : Figure). Fitted c.args.out.now (ended_text (ending_of c.args.e) g c.args.n c.args.list.now) c.stop_report.new.out c.stop_report.result) (sym n) c.stop_report.ensures
 
 pub finished_report-requires : goal.finished_report-requires
