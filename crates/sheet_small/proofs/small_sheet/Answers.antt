@@ -10,7 +10,7 @@ returns-then-size-eq0 c =
 
 pub returns-then-room-lt-SHEET_ROOM : goal.returns-then-room-lt-SHEET_ROOM
 returns-then-room-lt-SHEET_ROOM c =
-    short_room c.args.k c.args.room.now (c.find-d.ensures.here c.if-size-eq0.false).0 c.if-room-lt-SHEET_ROOM.true
+    short_room c.args.k c.args.room.now (c.find-d.ensures.here (λ e. omega (arith, e))).0 c.if-room-lt-SHEET_ROOM.true
 
 pub slice_bounds-bytes-end : goal.slice_bounds-bytes-end
 slice_bounds-bytes-end c =
