@@ -10,7 +10,7 @@
  * lent to another at the same time.
  *
  * Stack. The most that a call takes below the caller, on the sheets that go deepest (12 windows of 16 duties, 16
- * exchanges, pairs and a block), in KB of 1,000 bytes:
+ * exchanges, pairs and a block), in KB of 1,000 bytes, as built by rattle-kit-5b-plain:
  *   planner_report 330, planner_families 307, planner_run_part 205, planner_run, planner_run_lent and
  *   planner_at_least, with pairs and a block or without, 183, planner_desk_turn and planner_desk_rounds 182,
  *   planner_closed 72, planner_question_lent 46, planner_question, planner_desk_sit and planner_small_sheet 41,

@@ -1,5 +1,5 @@
 // The lister (paper 01, "The report"): prints the report on the sheet that stands on standard input. The planner makes all of the text.
-// A program in Rattle has no exit status: what fails is said on standard error.
+// It ends with status 0 whatever happens: what fails is said on standard error.
 #![tactic(auto)]
 
 ghost use Rattle.std.specs.Prelude.{◌≡◌, ◌≤◌, ◌<◌, IsFalse, length, take};
