@@ -1,18 +1,10 @@
 -- The positions of a block in an order, gathered one by one. Assumes nothing.
-use Rattle.model.specs.Kit.{◌≡◌, refl, sym, ap, ◌∙◌, subst, Bool, true, false, List, ℕ, ◌+◌, ◌*◌, ◌%◌, ◌^◌, ◌<◌, arith, bit_or, ltb, eqb, length, get_or, le-leb, lt-leb}
+use Rattle.model.specs.Kit.{◌≡◌, refl, sym, ap, ◌∙◌, subst, Bool, true, false, List, ℕ, ◌+◌, ◌*◌, ◌%◌, ◌^◌, ◌<◌, bit_or, ltb, eqb, length, get_or}
 use Rattle.model.specs.{Lists.at, Lists.both, Inner.Filling.Gathered}
 use lib.Bits.{or_zero_r}
 use Rattle.block.specs.Block.{in_block, in_lent}
 use Rattle.model.proofs.{Sets.has_none, Members.one_has, Filling.gathered_more}
 use Rattle.block.proofs.BlockLent.{inside_other, inside_two}
-
-pub before : (first m x : ℕ) → x < first → false ≡ in_block first m x
-unfolding in_block
-before first m x h = sym (ap (λ (b : Bool). both b (ltb x (first + m))) (lt-leb first x h))
-
-pub after : (first m x : ℕ) → (x < first → ⊥) → ltb x (first + m) ≡ in_block first m x
-unfolding in_block
-after first m x h = sym (ap (λ (b : Bool). both b (ltb x (first + m))) (le-leb first x (omega arith)))
 
 -- the next position, where its variable is one of the block, and where it isn't
 module _ (f : ℕ → Bool) (i set : ℕ) (g : Gathered f i set) where

@@ -7,14 +7,14 @@ ghost use Rattle.model.specs.Inner.Filling.{Gathered};
 ghost use Rattle.model.specs.Problem.{Problem};
 ghost use Rattle.model.specs.Verdict.{accepted};
 ghost use Rattle.arrays.specs.Inner.Places.{WIDE};
-ghost use Rattle.sheet.specs.Meaning.{means};
+ghost use Rattle.model.specs.Refusals.{verdict_from};
 ghost use Rattle.block.specs.Block.{ordering, factorial, in_block, image_of, ordering_table, with_block, is_block_at, block_verdict, block_lent, in_lent};
 ghost use Rattle.block.specs.Block.{with_lent};
 ghost use Rattle.arrays_block.specs.Inner.Asked.{Held, Row, BlockRow, TableBytes, row_answer, Widened, RowPut, Imaged, PutOn};
 
 use arrays::{IMAGES, Images, Numbers, SYMMETRIES, Supports, VALUES, VARIABLES, Wide};
+use model::refusals::{Question, Refusal};
 use model::wide;
-use sheet::Answer;
 use sheet_symmetries::table_question;
 use sheet_table::{is_pair, pair_code};
 
@@ -53,15 +53,13 @@ fn table(rows: &[u8; 600], row: usize, first: usize, m: usize, numbers: &Numbers
 {
     let size = numbers[VARIABLES] as usize * numbers[VALUES] as usize;
     let mut bytes = [0u8; 384];
-    let mut q = 0;
-    while q < size {
+    for q in 0..size {
         bytes[2 * q] = moved(rows, row, first, m, numbers, q) as u8;
-        q += 1;
     }
     bytes
 }
 
-// Questions 15 and 16 to a row: 0, or the number of the first whose answer is no.
+// Questions 15 and 16 to a row.
 fn row_question(
     rows: &[u8; 600],
     row: usize,
@@ -69,7 +67,7 @@ fn row_question(
     m: usize,
     numbers: &Numbers,
     supports: &Supports,
-) -> u8
+) -> Result<(), Question>
     requires { (p : Problem) × Held p numbers.now supports.now × BlockRow p rows.now row first m numbers.now }
     ensures { (p : Problem) → Held p numbers.now supports.now → BlockRow p rows.now row first m
         numbers.now → result ≡ row_answer p first m row }
@@ -79,26 +77,22 @@ fn row_question(
 }
 
 // Questions 15 and 16 to a block's orderings: to the trades of neighbours, rows 1, 2, 6 and 24, of which the first that is refused decides.
-fn trades(first: usize, m: usize, numbers: &Numbers, supports: &Supports) -> Answer
+fn trades(first: usize, m: usize, numbers: &Numbers, supports: &Supports) -> Result<(), Refusal>
     requires { (p : Problem) × Held p numbers.now supports.now × T (is_block_at p first m) }
-    ensures { (p : Problem) → Held p numbers.now supports.now → T (is_block_at p first m) → means result ≡ block_verdict p first m }
+    ensures { (p : Problem) → Held p numbers.now supports.now → T (is_block_at p first m) → verdict_from result ≡ block_verdict p first m }
 {
     let rows = block::rows();
     let g = numbers[SYMMETRIES] as usize;
-    let mut k = 1;
     let mut row = 1;
-    while k < m {
-        let number = row_question(&rows, row, first, m, numbers, supports);
-        if number != 0 {
-            return Answer::Refused {
-                number,
-                item: g + row,
-            };
-        }
-        k += 1;
-        row = k * row;
+    for k in 1..m {
+        let item = g + row;
+        row_question(&rows, row, first, m, numbers, supports).map_err(move |question| Refusal {
+            question,
+            item,
+        })?;
+        row *= k + 1;
     }
-    Answer::Accepted
+    Ok(())
 }
 
 // Question 36 of a problem of n variables.
@@ -106,42 +100,30 @@ fn is_block(n: usize, first: usize, m: usize) -> bool
     requires { (first ≤ 255) × (m ≤ 255) }
     ensures { (p : Problem) → n ≡ p.variables → result ≡ is_block_at p first m }
 {
-    if m < 2 {
-        return false;
-    }
-    if 5 < m {
-        return false;
-    }
-    first + m <= n
+    2 <= m && m <= 5 && first + m <= n
 }
 
 // The questions to a block of m variables from `first` on.
-fn ask(first: usize, m: usize, numbers: &Numbers, supports: &Supports) -> Answer
+fn ask(first: usize, m: usize, numbers: &Numbers, supports: &Supports) -> Result<(), Refusal>
     requires { ((p : Problem) × Held p numbers.now supports.now) × (first ≤ 255) × (m ≤ 255) }
-    ensures { (p : Problem) → Held p numbers.now supports.now → means result ≡ block_verdict p first m }
+    ensures { (p : Problem) → Held p numbers.now supports.now → verdict_from result ≡ block_verdict p first m }
 {
-    if is_block(numbers[VARIABLES] as usize, first, m) {
-        return trades(first, m, numbers, supports);
+    if !is_block(numbers[VARIABLES] as usize, first, m) {
+        return Err(Question::Block.into());
     }
-    Answer::Refused {
-        number: 36,
-        item: 0,
-    }
+    trades(first, m, numbers, supports)
 }
 
 // The questions to a block as it is lent.
-pub fn question(block: &[u8], numbers: &Numbers, supports: &Supports) -> Answer
+pub fn question(block: &[u8], numbers: &Numbers, supports: &Supports) -> Result<(), Refusal>
     requires { (p : Problem) × Held p numbers.now supports.now }
-    ensures { (p : Problem) → Held p numbers.now supports.now → means result ≡ block_lent p block.now }
+    ensures { (p : Problem) → Held p numbers.now supports.now → verdict_from result ≡ block_lent p block.now }
 {
-    if block.len() == 0 {
-        return Answer::Accepted;
+    if block.is_empty() {
+        return Ok(());
     }
     if block.len() != 2 {
-        return Answer::Refused {
-            number: 36,
-            item: 0,
-        };
+        return Err(Question::Block.into());
     }
     ask(block[0] as usize, block[1] as usize, numbers, supports)
 }
@@ -151,10 +133,7 @@ fn is_inside(first: usize, m: usize, x: usize) -> bool
     requires { (first ≤ 255) × (m ≤ 255) }
     ensures { result ≡ in_block first m x }
 {
-    if x < first {
-        return false;
-    }
-    x < first + m
+    first <= x && x < first + m
 }
 
 // The set of the positions, of the first n of an order, at which a variable of a block of m stands.
@@ -163,12 +142,10 @@ fn gather(first: usize, m: usize, n: usize, order: &[u8; 16]) -> u64
     ensures { Gathered (λ i. in_block first m (at order.now i)) n result }
 {
     let mut set = 0u64;
-    let mut i = 0;
-    while i < n {
+    for i in 0..n {
         if is_inside(first, m, wide(order[i])) {
-            set = set | (1u64 << i);
+            set |= 1u64 << i;
         }
-        i += 1;
     }
     set
 }
@@ -189,10 +166,8 @@ pub fn widen(images: &Images, wide: &mut Wide)
     requires { length wide.old ≡ WIDE }
     ensures { Widened images.now wide.old wide.new }
 {
-    let mut j = 0;
-    while j < IMAGES {
+    for j in 0..IMAGES {
         wide[j] = images[j];
-        j += 1;
     }
 }
 
@@ -206,17 +181,15 @@ fn put_row(
     base: usize,
     images: &mut Wide,
 )
-    requires { ((p : Problem) × BlockRow p rows.now row first m numbers.now) × (base + 192 ≤ WIDE) × (length images.old ≡ WIDE) }
+    requires { ((p : Problem) × BlockRow p rows.now row first m numbers.now) × (base + 192 ≤ WIDE) }
     ensures { (p : Problem) → BlockRow p rows.now row first m numbers.now → RowPut p first m row base images.old
         images.new }
 {
     let d = numbers[VALUES] as usize;
     let size = numbers[VARIABLES] as usize * d;
-    let mut q = 0;
-    while q < size {
+    for q in 0..size {
         let y = moved(rows, row, first, m, numbers, q);
         images[base + pair_code(q, d)] = pair_code(y, d) as u8;
-        q += 1;
     }
 }
 
@@ -225,11 +198,9 @@ fn row_count(m: usize) -> usize
     requires { (2 ≤ m) × (m ≤ 5) }
     ensures { (result ≡ factorial m) × (result ≤ 120) }
 {
-    let mut k = 1;
     let mut count = 1;
-    while k < m {
-        k += 1;
-        count = k * count;
+    for k in 1..m {
+        count *= k + 1;
     }
     count
 }
@@ -243,10 +214,8 @@ fn put_rows(first: usize, m: usize, numbers: &Numbers, images: &mut Wide) -> usi
     let rows = block::rows();
     let g = numbers[SYMMETRIES] as usize;
     let count = row_count(m);
-    let mut row = 0;
-    while row < count {
+    for row in 0..count {
         put_row(&rows, row, first, m, numbers, 192 * (g + row), images);
-        row += 1;
     }
     g + count
 }

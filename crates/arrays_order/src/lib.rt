@@ -6,6 +6,7 @@
 ghost use Rattle.model.specs.Problem.{Problem};
 ghost use Rattle.arrays_order.specs.Inner.Reorder.{Movable, Moved};
 
+use crate::places::Order;
 use arrays::{CONSTRAINTS, Numbers, SYMMETRIES, Supports, VALUES, VARIABLES};
 
 mod constraints;
@@ -27,7 +28,11 @@ pub fn reorder(order: &[u8; 16], numbers: &mut Numbers, supports: &mut Supports,
     let g = numbers[SYMMETRIES] as usize;
     let mut stands = [0u8; 16];
     places::positions(order, n, &mut stands);
-    sets::move_sets(order, n, numbers);
-    images::rename(order, &stands, n, g, images);
+    let order = Order {
+        variables: *order,
+        n,
+    };
+    sets::move_sets(order, numbers);
+    images::rename(order, &stands, g, images);
     constraints::rename(&stands, c, d, numbers, supports);
 }

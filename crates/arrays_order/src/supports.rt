@@ -20,79 +20,72 @@ fn cell(s: u16, w: usize, v: usize) -> u16
 
 // v is added to the columns of the members of its set.
 fn add(s: u16, v: usize, columns: &mut [u16; 16])
-    requires { (v < 16) × (length columns.old ≡ 16) }
+    requires { v < 16 }
     ensures { Filled (λ w. w) (Added s v columns.old) 16 columns.old columns.new }
 {
-    let mut w = 0;
-    while w < 16 {
-        columns[w] = columns[w] | cell(s, w, v);
-        w += 1;
+    for w in 0..16 {
+        columns[w] |= cell(s, w, v);
     }
 }
 
 // For each w the values whose sets have it, of sixteen sets from a base on.
 fn gather(supports: &Supports, base: usize, columns: &mut [u16; 16])
-    requires { (base + 16 ≤ SUPPORTS) × (length columns.old ≡ 16) × ((w : ℕ) → at columns.old w ≡ 0) }
+    requires { (base + 16 ≤ SUPPORTS) × ((w : ℕ) → at columns.old w ≡ 0) }
     ensures { (length columns.new ≡ 16) × ((w : ℕ) → w < 16 → at columns.new w ≡ mask_of
         (λ v. has (at supports.now (base + v)) w)) }
 {
-    let mut v = 0;
-    while v < 16 {
+    for v in 0..16 {
         add(supports[base + v], v, columns);
-        v += 1;
-    }
-}
-
-// The sets with first value v and second w are exchanged with those of w and v, for each w below v.
-fn cross(base: usize, v: usize, supports: &mut Supports)
-    requires { (base + 256 ≤ SUPPORTS) × (v < 16) × (length supports.old ≡ SUPPORTS) }
-    ensures { Crossed base v v supports.old supports.new }
-{
-    let mut w = 0;
-    while w < v {
-        let p = base + (16 * v + w);
-        let q = base + (16 * w + v);
-        let set = supports[p];
-        supports[p] = supports[q];
-        supports[q] = set;
-        w += 1;
-    }
-}
-
-// The first and the second of three values, all below d.
-pub fn swap(base: usize, d: usize, supports: &mut Supports)
-    requires { (base + 256 ≤ SUPPORTS) × (d ≤ 16) × Narrow d base supports.old × (length supports.old ≡ SUPPORTS) }
-    ensures { Swapped base supports.old supports.new }
-{
-    let mut v = 0;
-    while v < d {
-        cross(base, v, supports);
-        v += 1;
     }
 }
 
 // The two values of sixteen sets.
 pub fn transpose(base: usize, supports: &mut Supports)
-    requires { (base + 16 ≤ SUPPORTS) × (length supports.old ≡ SUPPORTS) }
+    requires { base + 16 ≤ SUPPORTS }
     ensures { Transposed base 16 supports.old supports.new }
 {
     let mut columns = [0u16; 16];
     gather(supports, base, &mut columns);
-    let mut w = 0;
-    while w < 16 {
-        supports[base + w] = columns[w];
-        w += 1;
-    }
+    supports[base..base + 16].copy_from_slice(&columns);
 }
 
-// The second and the last of three values, all below d.
-pub fn transpose_each(base: usize, d: usize, supports: &mut Supports)
-    requires { (base + 256 ≤ SUPPORTS) × (d ≤ 16) × Narrow d base supports.old × (length supports.old ≡ SUPPORTS) }
-    ensures { Transposed base 256 supports.old supports.new }
-{
-    let mut v = 0;
-    while v < d {
-        transpose(base + 16 * v, supports);
-        v += 1;
+// A constraint's table: its 256 sets, from a base on, and how many values there are.
+#[derive(Clone, Copy)]
+pub struct Table {
+    pub base: usize,
+    pub values: usize,
+    ghost inside: { base + 256 ≤ SUPPORTS },
+    ghost few: { values ≤ 16 },
+}
+
+impl Table {
+    // The sets with first value v and second w are exchanged with those of w and v, for each w below v.
+    fn cross(self, v: usize, supports: &mut Supports)
+        requires { v < 16 }
+        ensures { Crossed self.base v v supports.old supports.new }
+    {
+        for w in 0..v {
+            supports.swap(self.base + (16 * v + w), self.base + (16 * w + v));
+        }
+    }
+
+    // The first and the second of three values.
+    pub fn swap(self, supports: &mut Supports)
+        requires { Narrow self.values self.base supports.old }
+        ensures { Swapped self.base supports.old supports.new }
+    {
+        for v in 0..self.values {
+            self.cross(v, supports);
+        }
+    }
+
+    // The second and the last of three values.
+    pub fn transpose_each(self, supports: &mut Supports)
+        requires { Narrow self.values self.base supports.old }
+        ensures { Transposed self.base 256 supports.old supports.new }
+    {
+        for v in 0..self.values {
+            transpose(self.base + 16 * v, supports);
+        }
     }
 }

@@ -4,7 +4,7 @@ use Rattle.model.specs.Kit.{ltb-false}
 use Rattle.model.specs.{Lists.at, Lists.either, ValueSets.has, Problem.Problem, Inner.WellFormed.WellFormed, Inner.Filling.Filled}
 use lib.Pow.{pow_mono}
 use Rattle.model.proofs.{Lists.at_set, Lists.at_set_other, Sets.has_lt, Sets.has_mask, Sets.has_at_lt}
-use Rattle.arrays.specs.Inner.Places.{INITIAL, SCOPES, VARIABLES, VALUES, CONSTRAINTS, SYMMETRIES, LINKED, BY_ROWS, OTHERS, LOOSE, LOOKS, NUMBERS}
+use Rattle.arrays.specs.Inner.Places.{INITIAL, SCOPES, VARIABLES, VALUES, CONSTRAINTS, SYMMETRIES, LINKED, BY_ROWS, OTHERS, LOOSE, LOOKS}
 use Rattle.arrays.specs.{Inner.Layout.Numbers, Inner.Tables.goes, Inner.Tables.Rows, Inner.Tables.Linked}
 use Rattle.arrays_tables.specs.{Inner.Index.Compact, Inner.Index.Made, Inner.Steps.Worded, Inner.Steps.SymmetriesStored, Inner.Steps.LinkedFirst}
 use Rattle.arrays_tables.specs.Inner.Steps.{LinkNumbers, RowsSource, LooseTo, LooseSet, LookScopes}
@@ -134,13 +134,10 @@ module _ (p : Problem) (n0 supports images t0 : List ℕ) (c : Compact p n0 supp
     link_bounds = (omega (arith, bounds.0, l.kept VARIABLES (omega arith)), omega (arith, bounds.1, l.kept CONSTRAINTS (omega arith)), omega (arith, bounds.2, l.kept SYMMETRIES (omega arith)))
 
     module _ (r : ℕ) where
-      pub looks_bounds : (at (set n1 LOOSE r) CONSTRAINTS ≤ 32) × (length (set n1 LOOSE r) ≡ NUMBERS)
-      looks_bounds = (omega (arith, link_bounds.1, at_set_other n1 LOOSE r CONSTRAINTS (λ e. omega arith)), length-set n1 LOOSE r ∙ l.size ∙ c.numbers_length)
+      pub looks_bounds : at (set n1 LOOSE r) CONSTRAINTS ≤ 32
+      looks_bounds = omega (arith, link_bounds.1, at_set_other n1 LOOSE r CONSTRAINTS (λ e. omega arith))
 
       module _ {P : ℕ → ℕ → Type 0} {n2 : List ℕ} (k : Filled (λ i. LOOKS + i) P 13 (set n1 LOOSE r) n2) where
-        pub lanes_long : length n2 ≡ NUMBERS
-        lanes_long = k.size ∙ looks_bounds.1
-
         pub lanes_bounds : {supports n4 : List ℕ} → Worded supports n2 n4 → (at n4 VARIABLES ≤ 12) × (at n4 SYMMETRIES ≤ 16)
         lanes_bounds {n4 = n4} s = (omega (arith, link_bounds.0, same VARIABLES (omega arith)), omega (arith, link_bounds.2, same SYMMETRIES (omega arith)))
           where

@@ -43,6 +43,19 @@ other_link i k n = go (leb i k) refl
     go true e = let l = leb-true i k e in e ∙ sym (le-leb (i + 1) k (omega arith))
     go false e = let l = leb-false i k e in e ∙ sym (lt-leb (i + 1) k (omega arith))
 
+-- sixteen sets that were copied out
+pub across_from : (slot : ℕ → ℕ) (base : ℕ) (sets supports old new : List ℕ) → ((v : ℕ) → v < 16 → at sets v ≡ at supports (base + v)) →
+    Filled slot (λ v r. r ≡ at sets v) 16 old new → Filled slot (λ v r. r ≡ at supports (base + v)) 16 old new
+across_from slot base sets supports old new same f = record { size = f.size; here = λ v l. f.here v l ∙ same v l; other = f.other }
+
+pub back_from : (slot : ℕ → ℕ) (base : ℕ) (sets supports old new : List ℕ) → ((v : ℕ) → v < 16 → at sets v ≡ at supports (base + v)) →
+    Filled slot (λ w r. r ≡ mask_of (λ v. has (at sets v) w)) 16 old new → Filled slot (λ w r. r ≡ mask_of (λ v. has (at supports (base + v)) w)) 16 old new
+back_from slot base sets supports old new same f = record {
+  size = f.size;
+  here = λ w l. f.here w l ∙ is_mask _ (λ v. has (at supports (base + v)) w) (mask_lt 16 _) (λ v h. has_mask 16 _ v h ∙ ap (λ (n : ℕ). has n w) (same v h));
+  other = f.other;
+}
+
 goes_other : (p : Problem) (i x v y : ℕ) → (link_of p x y ≡ i → ⊥) → (link_of p y x ≡ i → ⊥) → mask_of (goes_to p i x v y) ≡ mask_of (goes_to p (i + 1) x v y)
 goes_other p i x v y m n = ap mask_of (fun_ext (λ w. go w (ltb x y)))
   where

@@ -1,9 +1,11 @@
 -- The scope of a constraint on two variables, as the numbers hold it. Assumes nothing.
-use Rattle.model.specs.Kit.{◌≡◌, refl, sym, ap, ◌∙◌, subst, Bool, true, false, List, [], ◌∷◌, ℕ, ◌+◌, ◌*◌, ◌/◌, ◌%◌, ◌<◌, arith, ℕ_discrete, T, eqb, length, eq-eqb, ne_eqb}
+use Rattle.model.specs.Kit.{◌≡◌, refl, sym, ap, ◌∙◌, subst, Bool, true, false, List, [], ◌∷◌, ℕ, ◌+◌, ◌*◌, ◌/◌, ◌%◌, ◌<◌, arith, T, eqb, length, eq-eqb, ne_eqb}
+use Rattle.std.specs.Bool.{MatchBool}
+use Rattle.std.specs.List.{between, AllWithin, HoldsAt}
 use Rattle.model.specs.{Lists.at, Lists.same, Lists.both, Problem.Problem, Problem.constraint_at}
 use Rattle.model.proofs.{Lists.of_T, Lists.of_not, Lists.not_of, Lists.same_eq, Lists.same_refl, Lists.list_2, Masks.least_at, Masks.least_below}
 use Rattle.arrays.specs.{Inner.Places.SCOPES, Inner.Layout.Numbers, Inner.Tables.link_of, Inner.Tables.is_by_rows}
-use Rattle.arrays.proofs.Links.{by_rows_link}
+use Rattle.arrays.proofs.{Copies.copied_at, Links.by_rows_link}
 
 -- ---- as the numbers hold it
 first_byte : (n : ℕ) → n / 256 % 256 ≡ n % 16777216 / 256 % 256
@@ -74,10 +76,12 @@ module _ (p : Problem) (numbers : List ℕ) (nb : Numbers p numbers) where
           (λ j l. not_of _ (λ t. n j l (same_number j (omega arith) (same_eq _ _ t))))
           (of_T _ (subst (λ (s : List ℕ). T (same (constraint_at p k).scope s)) scope (same_refl (constraint_at p k).scope)))))
 
--- none of the first i, and not the next
-pub none_more : (f : ℕ → ℕ) (z i : ℕ) → ((j : ℕ) → j < i → f j ≡ z → ⊥) → (f i ≡ z → ⊥) → (j : ℕ) → j < i + 1 → f j ≡ z → ⊥
-none_more f z i n m j l e = go (ℕ_discrete j i)
-  where
-    go : Dec (j ≡ i) → ⊥
-    go (yes q) = m (ap f (sym q) ∙ e)
-    go (no k) = n j (omega arith) e
+      -- the code's search of the numbers before
+      pub first_search : (part : List ℕ) (r : Bool) → part ≡ between SCOPES (SCOPES + k) numbers → length part ≡ k →
+          MatchBool r (AllWithin (λ n. n % 16777216 ≡ at numbers (SCOPES + k) % 16777216 → ⊥) part 0 (length part))
+          ((i : ℕ) × (i < length part) × HoldsAt (λ n. n % 16777216 ≡ at numbers (SCOPES + k) % 16777216) part i) → r ≡ is_by_rows p k
+      unfolding at
+      first_search part true q n f = first_yes (λ i l z. f i 0 (omega arith) (omega arith) (ap (λ (m : ℕ). m % 16777216) (copied_at numbers part SCOPES k i q l) ∙ z))
+      first_search part false q n f =
+          let l : f.0 < k = omega (arith, f.1) in
+          first_no f.0 l (ap (λ (m : ℕ). m % 16777216) (sym (copied_at numbers part SCOPES k f.0 q l)) ∙ f.2 0)

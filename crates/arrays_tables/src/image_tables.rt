@@ -1,5 +1,5 @@
 // For each symmetry and pair its image, and the sets of the images of the variable's smaller values.
-ghost use Rattle.std.specs.Prelude.{◌≡◌, List, ℕ, ◌+◌, ◌≤◌, ◌<◌, length};
+ghost use Rattle.std.specs.Prelude.{◌≡◌, List, ℕ, ◌+◌, ◌≤◌, ◌<◌};
 ghost use Rattle.model.specs.Lists.{at};
 ghost use Rattle.model.specs.Inner.Filling.{Filled};
 ghost use Rattle.arrays.specs.Inner.Places.{VARIABLES, SYMMETRIES, TABLES};
@@ -11,14 +11,10 @@ use model::ValueSet;
 
 // Sixteen sets into the tables.
 fn store_sets(tables: &mut Tables, from: usize, sets: &[u16; 16])
-    requires { (from + 16 ≤ TABLES) × (length tables.old ≡ TABLES) }
+    requires { from + 16 ≤ TABLES }
     ensures { Filled (λ i. from + i) (λ i r. r ≡ at sets.now i) 16 tables.old tables.new }
 {
-    let mut i = 0;
-    while i < 16 {
-        tables[from + i] = sets[i];
-        i += 1;
-    }
+    tables[from..from + 16].copy_from_slice(sets);
 }
 
 // Read by a function, whose result is known to be a byte.
@@ -38,7 +34,7 @@ fn pair(
     tables: &mut Tables,
     sets: &mut [u16; 16],
 )
-    requires { (from + 16 ≤ 3072) × (v < 16) × (length tables.old ≡ TABLES) × (length sets.old ≡ 16) }
+    requires { (from + 16 ≤ 3072) × (v < 16) }
     ensures { (old : List ℕ) → PairsStored images.now m.bits from v old tables.old sets.old → PairsStored
         images.now m.bits from (v + 1) old tables.new sets.new }
 {
@@ -57,41 +53,35 @@ fn pair(
 
 // The pairs of a variable whose initial set is m.
 fn variable(images: &Images, m: ValueSet, from: usize, tables: &mut Tables)
-    requires { (from + 16 ≤ 3072) × (length tables.old ≡ TABLES) }
+    requires { from + 16 ≤ 3072 }
     ensures { VariableStored images.now m.bits from tables.new × EarlierKept from tables.old tables.new }
 {
     let mut sets = [0u16; 16];
-    let mut v = 0u16;
-    while v < 16 {
+    for v in 0..16 {
         pair(images, m, from, v, tables, &mut sets);
-        v += 1;
     }
 }
 
 // The pairs of the symmetry whose images start there.
 fn symmetry(numbers: &Numbers, images: &Images, from: usize, tables: &mut Tables)
-    requires { (from + 192 ≤ 3072) × (at numbers.now VARIABLES ≤ 12) × (length tables.old ≡ TABLES) }
+    requires { (from + 192 ≤ 3072) × (at numbers.now VARIABLES ≤ 12) }
     ensures { SymmetryStored numbers.now images.now from (at numbers.now VARIABLES) tables.old
         tables.new }
 {
     let n = numbers[VARIABLES] as usize;
-    let mut x = 0;
-    while x < n {
+    for x in 0..n {
         variable(images, initial(numbers, x), from + 16 * x, tables);
-        x += 1;
     }
 }
 
 // The pairs of every symmetry.
 pub fn image_tables(numbers: &Numbers, images: &Images, tables: &mut Tables)
-    requires { (at numbers.now VARIABLES ≤ 12) × (at numbers.now SYMMETRIES ≤ 16) × (length tables.old ≡ TABLES) }
+    requires { (at numbers.now VARIABLES ≤ 12) × (at numbers.now SYMMETRIES ≤ 16) }
     ensures { SymmetriesStored numbers.now images.now (at numbers.now VARIABLES)
         (at numbers.now SYMMETRIES) tables.old tables.new }
 {
     let g = numbers[SYMMETRIES] as usize;
-    let mut e = 0;
-    while e < g {
+    for e in 0..g {
         symmetry(numbers, images, 192 * e, tables);
-        e += 1;
     }
 }

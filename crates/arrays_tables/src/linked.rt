@@ -4,7 +4,7 @@ ghost use Rattle.std.specs.Int.Bits.{bit_and};
 ghost use Rattle.model.specs.Lists.{at};
 ghost use Rattle.model.specs.Problem.{Problem};
 ghost use Rattle.model.specs.Inner.Filling.{Filled, Gathered};
-ghost use Rattle.arrays.specs.Inner.Places.{VARIABLES, CONSTRAINTS, OTHERS, NUMBERS};
+ghost use Rattle.arrays.specs.Inner.Places.{VARIABLES, CONSTRAINTS, OTHERS};
 ghost use Rattle.arrays.specs.Inner.Layout.{Numbers};
 ghost use Rattle.arrays.specs.Inner.Tables.{is_by_rows};
 ghost use Rattle.arrays_tables.specs.Inner.Steps.{LinkNumbers};
@@ -18,17 +18,10 @@ fn first(numbers: &Numbers, k: usize) -> bool
     ensures { (p : Problem) → Numbers p numbers.now → k < length p.constraints → result ≡ is_by_rows p k }
 {
     let w = numbers[SCOPES + k] % 16777216;
-    if arity(w) != 2 {
-        return false;
-    }
-    let mut i = 0;
-    while i < k {
-        if numbers[SCOPES + i] % 16777216 == w {
-            return false;
-        }
-        i += 1;
-    }
-    true
+    arity(w) == 2
+        && numbers[SCOPES..SCOPES + k]
+            .iter()
+            .all(|other| *other % 16777216 != w)
 }
 
 // The set of all such constraints.
@@ -38,10 +31,8 @@ fn all_first(numbers: &Numbers) -> u64
 {
     let c = numbers[CONSTRAINTS] as usize;
     let mut all = 0u64;
-    let mut k = 0;
-    while k < c {
-        all = all | one_if(first(numbers, k), k);
-        k += 1;
+    for k in 0..c {
+        all |= one_if(first(numbers, k), k);
     }
     all
 }
@@ -53,30 +44,25 @@ fn variables_of(numbers: &Numbers, set: u64) -> u64
 {
     let n = numbers[VARIABLES] as usize;
     let mut all = 0u64;
-    let mut x = 0;
-    while x < n {
-        all = all | one_if(numbers[x] & set != 0, x);
-        x += 1;
+    for x in 0..n {
+        all |= one_if(numbers[x] & set != 0, x);
     }
     all
 }
 
 // For each variable the constraints outside a set that have it in their scope.
 fn others(numbers: &mut Numbers, set: u64)
-    requires { length numbers.old ≡ NUMBERS }
     ensures { Filled (λ x. OTHERS + x) (λ x r. r ≡ bit_and (at numbers.old x) ((2 ^ 64 - 1) - set)) 16 numbers.old
         numbers.new }
 {
-    let mut x = 0;
-    while x < 16 {
+    for x in 0..16 {
         numbers[OTHERS + x] = numbers[x] & !set;
-        x += 1;
     }
 }
 
 // The linked variables, the constraints pruned by variable, and each variable's other constraints.
 pub fn linked(numbers: &mut Numbers)
-    requires { (at numbers.old VARIABLES ≤ 12) × (at numbers.old CONSTRAINTS ≤ 32) × (length numbers.old ≡ NUMBERS) }
+    requires { (at numbers.old VARIABLES ≤ 12) × (at numbers.old CONSTRAINTS ≤ 32) }
     ensures { LinkNumbers numbers.old numbers.new }
 {
     let set = all_first(numbers);

@@ -1,8 +1,8 @@
 // The constraints on three variables whose first two are settled at a depth: one look-up for the third.
-ghost use Rattle.std.specs.Prelude.{◌≡◌, ◌+◌, ◌≤◌, length};
+ghost use Rattle.std.specs.Prelude.{◌+◌, ◌≤◌};
 ghost use Rattle.model.specs.Lists.{at};
 ghost use Rattle.model.specs.Inner.Filling.{Filled};
-ghost use Rattle.arrays.specs.Inner.Places.{CONSTRAINTS, LOOKS, NUMBERS};
+ghost use Rattle.arrays.specs.Inner.Places.{CONSTRAINTS, LOOKS};
 ghost use Rattle.arrays_tables.specs.Inner.Steps.{LookScopes};
 
 use crate::sets::one_if;
@@ -20,23 +20,19 @@ fn at_depth(numbers: &Numbers, k: usize) -> u64
     let c = numbers[CONSTRAINTS] as usize;
     let key = 3 + 256 * k;
     let mut all = 0u64;
-    let mut i = 0;
-    while i < c {
+    for i in 0..c {
         let w = numbers[SCOPES + i];
-        all = all | one_if(arity(w) + 256 * (scope_at(w, 1) + 1) == key, i);
-        i += 1;
+        all |= one_if(arity(w) + 256 * (scope_at(w, 1) + 1) == key, i);
     }
     all
 }
 
 // A set for each of thirteen depths.
 pub fn looks(numbers: &mut Numbers)
-    requires { (at numbers.old CONSTRAINTS ≤ 32) × (length numbers.old ≡ NUMBERS) }
+    requires { at numbers.old CONSTRAINTS ≤ 32 }
     ensures { Filled (λ k. LOOKS + k) (LookScopes numbers.old) 13 numbers.old numbers.new }
 {
-    let mut k = 0;
-    while k < 13 {
+    for k in 0..13 {
         numbers[LOOKS + k] = at_depth(numbers, k);
-        k += 1;
     }
 }

@@ -28,12 +28,10 @@ fn twice(tables: &Tables, m: ValueSet, from: usize) -> ValueSet
 {
     let mut once = ValueSet::EMPTY;
     let mut all = ValueSet::EMPTY;
-    let mut v = 0u16;
-    while v < 16 {
+    for v in 0..16 {
         let r = refused(tables, m, from, v);
         all = all.union(once.common(r));
         once = once.union(r);
-        v += 1;
     }
     all
 }
@@ -45,13 +43,11 @@ fn is_loose(numbers: &Numbers, tables: &Tables, x: usize) -> bool
 {
     let n = numbers[VARIABLES] as usize;
     let m = initial(numbers, x);
-    let mut y = 0;
-    while y < n {
+    for y in 0..n {
         let lost = twice(tables, m, 256 * x + y).common(initial(numbers, y));
         if !lost.is_empty() {
             return false;
         }
-        y += 1;
     }
     true
 }
@@ -63,10 +59,8 @@ pub fn loose(numbers: &Numbers, tables: &Tables) -> u64
 {
     let n = numbers[VARIABLES] as usize;
     let mut all = 0u64;
-    let mut x = 0;
-    while x < n {
-        all = all | one_if(is_loose(numbers, tables, x), x);
-        x += 1;
+    for x in 0..n {
+        all |= one_if(is_loose(numbers, tables, x), x);
     }
     all
 }

@@ -1,9 +1,9 @@
 // Unions of support sets of constraints on three variables: for each constraint, each half of eight values and each set of four.
-ghost use Rattle.std.specs.Prelude.{◌≡◌, ◌+◌, ◌*◌, ◌/◌, ◌%◌, ◌≤◌, ◌<◌, length};
+ghost use Rattle.std.specs.Prelude.{◌≡◌, ◌+◌, ◌*◌, ◌/◌, ◌%◌, ◌≤◌, ◌<◌};
 ghost use Rattle.model.specs.Lists.{at, choose};
 ghost use Rattle.model.specs.ValueSets.{has};
 ghost use Rattle.model.specs.Inner.Filling.{Filled};
-ghost use Rattle.arrays.specs.Inner.Places.{UNIONS, NUMBERS};
+ghost use Rattle.arrays.specs.Inner.Places.{UNIONS};
 ghost use Rattle.arrays_tables.specs.Inner.Steps.{United, Unioned, Unions};
 
 use crate::sets::contains;
@@ -30,32 +30,27 @@ fn union(words: &[u64; 16], base: usize, m: u64) -> u64
 
 // The 64 unions of constraint k, sixteen for each four of its numbers.
 fn unite(supports: &Supports, numbers: &mut Numbers, k: usize)
-    requires { (k < 32) × (length numbers.old ≡ NUMBERS) }
+    requires { k < 32 }
     ensures { Filled (λ c. UNIONS + 64 * k + c) (λ c. Unioned supports.now k (c / 16) (c % 16)) 64 numbers.old
         numbers.new }
 {
     let mut made = [0u64; 16];
     words(supports, k, &mut made);
-    let mut c = 0;
-    while c < 64 {
+    for c in 0..64 {
         numbers[UNIONS + 64 * k + c] = union(&made, 4 * (c / 16), (c % 16) as u64);
-        c += 1;
     }
 }
 
 // The unions of the constraints on three variables, and how many of these there are.
 pub fn unions(supports: &Supports, numbers: &mut Numbers) -> usize
-    requires { length numbers.old ≡ NUMBERS }
     ensures { Unions supports.now 32 numbers.old numbers.new result }
 {
     let mut some = 0;
-    let mut k = 0;
-    while k < 32 {
+    for k in 0..32 {
         if arity(numbers[SCOPES + k]) == 3 {
             unite(supports, numbers, k);
             some += 1;
         }
-        k += 1;
     }
     some
 }

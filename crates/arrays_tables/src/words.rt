@@ -1,5 +1,5 @@
 // Support sets of constraints on three variables, eight values of eight sets in one number.
-ghost use Rattle.std.specs.Prelude.{◌≡◌, ℕ, ◌+◌, ◌*◌, ◌≤◌, ◌<◌, length};
+ghost use Rattle.std.specs.Prelude.{ℕ, ◌+◌, ◌*◌, ◌≤◌, ◌<◌};
 ghost use Rattle.model.specs.Lists.{at};
 ghost use Rattle.model.specs.Inner.Filling.{Filled};
 ghost use Rattle.arrays.specs.Inner.Places.{SUPPORTS};
@@ -16,10 +16,8 @@ fn lanes(supports: &Supports, base: usize) -> u64
     ensures { Lanes (λ u. at supports.now (base + 16 * u)) result }
 {
     let mut all = 0u64;
-    let mut t = 0;
-    while t < 8 {
+    for t in 0..8 {
         all = 256 * all + ((supports[base + 16 * (7 - t)] & 255) as u64);
-        t += 1;
     }
     all
 }
@@ -30,10 +28,8 @@ fn turned(words: &[u64; 16], w: usize) -> u64
     ensures { Turned (at words.now) w result }
 {
     let mut all = 0u64;
-    let mut t = 0;
-    while t < 8 {
+    for t in 0..8 {
         all = (2 * all) | ((words[7 - t] >> w) & ONES);
-        t += 1;
     }
     all
 }
@@ -54,12 +50,10 @@ fn word(supports: &Supports, made: &[u64; 16], k: usize, n: usize) -> u64
 
 // The sixteen numbers of constraint k.
 pub fn words(supports: &Supports, k: usize, made: &mut [u64; 16])
-    requires { (k < 32) × (length made.old ≡ 16) }
+    requires { k < 32 }
     ensures { Filled (λ n. n) (Word supports.now k) 16 made.old made.new }
 {
-    let mut n = 0;
-    while n < 16 {
+    for n in 0..16 {
         made[n] = word(supports, made, k, n);
-        n += 1;
     }
 }

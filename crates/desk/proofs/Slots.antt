@@ -1,6 +1,7 @@
 -- What the queue's bytes mean (specs/Inner/Layout), slot by slot, and what the answers come to. Assumes nothing.
 use Rattle.model.specs.Kit.{◌≡◌, refl, sym, ap, ap₂, ◌∙◌, subst, Bool, true, false, List, ◌++◌, map, ℕ, zero, suc, ◌+◌, ◌*◌, ◌^◌, ◌≤◌, ◌<◌, suc-mul, arith, eqb, length, take, drop, set, get_or}
-use Rattle.model.specs.Kit.{length-drop, length-take-le, lt-ltb, le-ltb, le-leb, lt-leb, eq-eqb, ne_eqb, eqb-true, eqb-false}
+use Rattle.model.specs.Kit.{length-drop, length-take-le, le-leb, lt-leb, eq-eqb, ne_eqb, eqb-true, eqb-false}
+use Rattle.std.proofs.Common.{Option, Some, None, MatchOption, IfSome}
 use Rattle.model.specs.Lists.{at, choose, flat, below, up_from}
 use Rattle.model.specs.{Verdict.Verdict, Verdict.accepted, Verdict.refused, Sheet.«word», Sheet.verdict_of, Written.placed, Run.listed_plans, Run.written}
 use native.Mathlib.Nat.{zero-add, zero-mul}
@@ -83,24 +84,15 @@ module _ (b : List ℕ) where
   unfolding test
   test_no k h n = ap is_free (slot_in k h ∙ taken_at k n)
 
-  pub lowest_is : (k : ℕ) → k < 8 → ((j : ℕ) → j < k → at b (slot_place j) ≡ 0 → ⊥) → at b (slot_place k) ≡ 0 → found k ≡ lowest_free (queue_of b)
+  -- what a search through the slots answers
+  pub lowest_found : (r : Option ℕ) → MatchOption r ((k : ℕ) → 0 ≤ k → k < 8 → at b (slot_place k) ≡ 0 → ⊥)
+      (λ i. (0 ≤ i) × (i < 8) × (at b (slot_place i) ≡ 0) × ((k : ℕ) → 0 ≤ k → k < i → at b (slot_place k) ≡ 0 → ⊥)) →
+      (found r ≡ lowest_free (queue_of b)) × IfSome r (λ k. k < 8)
   unfolding test below up_from
-  lowest_is k h f e =
-      ap (λ (t : Bool). choose t (slot k) none_found) (lt-ltb k 8 h)
-      ∙ sym (first_at test (λ i. i) 8 0 k (omega arith) (omega arith) (λ j i m. test_no j (omega arith) (f j m)) (test_yes k h e))
-
-  pub lowest_none : (k : ℕ) → 8 ≤ k → ((j : ℕ) → j < 8 → at b (slot_place j) ≡ 0 → ⊥) → found k ≡ lowest_free (queue_of b)
-  unfolding test
-  lowest_none k h f =
-      ap (λ (t : Bool). choose t (slot k) none_found) (le-ltb k 8 h) ∙ sym (none_first test (below 8) (λ j m. let l = below_e 8 j m in test_no j l (f j l)))
-
--- one slot more is taken
-pub more_taken : (b : List ℕ) (k : ℕ) → ((j : ℕ) → j < k → at b (slot_place j) ≡ 0 → ⊥) → (at b (slot_place k) ≡ 0 → ⊥) → (j : ℕ) → j < k + 1 → at b (slot_place j) ≡ 0 → ⊥
-more_taken b k f n j h = go (eqb j k) refl
-  where
-    go : (t : Bool) → eqb j k ≡ t → at b (slot_place j) ≡ 0 → ⊥
-    go true e z = n (ap (λ (i : ℕ). at b (slot_place i)) (sym (eqb-true j k e)) ∙ z)
-    go false e z = let d = eqb-false j k e in f j (omega arith) z
+  lowest_found None f = (sym (none_first test (below 8) (λ j m. let l = below_e 8 j m in test_no j l (f j (omega arith) l))), tt)
+  lowest_found (Some k) f =
+      let h : k < 8 = f.1 in
+      (sym (first_at test (λ i. i) 8 0 k (omega arith) (omega arith) (λ j i m. test_no j (omega arith) (f.3 j (omega arith) m)) (test_yes k h f.2)), h)
 
 -- ---- the lent bytes have the queue's size, or not
 module _ (b : List ℕ) (x : QueueCall) where
@@ -136,21 +128,15 @@ module _ (b sheet : List ℕ) (limit : ℕ) where
       sym (bytes_whole b (submit sheet limit) whole ∙ ap₂ (λ (x : Found) (y : Verdict). submit_bytes x y b (slot_bytes sheet limit)) e g),
     )
 
-    found_8 : (k : ℕ) → 8 ≤ k → found k ≡ none_found
-    found_8 k h = ap (λ (t : Bool). choose t (slot k) none_found) (le-ltb k 8 h)
+    pub submit_37 : none_found ≡ lowest_free (queue_of b) → Submits (refusal 37 0) b
+    submit_37 e = by none_found (verdict_of sheet) (sym e) refl
 
-    found_k : (k : ℕ) → k < 8 → found k ≡ slot k
-    found_k k h = ap (λ (t : Bool). choose t (slot k) none_found) (lt-ltb k 8 h)
+    pub submit_refused : (k number item : ℕ) → slot k ≡ lowest_free (queue_of b) → refused number item ≡ verdict_of sheet → Submits (refusal number item) b
+    submit_refused k number item e v = by (slot k) (refused number item) (sym e) (sym v)
 
-    pub submit_37 : (k : ℕ) → found k ≡ lowest_free (queue_of b) → 8 ≤ k → Submits (refusal 37 0) b
-    submit_37 k e h = by none_found (verdict_of sheet) (sym e ∙ found_8 k h) refl
-
-    pub submit_refused : (k number item : ℕ) → found k ≡ lowest_free (queue_of b) → k < 8 → refused number item ≡ verdict_of sheet → Submits (refusal number item) b
-    submit_refused k number item e h v = by (slot k) (refused number item) (sym e ∙ found_k k h) (sym v)
-
-    pub submit_yes : (k : ℕ) (c : List ℕ) → found k ≡ lowest_free (queue_of b) → k < 8 → accepted ≡ verdict_of sheet → c ≡ placed b (slot_place k) (slot_bytes sheet limit) →
+    pub submit_yes : (k : ℕ) (c : List ℕ) → slot k ≡ lowest_free (queue_of b) → accepted ≡ verdict_of sheet → c ≡ placed b (slot_place k) (slot_bytes sheet limit) →
         Submits (answered (queued k)) c
-    submit_yes k c e h v q = let r = by (slot k) accepted (sym e ∙ found_k k h) (sym v) in (r.0, q ∙ r.1)
+    submit_yes k c e v q = let r = by (slot k) accepted (sym e) (sym v) in (r.0, q ∙ r.1)
 
 -- ---- the status
 module _ (b : List ℕ) (k : ℕ) where

@@ -1,11 +1,12 @@
 -- What callers of `status` hold: the contract, and what it says of the bytes. b are the queue's bytes, r came back.
-use Rattle.std.specs.Prelude.{◌≡◌, List, [], ℕ, length}
-use Rattle.desk.specs.{Queue.refusal, Queue.size, Status.status_reply, Status.no_counts, Status.status_counts, Inner.Layout.queue_of, Inner.Layout.status_on, Inner.Layout.counts_on, Meaning.means}
-use Rattle.desk.specs.{declared.SlotStatus.SlotStatus}
+use Rattle.std.specs.Prelude.{◌≡◌, List, ℕ, Result, length}
+use Rattle.model.specs.declared.{refusals.Question.Question}
+use Rattle.desk.specs.{Queue.refusal, Queue.size, Status.status_reply, Status.no_counts, Status.status_counts, Inner.Layout.queue_of, Inner.Layout.status_on, Inner.Layout.counts_on}
+use Rattle.desk.specs.{Meaning.means_status, Meaning.counts_of, declared.SlotStatus.SlotStatus}
 
-pub record StatusDone (b : List ℕ) (slot : ℕ) (r : SlotStatus) : Type 0 where
-  pub answers : means r.answer [] ≡ status_on b slot
-  pub counts : r.counts ≡ counts_on b slot
+pub record StatusDone (b : List ℕ) (slot : ℕ) (r : Result SlotStatus Question) : Type 0 where
+  pub answers : means_status r ≡ status_on b slot
+  pub counts : counts_of r ≡ counts_on b slot
 
 -- the status on bytes is that of the queue that they mean
 abbrev pub StatusCall : Type 0

@@ -47,35 +47,19 @@ pub const SHEET_BYTES: usize = 55656;
 // Where the byte stands that says where the next turn begins to look.
 pub const NEXT: usize = 839064;
 
-#[derive(Clone, Copy)]
-pub enum Answer {
-    Queued {
-        slot: usize,
-    },
-    // No run waits for a turn.
-    Idle,
-    // How a slot stands: 0 running, 1 finished, 2 spent, 3 full; its plans and its nodes so far.
-    Stands {
-        slot: usize,
-        standing: u8,
-        plans: usize,
-        nodes: usize,
-    },
-    // The bytes written to the lent room.
-    Released {
-        bytes: usize,
-    },
-    // 255 where the queue has not QUEUE_BYTES bytes.
-    Refused {
-        number: u8,
-        item: usize,
-    },
+// How a slot stands: 0 running, 1 finished, 2 spent, 3 full; its plans and its nodes so far.
+#[derive(Clone, Copy, Debug, PartialEq, Eq)]
+pub struct Stands {
+    pub slot: usize,
+    pub standing: u8,
+    pub plans: usize,
+    pub nodes: usize,
 }
 
-// How a slot stands, and its nodes by variable: twelve counts, 0 after a refusal.
-#[derive(Clone, Copy)]
+// How a slot stands, and its nodes by variable: twelve counts.
+#[derive(Clone, Copy, Debug, PartialEq, Eq)]
 pub struct SlotStatus {
-    pub answer: Answer,
+    pub stands: Stands,
     pub counts: [u32; 12],
 }
 
@@ -84,11 +68,7 @@ pub fn bounded(queue: &[u8], at: usize, most: usize) -> usize
     requires { at + 1 < length queue.now }
     ensures { result ≡ min most («word» queue.now at) }
 {
-    let n = reader::read_word(queue, at);
-    if most < n {
-        return most;
-    }
-    n
+    reader::read_word(queue, at).min(most)
 }
 
 // The number in four bytes at an offset.
@@ -106,10 +86,7 @@ pub fn nodes_at(queue: &[u8], p: usize) -> usize
 {
     let limit = read_long(queue, p + LIMIT);
     let made = read_long(queue, p + NODES);
-    if limit < made {
-        return limit;
-    }
-    made
+    made.min(limit)
 }
 
 // The byte at an offset, but at most a bound.
@@ -117,21 +94,14 @@ pub fn byte(queue: &[u8], offset: usize, most: u8) -> u8
     requires { offset < length queue.now }
     ensures { result ≡ min most (at queue.now offset) }
 {
-    let b = queue[offset];
-    if most < b {
-        return most;
-    }
-    b
+    queue[offset].min(most)
 }
 
 // The lesser of a number and another of 32 bits.
 fn capped(n: usize, most: u32) -> u32
     ensures { result ≡ min most n }
 {
-    if n < most as usize {
-        return n as u32;
-    }
-    most
+    n.min(most as usize) as u32
 }
 
 // The nodes by variable of the slot at p, none of them more than all its nodes.
@@ -141,10 +111,8 @@ pub fn counts_at(queue: &[u8], p: usize) -> [u32; 12]
 {
     let nodes = nodes_at(queue, p) as u32;
     let mut counts = [0u32; 12];
-    let mut x = 0;
-    while x < 12 {
+    for x in 0..12 {
         counts[x] = capped(read_long(queue, p + COUNTS + 4 * x), nodes);
-        x += 1;
     }
     counts
 }

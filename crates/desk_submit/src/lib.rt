@@ -1,7 +1,7 @@
 // A job into the lowest free slot (paper 02, #113). What any bytes mean: crate desk.
 #![tactic(auto)]
 
-ghost use Rattle.std.specs.Prelude.{◌≡◌, ◌+◌, ◌≤◌, length};
+ghost use Rattle.std.specs.Prelude.{◌≡◌, ◌+◌, ◌≤◌, ◌<◌, IfSome, length};
 ghost use Rattle.model.specs.Written.{placed};
 ghost use Rattle.desk.specs.Inner.Places.{SHEET, SHEET_BYTES};
 ghost use Rattle.desk.specs.Queue.{size, lowest_free};
@@ -9,22 +9,17 @@ ghost use Rattle.desk.specs.Inner.Layout.{slot_bytes, queue_of};
 ghost use Rattle.desk.specs.Inner.Finding.{found};
 ghost use Rattle.desk.specs.Calls.{SubmitDone};
 
-use desk::{Answer, LENGTH, LIMIT, QUEUE_BYTES, SHEET, SLOT};
+use desk::{LENGTH, LIMIT, QUEUE_BYTES, SHEET, SLOT};
+use model::refusals::{Question, Refusal};
 use wire::{four, place};
 
-// The lowest free slot, or 8.
-fn lowest_free(queue: &[u8]) -> usize
+// The lowest free slot.
+fn lowest_free(queue: &[u8]) -> Option<usize>
     requires { length queue.now ≡ size }
-    ensures { found result ≡ lowest_free (queue_of queue.now) }
+    ensures slot { found result ≡ lowest_free (queue_of queue.now) }
+    ensures inside { IfSome result (λ k. k < 8) }
 {
-    let mut k = 0;
-    while k < 8 {
-        if queue[SLOT * k] == 0 {
-            return k;
-        }
-        k += 1;
-    }
-    k
+    (0..8).find(|&k| queue[SLOT * k] == 0)
 }
 
 // Puts a new job's sheet and limit into the slot at p, whose run stands at its start.
@@ -42,27 +37,17 @@ fn fill(queue: &mut [u8], p: usize, sheet: &[u8], limit: u32)
     place(sheet, queue, p + SHEET);
 }
 
-// Puts a job, a sheet and a limit (the paper's allowance), into the lowest free slot.
-pub fn submit(queue: &mut [u8], sheet: &[u8], limit: u32) -> Answer
+// Puts a job, a sheet and a limit (the paper's allowance), into the lowest free slot; answers the slot.
+pub fn submit(queue: &mut [u8], sheet: &[u8], limit: u32) -> Result<usize, Refusal>
     ensures { SubmitDone queue.old sheet.now limit queue.new result }
 {
     if queue.len() != QUEUE_BYTES {
-        return Answer::Refused {
-            number: 255,
-            item: 0,
-        };
+        return Err(Question::BufferLength.into());
     }
-    let k = lowest_free(queue);
-    if 8 <= k {
-        return Answer::Refused {
-            number: 37,
-            item: 0,
-        };
-    }
-    let asked = sheet::question(sheet);
-    if let sheet::Answer::Refused { number, item } = asked {
-        return Answer::Refused { number, item };
-    }
+    let Some(k) = lowest_free(queue) else {
+        return Err(Question::FreeSeat.into());
+    };
+    sheet::question(sheet)?;
     fill(queue, SLOT * k, sheet, limit);
-    Answer::Queued { slot: k }
+    Ok(k)
 }

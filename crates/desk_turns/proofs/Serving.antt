@@ -1,5 +1,5 @@
 -- A slot that was given turns, and a turn. Assumes nothing.
-use Rattle.model.specs.Kit.{◌≡◌, refl, sym, ap, ap₂, ◌∙◌, subst, Bool, true, List, ℕ, zero, suc, ◌+◌, ◌-◌, ◌*◌, ◌/◌, ◌%◌, ◌^◌, ◌≤◌, ◌<◌, min, arith, T, length, set, length-take, lt-ltb, le-ltb}
+use Rattle.model.specs.Kit.{◌≡◌, refl, sym, ap, ap₂, ◌∙◌, subst, Bool, true, List, ℕ, zero, suc, ◌+◌, ◌-◌, ◌*◌, ◌/◌, ◌%◌, ◌^◌, ◌≤◌, ◌<◌, min, arith, T, length, set, length-take}
 use Rattle.model.specs.{Lists.at, Lists.flat, Lists.choose, Written.placed, Run.Ending, Run.finished, Run.spent, Run.full, Run.nodes_in, Run.Result, Run.Tally, Run.settled_by, Run.counts_by}
 use Rattle.model.proofs.{Lists.T_of, Lists.of_T, Written.length_placed, Written.placed_then, Tally.length_counts, Tally.count_most}
 use Rattle.run_state.specs.{Inner.Pair.prefix_of, Inner.Walk.stop_in}
@@ -9,7 +9,6 @@ use Rattle.desk.specs.Queue.{to_serve}
 use Rattle.desk.specs.Queue.{turn, QueueReply, idle, served, served_as, turn_reply, refusal, answered, size, standing_by}
 use Rattle.desk.specs.{Rounds.turned, Rounds.due, Rounds.given, Inner.Places.LIMIT, Inner.Places.STANDING, Inner.Places.COUNTS, Inner.Places.LIST, Inner.Places.NEXT, Claims.QueueBytes}
 use Rattle.desk.specs.Inner.Layout.{slot_place, long, nodes_at, counts_at, job_at, slot_of, queue_of, standing_byte, state_bytes, count_bytes, run_bytes, with_run, turn_bytes, reply_on, bytes_after}
-use Rattle.desk.specs.Inner.Finding.{found}
 use Rattle.desk.proofs.Slots.{long_small, slot_in, free_at, taken_at, reply_whole, reply_wrong, bytes_whole, bytes_wrong}
 use Rattle.desk.proofs.Stretch.{stretch_limit, stretch, turns_for, Stretched, stretched}
 use Rattle.desk.proofs.{Queue.first_in, Bytes.placed_apart, Turning.Fits, Turning.at_fits, Turned.state_length, Turned.run_length, Turned.text_length, Counts.counts_most, RoundCalls.turns_fit}
@@ -169,12 +168,12 @@ module _ (b : List ℕ) where
     by : (f : Found) → to_serve (queue_of b) ≡ f → Turned (turn_reply f (queue_of b)) (turn_bytes f b)
     by f e = (sym (reply_whole b turn whole ∙ ap (λ (x : Found). turn_reply x (queue_of b)) e), sym (bytes_whole b turn whole ∙ ap (λ (x : Found). turn_bytes x b) e))
 
-    pub turn_idle : (k : ℕ) → found k ≡ to_serve (queue_of b) → 8 ≤ k → Turned (answered idle) b
-    turn_idle k e h = by none_found (sym e ∙ ap (λ (t : Bool). choose t (slot k) none_found) (le-ltb k 8 h))
+    pub turn_idle : none_found ≡ to_serve (queue_of b) → Turned (answered idle) b
+    turn_idle e = by none_found (sym e)
 
-    module _ (small : (i : ℕ) → at b i < 256) (k : ℕ) (e : found k ≡ to_serve (queue_of b)) (l : k < 8) where
+    module _ (small : (i : ℕ) → at b i < 256) (k : ℕ) (e : slot k ≡ to_serve (queue_of b)) (l : k < 8) where
       serves : to_serve (queue_of b) ≡ slot k
-      serves = sym e ∙ ap (λ (t : Bool). choose t (slot k) none_found) (lt-ltb k 8 l)
+      serves = sym e
 
       pub waiting : waits (slot_of b k) ≡ true
       waiting = ap waits (sym (slot_in b k l)) ∙ of_T (waits (slot_at (queue_of b) k)) (first_in (λ n. waits (slot_at (queue_of b) n)) (round_from (queue_of b).next) k serves).0

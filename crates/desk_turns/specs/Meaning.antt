@@ -1,7 +1,8 @@
 -- What the answer to rounds means.
-use Rattle.desk.specs.{Rounds.RoundsReply, Queue.refusal, Queue.answered}
-use Rattle.desk_turns.specs.{declared.Reply.Reply, declared.Reply.TheVariants.Given, declared.Reply.TheVariants.Refused}
+use Rattle.std.specs.Prelude.{Result}
+use Rattle.model.specs.{Refusals.reply_from_question, declared.refusals.Question.Question}
+use Rattle.desk.specs.Rounds.{RoundsReply}
+use Rattle.desk_turns.specs.declared.Given.{Given}
 
-abbrev pub means_rounds : Reply → RoundsReply
-means_rounds (Given ended going) = answered (ended, going)
-means_rounds (Refused number item) = refusal number item
+abbrev pub means_rounds : Result Given Question → RoundsReply
+means_rounds r = reply_from_question (λ (g : Given). (g.ended, g.going)) r

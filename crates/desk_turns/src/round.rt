@@ -22,8 +22,7 @@ fn give(queue: &mut [u8], k: usize, turns: u32) -> usize
     if !waits(queue, k) {
         return 0;
     }
-    let s = serve(queue, k, turns);
-    s.turns
+    serve(queue, k, turns).turns
 }
 
 // Gives each slot up to so many turns, going round; answers where the turn after them begins to look.
@@ -35,15 +34,13 @@ pub fn go_round(queue: &mut [u8], turns: u32) -> u8
     let first = queue[NEXT] as usize;
     let mut next = queue[NEXT];
     let mut best = 1;
-    let mut i = 0;
-    while i < 8 {
+    for i in 0..8 {
         let k = (first + i) % 8;
         let took = give(queue, k, turns);
         if best <= took {
             best = took;
             next = ((k + 1) % 8) as u8;
         }
-        i += 1;
     }
     next
 }

@@ -7,16 +7,18 @@ ghost use Rattle.arrays.specs.Inner.Places.{WORK};
 ghost use Rattle.run_cut.specs.Parts.{added};
 ghost use Rattle.run_state.specs.Meaning.{tally_in};
 ghost use Rattle.run_state.specs.Inner.Walk.{stop_in};
+ghost use Rattle.run_state.specs.Inner.Cut.{stop_of};
 ghost use Rattle.desk.specs.Queue.{Job, waits, standing_after, size, QUANTUM};
 ghost use Rattle.desk.specs.Inner.Places.{COUNTS, SHEET, SLOT};
 ghost use Rattle.desk.specs.Inner.Layout.{slot_of, standing_byte, state_bytes, count_bytes};
 ghost use Rattle.desk_turns.specs.Inner.Served.{PartDone, Shows, ServedAt};
 
-use arrays::{ALL, FULL, LAST, NUMBERS, PLANS, STACK, SUPPORTS, TABLES, WORK, Work};
+use arrays::{LAST, NUMBERS, PLANS, STACK, SUPPORTS, TABLES, WORK, Work};
 use desk::{
     COUNTS, DEPTH, LENGTH, LIMIT, LIST, LIST_PLANS, NODES, SHEET, SHEET_BYTES, SLOT, STANDING,
     STATE, bounded, byte, counts_at, nodes_at, read_long,
 };
+use run_state::Cut;
 use run_tree::CountedPart;
 use wire::{four, place};
 
@@ -24,7 +26,7 @@ use wire::{four, place};
 const QUANTUM: usize = 64;
 
 // How a slot stands after its turns, and how many it took.
-#[derive(Clone, Copy)]
+#[derive(Clone, Copy, Debug, PartialEq, Eq)]
 pub struct Served {
     pub standing: u8,
     pub plans: usize,
@@ -38,36 +40,26 @@ fn share(left: usize, turns: u32) -> u32
     ensures { result ≡ min left (QUANTUM * turns) }
 {
     let most = QUANTUM * turns as usize;
-    if left < most {
-        return left as u32;
-    }
-    most as u32
+    left.min(most) as u32
 }
 
 // How many turns made so many nodes.
 fn turns_for(nodes: u32) -> usize
     ensures { result ≡ 1 + (nodes - 1) / QUANTUM }
 {
-    if nodes == 0 {
-        return 1;
-    }
-    1 + (nodes as usize - 1) / QUANTUM
+    1 + (nodes as usize).saturating_sub(1) / QUANTUM
 }
 
 // How a run stands that stopped with so many nodes: 0 running, 1 finished, 2 spent, 3 full.
-fn standing_after(stop: u8, made: usize, limit: usize) -> u8
-    ensures { (e : Ending) → stop ≡ stop_in e → made ≡ nodes_in e → result ≡ standing_byte (standing_after limit e) }
+fn standing_after(stop: Result<(), Cut>, made: usize, limit: usize) -> u8
+    ensures { (e : Ending) → stop_of stop ≡ stop_in e → made ≡ nodes_in e → result ≡ standing_byte (standing_after limit e) }
 {
-    if stop == ALL {
-        return 1;
+    match stop {
+        Ok(()) => 1,
+        Err(Cut::Full) => 3,
+        Err(Cut::Spent) if made < limit => 0,
+        Err(Cut::Spent) => 2,
     }
-    if stop == FULL {
-        return 3;
-    }
-    if made < limit {
-        return 0;
-    }
-    2
 }
 
 // The bytes of a slot that say where its run stands, but for its counts.
@@ -83,10 +75,8 @@ fn run_bytes(standing: u8, made: usize, work: &Work) -> [u8; STATE]
     bytes[desk::PLANS - STANDING] = (plans % 256) as u8;
     bytes[desk::PLANS + 1 - STANDING] = (plans / 256) as u8;
     bytes[DEPTH - STANDING] = last as u8;
-    let mut i = 0;
-    while i < last {
+    for i in 0..last {
         bytes[desk::LAST - STANDING + i] = work[i] as u8;
-        i += 1;
     }
     bytes
 }
@@ -96,18 +86,16 @@ fn put_counts(queue: &mut [u8], p: usize, before: [u32; 12], more: [u32; 12])
     requires { (p + SHEET ≤ length queue.old) × (length before ≡ 12) × (length more ≡ 12) × ((x : ℕ) → at before x + at more x < 2 ^ 32) }
     ensures { queue.new ≡ placed queue.old (p + COUNTS) (count_bytes (added before more)) }
 {
-    let mut x = 0;
-    while x < 12 {
+    for x in 0..12 {
         let k = before[x] + more[x];
         four(queue, p + COUNTS + 4 * x, k as usize);
-        x += 1;
     }
 }
 
 // Goes on with the run of the slot at p by so many nodes at most; the plans go to its list, where it stands to `work`.
 fn go_on(queue: &mut [u8], p: usize, more: u32, work: &mut Work) -> CountedPart
     requires { (p + SLOT ≤ length queue.old) × (length work.old ≡ WORK) }
-    ensures { PartDone queue.old p more queue.new work.new result.stop (tally_in result.tally) }
+    ensures { PartDone queue.old p more queue.new work.new (stop_of result.stop) (tally_in result.tally) }
 {
     let mut stack = [0u16; STACK];
     let mut supports = [0u16; SUPPORTS];
@@ -155,17 +143,14 @@ pub fn serve(queue: &mut [u8], k: usize, turns: u32) -> Served
     let more = share(limit - made, turns);
     let mut work = [0u64; WORK];
     let part = go_on(queue, p, more, &mut work);
-    let counted = part.tally;
-    let nodes = made + counted.nodes as usize;
+    let nodes = made + part.tally.nodes as usize;
     let standing = standing_after(part.stop, nodes, limit);
-    let bytes = run_bytes(standing, nodes, &work);
-    place(&bytes, queue, p + STANDING);
-    let counts = counted.counts;
-    put_counts(queue, p, before, counts);
+    place(&run_bytes(standing, nodes, &work), queue, p + STANDING);
+    put_counts(queue, p, before, part.tally.counts);
     Served {
         standing,
         plans: work[PLANS] as usize,
         nodes,
-        turns: turns_for(counted.nodes),
+        turns: turns_for(part.tally.nodes),
     }
 }

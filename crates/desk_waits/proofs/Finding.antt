@@ -1,10 +1,10 @@
 -- The slot that a turn serves: the first in the round whose run hasn't ended; all such slots. Assumes nothing.
-use Rattle.model.specs.Kit.{◌≡◌, refl, sym, ap, ◌∙◌, subst, Bool, true, false, List, map, Memᴰ-of_map, ℕ, zero, suc, ◌+◌, ◌%◌, ◌^◌, ◌≤◌, ◌<◌, min, arith, eqb, ltb, pow-lt, eqb-true, eqb-false, lt-ltb}
+use Rattle.model.specs.Kit.{◌≡◌, refl, sym, ap, ◌∙◌, subst, Bool, true, false, List, map, Memᴰ-of_map, ℕ, zero, suc, ◌+◌, ◌%◌, ◌^◌, ◌≤◌, ◌<◌, min, arith, eqb, ltb, pow-lt, eqb-true, eqb-false}
 use Rattle.model.specs.Kit.{le-ltb, ltb-true, ltb-false, eq-eqb, ne_eqb}
-use Rattle.model.specs.{Lists.at, Lists.both, Lists.choose, Lists.below, ValueSets.has, ValueSets.mask_of, ValueSets.one_if, Inner.Filling.Gathered}
+use Rattle.model.specs.{Lists.at, Lists.both, Lists.below, ValueSets.has, ValueSets.mask_of, ValueSets.one_if, Inner.Filling.Gathered}
 use Rattle.model.proofs.{Lists.below_e, Filling.gathered_is, Masks.is_mask}
 use Rattle.desk.specs.{Queue.goes_on, Queue.waits, Queue.slot_at, Queue.none_found, Queue.slot, Queue.to_serve, Queue.standing_by, Inner.Places.STANDING, Inner.Places.NEXT, Inner.Layout.slot_place}
-use Rattle.desk.specs.{Inner.Layout.plans_at, Inner.Layout.nodes_at, Inner.Layout.job_at, Inner.Layout.slot_of, Inner.Layout.queue_of, Inner.Finding.found}
+use Rattle.desk.specs.{Inner.Layout.plans_at, Inner.Layout.nodes_at, Inner.Layout.job_at, Inner.Layout.slot_of, Inner.Layout.queue_of}
 use Rattle.desk.proofs.{Queue.none_first, Slots.first_at, Slots.slot_in, Slots.slot_out, Slots.free_at, Slots.taken_at}
 
 -- ---- one slot
@@ -52,17 +52,15 @@ module _ (b : List ℕ) where
       go true z = ap (λ (k : ℕ). waits (slot_of b (place k))) (eqb-true j i z) ∙ e
       go false z = let n = eqb-false j i z in q j (omega arith)
 
-  pub serve_is : (i : ℕ) → i < 8 → Quiet i → waits (slot_of b (place i)) ≡ true → found (place i) ≡ to_serve (queue_of b)
+  pub serve_is : (i : ℕ) → i < 8 → Quiet i → waits (slot_of b (place i)) ≡ true → slot (place i) ≡ to_serve (queue_of b)
   unfolding test below
   serve_is i l q e =
-      ap (λ (t : Bool). choose t (slot (place i)) none_found) (lt-ltb (place i) 8 (omega arith))
-      ∙ sym (first_at test place 8 0 i (omega arith) (omega arith) (λ j k m. at_place j ∙ q j m) (at_place i ∙ e))
+      sym (first_at test place 8 0 i (omega arith) (omega arith) (λ j k m. at_place j ∙ q j m) (at_place i ∙ e))
 
-  pub serve_none : (i : ℕ) → 8 ≤ i → i ≤ 8 → Quiet i → found i ≡ to_serve (queue_of b)
+  pub serve_none : (i : ℕ) → 8 ≤ i → Quiet i → none_found ≡ to_serve (queue_of b)
   unfolding test
-  serve_none i l m q =
-      ap (λ (t : Bool). choose t (slot i) none_found) (le-ltb i 8 l)
-      ∙ sym (none_first test (map place (below 8)) (λ k n. let r = Memᴰ-of_map place (below 8) n in let h = below_e 8 r.0 r.1 in ap test (sym r.2) ∙ at_place r.0 ∙ q r.0 (omega arith)))
+  serve_none i l q =
+      sym (none_first test (map place (below 8)) (λ k n. let r = Memᴰ-of_map place (below 8) n in let h = below_e 8 r.0 r.1 in ap test (sym r.2) ∙ at_place r.0 ∙ q r.0 (omega arith)))
 
 -- ---- the slots that wait, as a set
 pub one_lt : (t : Bool) (k s : ℕ) → k < 8 → s ≡ one_if t k → s < 2 ^ 16

@@ -1,7 +1,7 @@
 // The slots whose run hasn't ended.
 #![tactic(auto)]
 
-ghost use Rattle.std.specs.Prelude.{◌≡◌, ◌<◌, length};
+ghost use Rattle.std.specs.Prelude.{◌≡◌, ◌<◌, IfSome, length};
 ghost use Rattle.model.specs.ValueSets.{mask_of, one_if};
 ghost use Rattle.desk.specs.Queue.{waits, slot_at, to_serve, size};
 ghost use Rattle.desk.specs.Inner.Layout.{slot_of, queue_of};
@@ -15,27 +15,23 @@ pub fn waits(queue: &[u8], k: usize) -> bool
     ensures { result ≡ waits (slot_of queue.now k) }
 {
     let p = SLOT * k;
-    if queue[p] == 0 {
-        return false;
-    }
-    queue[p + STANDING] == 0
+    queue[p] != 0 && queue[p + STANDING] == 0
 }
 
-// The slot that the next turn serves, or 8.
-pub fn to_serve(queue: &[u8]) -> usize
+// The slot that the next turn serves.
+pub fn to_serve(queue: &[u8]) -> Option<usize>
     requires { length queue.now ≡ size }
-    ensures { found result ≡ to_serve (queue_of queue.now) }
+    ensures slot { found result ≡ to_serve (queue_of queue.now) }
+    ensures inside { IfSome result (λ k. k < 8) }
 {
     let next = queue[NEXT] as usize;
-    let mut i = 0;
-    while i < 8 {
+    for i in 0..8 {
         let k = (next + i) % 8;
         if waits(queue, k) {
-            return k;
+            return Some(k);
         }
-        i += 1;
     }
-    i
+    None
 }
 
 // Slot k alone, or no slot.
@@ -43,10 +39,7 @@ fn slot_if(b: bool, k: usize) -> u16
     requires { k < 8 }
     ensures { result ≡ one_if b k }
 {
-    if b {
-        return 1u16 << k;
-    }
-    0
+    if b { 1u16 << k } else { 0 }
 }
 
 // The slots whose run hasn't ended.
@@ -55,11 +48,8 @@ pub fn waiting(queue: &[u8]) -> u16
     ensures { result ≡ mask_of (λ k. waits (slot_at (queue_of queue.now) k)) }
 {
     let mut set = 0u16;
-    let mut k = 0;
-    while k < 8 {
-        let one = slot_if(waits(queue, k), k);
-        set = set | one;
-        k += 1;
+    for k in 0..8 {
+        set |= slot_if(waits(queue, k), k);
     }
     set
 }

@@ -6,7 +6,8 @@
 ghost use Rattle.std.specs.Prelude.{◌≤◌, length};
 
 use examples_lines::{find, number, read_text, say, say_number};
-use filter::Answer;
+use filter::Ending;
+use model::refusals::Refusal;
 use model::wide;
 use std::io;
 
@@ -31,8 +32,7 @@ fn read_sets(sets: &mut [u16], line: &[u8], from: usize) -> Listed
     ensures { (result.count ≤ length sets.new) × (result.end ≤ length line.now) }
 {
     let mut at = after(line, from);
-    let mut count = 0;
-    while count < sets.len() {
+    for count in 0..sets.len() {
         let found = number(line, at);
         if found.done {
             return Listed {
@@ -42,9 +42,11 @@ fn read_sets(sets: &mut [u16], line: &[u8], from: usize) -> Listed
         }
         sets[count] = found.value as u16;
         at = found.end;
-        count += 1;
     }
-    Listed { count, end: at }
+    Listed {
+        count: sets.len(),
+        end: at,
+    }
 }
 
 // The list of bytes after a position.
@@ -53,8 +55,7 @@ fn read_bytes(bytes: &mut [u8], line: &[u8], from: usize) -> Listed
     ensures { (result.count ≤ length bytes.new) × (result.end ≤ length line.now) }
 {
     let mut at = after(line, from);
-    let mut count = 0;
-    while count < bytes.len() {
+    for count in 0..bytes.len() {
         let found = number(line, at);
         if found.done {
             return Listed {
@@ -64,21 +65,23 @@ fn read_bytes(bytes: &mut [u8], line: &[u8], from: usize) -> Listed
         }
         bytes[count] = (found.value % 256) as u8;
         at = found.end;
-        count += 1;
     }
-    Listed { count, end: at }
+    Listed {
+        count: bytes.len(),
+        end: at,
+    }
 }
 
-fn say_answer<P: Print>(out: &P, answer: Answer) -> io::Result<()> {
+fn say_answer<P: Print>(out: &P, answer: Result<Ending, Refusal>) -> io::Result<()> {
     match answer {
-        Answer::Failed => say(out, b": failed"),
-        Answer::Entailed => say(out, b": entailed"),
-        Answer::Consistent => say(out, b": consistent"),
-        Answer::Refused { number, item } => {
+        Ok(Ending::Failed) => say(out, b": failed"),
+        Ok(Ending::Entailed) => say(out, b": entailed"),
+        Ok(Ending::Consistent) => say(out, b": consistent"),
+        Err(refusal) => {
             say(out, b": refused ")?;
-            say_number(out, wide(number))?;
+            say_number(out, wide(refusal.question.number()))?;
             say(out, b" ")?;
-            say_number(out, item)
+            say_number(out, refusal.item)
         }
     }
 }
@@ -89,10 +92,8 @@ fn say_set<P: Print>(out: &P, set: u16) -> io::Result<()> {
 }
 
 fn say_sets<P: Print>(out: &P, sets: &[u16]) -> io::Result<()> {
-    let mut i = 0;
-    while i < sets.len() {
-        say_set(out, sets[i])?;
-        i += 1;
+    for set in sets {
+        say_set(out, *set)?;
     }
     Ok(())
 }
@@ -104,8 +105,7 @@ fn show<P: Print>(
     equal: &[u8],
     not_equal: &[u8],
 ) -> io::Result<()> {
-    let answer = filter::filter(sets, index, equal, not_equal);
-    say_answer(out, answer)?;
+    say_answer(out, filter::filter(sets, index, equal, not_equal))?;
     say(out, b", sets")?;
     say_sets(out, sets)?;
     say(out, b"\n")

@@ -21,16 +21,14 @@ pub fn number(line: &[u8], from: usize) -> Found
     requires { from ≤ length line.now }
     ensures { (result.value < 65536) × (result.end ≤ length line.now) }
 {
-    let mut at = from;
-    while at < line.len() {
+    for at in from..line.len() {
         if line[at] != b' ' {
             return digits(line, at);
         }
-        at += 1;
     }
     Found {
         value: 0,
-        end: at,
+        end: line.len(),
         done: true,
     }
 }
@@ -40,8 +38,7 @@ fn digits(line: &[u8], from: usize) -> Found
     ensures { (result.value < 65536) × (result.end ≤ length line.now) }
 {
     let mut value = 0;
-    let mut at = from;
-    while at < line.len() {
+    for at in from..line.len() {
         let c = wide(line[at]);
         if c < 48 {
             return Found {
@@ -51,12 +48,11 @@ fn digits(line: &[u8], from: usize) -> Found
             };
         }
         value = (10 * value + (c - 48)) % 65536;
-        at += 1;
     }
     Found {
         value,
-        end: at,
-        done: at == from,
+        end: line.len(),
+        done: line.len() == from,
     }
 }
 
@@ -65,14 +61,12 @@ pub fn find(text: &[u8], from: usize, byte: u8) -> usize
     requires { from ≤ length text.now }
     ensures { (from ≤ result) × (result ≤ length text.now) }
 {
-    let mut at = from;
-    while at < text.len() {
+    for at in from..text.len() {
         if text[at] == byte {
             return at;
         }
-        at += 1;
     }
-    at
+    text.len()
 }
 
 // Reads until the buffer is full or the input ends.

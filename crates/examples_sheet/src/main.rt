@@ -5,16 +5,14 @@
 
 ghost use Rattle.std.specs.Prelude.{◌≤◌, length};
 
-use examples_lines::{find, number, read_text, say, say_number};
+use examples_lines::{number, read_text, say, say_number};
 use model::wide;
-use sheet::Answer;
 use std::io;
 
 // A 16-bit number, low byte first; nothing past the end.
-fn put(b: &mut [u8; 65536], at: usize, v: usize) {
+fn put(b: &mut [u8; 65536], at: usize, v: u16) {
     if at < 65535 {
-        b[at] = (v % 256) as u8;
-        b[at + 1] = (v / 256 % 256) as u8;
+        b[at..at + 2].copy_from_slice(&v.to_le_bytes());
     }
 }
 
@@ -22,68 +20,76 @@ fn put(b: &mut [u8; 65536], at: usize, v: usize) {
 fn put_all(b: &mut [u8; 65536], at: usize, values: &[u8])
     requires { (at ≤ 65536) × (length values.now ≤ 65536) }
 {
-    let mut i = 0;
-    while i < values.len() {
-        put(b, at + 2 * i, wide(values[i]));
-        i += 1;
+    for (i, value) in values.iter().enumerate() {
+        put(b, at + 2 * i, u16::from(*value));
     }
 }
 
 // Sheet A: 64 bytes.
 fn sheet_a(b: &mut [u8; 65536]) {
-    let header = [2u8, 3, 1, 1, 16, 20, 52, 64];
-    let rest = [
-        7u8, 7, 2, 6, 0, 1, 0, 1, 0, 2, 1, 0, 1, 2, 2, 0, 2, 1, 3, 4, 5, 0, 1, 2,
-    ];
-    put_all(b, 0, &header);
-    put_all(b, 16, &rest);
+    put_all(b, 0, &[2, 3, 1, 1, 16, 20, 52, 64]);
+    put_all(
+        b,
+        16,
+        &[
+            7, 7, 2, 6, 0, 1, 0, 1, 0, 2, 1, 0, 1, 2, 2, 0, 2, 1, 3, 4, 5, 0, 1, 2,
+        ],
+    );
 }
 
-// Number j of a series: full sets, the rows 000, 001, .. of three values, or tables of 192 pairs that stand for themselves.
-fn value(series: usize, j: usize) -> usize {
-    match series {
-        0 => 65535,
-        1 => match j % 3 {
-            0 => 0,
-            1 => j / 48,
-            _ => j / 3 % 16,
-        },
-        _ => j % 192,
+// Numbers that a sheet is filled with.
+#[derive(Clone, Copy, Debug, PartialEq, Eq)]
+enum Series {
+    // full sets
+    Sets,
+    // the rows 000, 001, .. of three values
+    Rows,
+    // tables of 192 pairs that stand for themselves
+    Tables,
+}
+
+impl Series {
+    // Number j of the series.
+    fn value(self, j: u16) -> u16 {
+        match self {
+            Series::Sets => 65535,
+            Series::Rows => match j % 3 {
+                0 => 0,
+                1 => j / 48,
+                _ => j / 3 % 16,
+            },
+            Series::Tables => j % 192,
+        }
     }
 }
 
 // The first numbers of a series.
-fn put_series(b: &mut [u8; 65536], at: usize, count: usize, series: usize)
-    requires { (at ≤ 65536) × (count ≤ 65536) }
+fn put_series(b: &mut [u8; 65536], at: usize, count: u16, series: Series)
+    requires { at ≤ 65536 }
 {
-    let mut j = 0;
-    while j < count {
-        put(b, at + 2 * j, value(series, j));
-        j += 1;
+    for j in 0..count {
+        put(b, at + 2 * usize::from(j), series.value(j));
     }
 }
 
 // 32 constraints on the variables 0, 1, 2, of 256 rows each.
 fn constraints(b: &mut [u8; 65536]) {
-    let head = [3u8, 0, 0, 1, 2];
-    let mut at = 40;
-    while at < 49512 {
-        put_all(b, at, &head);
+    for constraint in 0..32 {
+        let at = 40 + 1546 * constraint;
+        put_all(b, at, &[3, 0, 0, 1, 2]);
         put(b, at + 2, 256);
-        put_series(b, at + 10, 768, 1);
-        at += 1546;
+        put_series(b, at + 10, 768, Series::Rows);
     }
 }
 
 // The longest sheet, 55,656 bytes: twelve variables, sixteen values, 32 constraints of 256 rows, sixteen symmetries.
 fn longest(b: &mut [u8; 65536]) {
-    let header = [12u8, 16, 32, 16, 16, 40];
-    put_all(b, 0, &header);
+    put_all(b, 0, &[12, 16, 32, 16, 16, 40]);
     put(b, 12, 49512);
     put(b, 14, 55656);
-    put_series(b, 16, 12, 0);
+    put_series(b, 16, 12, Series::Sets);
     constraints(b);
-    put_series(b, 49512, 3072, 2);
+    put_series(b, 49512, 3072, Series::Tables);
 }
 
 // The changes of a line from a position on.
@@ -97,7 +103,7 @@ fn change(b: &mut [u8; 65536], line: &[u8], from: usize)
         if offset.done || v.done {
             return;
         }
-        put(b, offset.value, v.value);
+        put(b, offset.value, v.value as u16);
         if v.end <= at {
             return;
         }
@@ -107,24 +113,23 @@ fn change(b: &mut [u8; 65536], line: &[u8], from: usize)
 
 // The answer to the first len bytes.
 fn ask<P: Print>(out: &P, b: &[u8], len: usize) -> io::Result<()> {
-    if len <= b.len() {
-        let answer = sheet::question(&b[..len]);
-        match answer {
-            Answer::Accepted => say(out, b": accepted\n")?,
-            Answer::Refused { number, item } => {
-                say(out, b": refused ")?;
-                say_number(out, wide(number))?;
-                say(out, b" ")?;
-                say_number(out, item)?;
-                say(out, b"\n")?;
-            }
+    let Some(sheet) = b.get(..len) else {
+        return Ok(());
+    };
+    match sheet::question(sheet) {
+        Ok(()) => say(out, b": accepted\n"),
+        Err(refusal) => {
+            say(out, b": refused ")?;
+            say_number(out, wide(refusal.question.number()))?;
+            say(out, b" ")?;
+            say_number(out, refusal.item)?;
+            say(out, b"\n")
         }
     }
-    Ok(())
 }
 
 fn answer<P: Print>(out: &P, b: &mut [u8; 65536], line: &[u8]) -> io::Result<()> {
-    if line.len() == 0 {
+    if line.is_empty() {
         return Ok(());
     }
     if line[0] == b'A' {
@@ -139,11 +144,8 @@ fn answer<P: Print>(out: &P, b: &mut [u8; 65536], line: &[u8]) -> io::Result<()>
 }
 
 fn answers<P: Print>(out: &P, b: &mut [u8; 65536], text: &[u8]) -> io::Result<()> {
-    let mut at = 0;
-    while at < text.len() {
-        let end = find(text, at, b'\n');
-        answer(out, b, &text[at..end])?;
-        at = end + 1;
+    for line in text.split(|byte| *byte == b'\n') {
+        answer(out, b, line)?;
     }
     Ok(())
 }

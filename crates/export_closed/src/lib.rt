@@ -3,8 +3,7 @@
 
 ghost use Rattle.export_closed.specs.Calls.{CallClosedBytes};
 
-use families_closed::Answer;
-use wire::{WRONG_LENGTH, code, three};
+use wire::{WRONG_LENGTH, refusal_code, three};
 
 // The exchanges of a run that is lent a sheet, pairs and a block: the sheet's own, then the block's rows. The answer has 12 bytes, three numbers of
 // four bytes, low byte first: 1, 0, 0 where they are closed; else 2 and the first two, by number, whose product is missing. Returns 0; or a refusal, and
@@ -15,16 +14,15 @@ pub fn closed(sheet: &[u8], pairs: &[u8], block: &[u8], answer: &mut [u8]) -> u3
     if answer.len() != 12 {
         return WRONG_LENGTH;
     }
-    let r = families_closed::closed(sheet, pairs, block);
-    match r {
-        Answer::Refused { number, item } => code(number, item),
-        Answer::Closed => {
+    match families_closed::closed(sheet, pairs, block) {
+        Ok(None) => {
             three(answer, 1, 0, 0);
             0
         }
-        Answer::Missing { first, second } => {
-            three(answer, 2, first, second);
+        Ok(Some(missing)) => {
+            three(answer, 2, missing.first, missing.second);
             0
         }
+        Err(refusal) => refusal_code(refusal),
     }
 }

@@ -5,8 +5,7 @@
 
 ghost use Rattle.export_columns.specs.Calls.{CallColumnsBytes, CallRowsBytes};
 
-use list_columns::Answer;
-use wire::{WRONG_LENGTH, code, three};
+use wire::{WRONG_LENGTH, refusal_code, three};
 
 // Writes rows as columns, behind a header of four numbers.
 pub fn columns(variables: u32, rows: &[u8], out: &mut [u8], answer: &mut [u8]) -> u32
@@ -15,10 +14,9 @@ pub fn columns(variables: u32, rows: &[u8], out: &mut [u8], answer: &mut [u8]) -
     if answer.len() != 12 {
         return WRONG_LENGTH;
     }
-    let r = list_columns::to_columns(variables as usize, rows, out);
-    match r {
-        Answer::Refused { number, item } => code(number, item),
-        Answer::Written(count) => {
+    match list_columns::to_columns(variables as usize, rows, out) {
+        Err(question) => refusal_code(question.into()),
+        Ok(count) => {
             three(answer, 1, count, 0);
             0
         }
@@ -32,10 +30,9 @@ pub fn rows(store: &[u8], out: &mut [u8], answer: &mut [u8]) -> u32
     if answer.len() != 12 {
         return WRONG_LENGTH;
     }
-    let r = list_columns::to_rows(store, out);
-    match r {
-        Answer::Refused { number, item } => code(number, item),
-        Answer::Written(size) => {
+    match list_columns::to_rows(store, out) {
+        Err(question) => refusal_code(question.into()),
+        Ok(size) => {
             three(answer, 1, size, 0);
             0
         }

@@ -19,10 +19,8 @@ pub fn numbers(out: &mut [u8], start: usize, counts: [u32; 12])
     ensures { Written out.old start (numbers_of counts) out.new (start + 48) }
 {
     let mut at = start;
-    let mut i = 0;
-    while i < 12 {
+    for i in 0..12 {
         at = four(out, at, counts[i] as usize);
-        i += 1;
     }
 }
 

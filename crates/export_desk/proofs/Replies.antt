@@ -1,14 +1,13 @@
 -- What the queue's exported calls answer: a reply's numbers fit the code and the answer; answers of the length asked and of another. Assumes nothing.
-use Rattle.model.specs.Kit.{◌≡◌, refl, sym, ap, ap₂, ◌∙◌, subst, Bool, true, false, List, [], ◌++◌, Memᴰ-of_map, ℕ, zero, suc, ◌+◌, ◌*◌, ◌%◌, ◌≤◌, ◌<◌, min, mul-le-mul, arith, eqb, ltb, length}
+use Rattle.model.specs.Kit.{◌≡◌, refl, sym, ap, ap₂, ◌∙◌, subst, Bool, true, false, List, ◌++◌, Memᴰ-of_map, ℕ, zero, suc, ◌+◌, ◌*◌, ◌%◌, ◌≤◌, ◌<◌, min, mul-le-mul, arith, eqb, ltb, length}
 use Rattle.model.specs.Kit.{length-append, eq-eqb, ne_eqb, eqb-true, eqb-false, ltb-true, ltb-false}
 use Rattle.model.specs.{Lists.at, Lists.choose, Lists.below, Verdict.Verdict, Verdict.accepted, Verdict.refused, Sheet.verdict_of, Bytes.four_bytes, Written.Written}
-use Rattle.model.proofs.{Lists.below_e, Lists.at_replicate, Lists.never, Room.length_flat, Written.written_then}
+use Rattle.model.proofs.{Lists.below_e, Lists.at_replicate, Room.length_flat, Written.written_then}
 use Rattle.wire.specs.Wire.{wrong_length, three_numbers}
 use Rattle.wire.proofs.{Codes.Small, Codes.verdict_small, Numbers.whole}
 use Rattle.desk.specs.Queue.{Job, job_turned, Slot, free, taken, is_free, waits, slot_turned, slot_at, Found, none_found, slot, lowest_free, round_from, to_serve, QueueCall, submit, turn, release}
 use Rattle.desk.specs.Queue.{QueueReply, refusal, served_as, submit_reply, turn_reply, fits, release_for, release_reply, job_in, size, standing_by}
-use Rattle.desk.specs.declared.Answer.TheVariants.{Queued, Idle, Stands, Released, Refused}
-use Rattle.desk.specs.{Status.status_for, Status.no_counts, Rounds.RoundsReply, Rounds.rounds_reply, Inner.Places.LIMIT, Meaning.means, Meaning.room_after, declared.Answer.Answer}
+use Rattle.desk.specs.{Status.status_for, Status.no_counts, Rounds.RoundsReply, Inner.Places.LIMIT, Meaning.room_after}
 use Rattle.desk.specs.Inner.Layout.{slot_place, width_at, job_at, queue_of, reply_on, status_on, counts_on, bytes_after, rounds_on, rounds_after}
 use Rattle.desk.proofs.{Queue.first_in, Slots.long_small, Slots.slot_in, Slots.slot_out, Slots.free_at, Slots.taken_at, Turning.Fits, Turning.at_fits, Turning.turned_fits}
 use Rattle.export_counts.specs.{Tallied.numbers_of, Inner.Inner.Twelve}
@@ -56,28 +55,6 @@ kind_ends zero plans nodes n = absurd (n refl)
 kind_ends (suc zero) plans nodes n = refl
 kind_ends (suc (suc zero)) plans nodes n = refl
 kind_ends (suc (suc (suc k))) plans nodes n = omega arith
-
--- the room does not matter to them
-pub code_any : (r : Answer) (room : List ℕ) → reply_code (means r []) ≡ reply_code (means r room)
-code_any (Queued s) room = refl
-code_any Idle room = refl
-code_any (Stands s standing plans nodes) room = refl
-code_any (Released bytes) room = refl
-code_any (Refused number item) room = refl
-
-pub answer_any : (r : Answer) (room answer : List ℕ) → reply_answer (means r []) answer ≡ reply_answer (means r room) answer
-answer_any (Queued s) room answer = refl
-answer_any Idle room answer = refl
-answer_any (Stands s standing plans nodes) room answer = refl
-answer_any (Released bytes) room answer = refl
-answer_any (Refused number item) room answer = refl
-
-pub holds_any : (r : Answer) (room : List ℕ) (n : ℕ) → ReplyFits (means r room) n → ReplyFits (means r []) n
-holds_any (Queued s) room n h = h
-holds_any Idle room n h = h
-holds_any (Stands s standing plans nodes) room n h = h
-holds_any (Released bytes) room n h = h
-holds_any (Refused number item) room n h = h
 
 -- ---- a reply fits
 none_twelve : Twelve no_counts
@@ -233,14 +210,6 @@ module _ (b : List ℕ) (k : ℕ) (room answer : List ℕ) where
       record { code = u.code; bytes = u.bytes; written = o ∙ full (room_after (reply_on b (release k room)) room) room answer 12 h; told = u.told }
 
 -- ---- rounds
-pub refused_item : (b : List ℕ) (r number item : ℕ) → refusal number item ≡ rounds_on b r → item < 256
-unfolding rounds_on
-refused_item b r number item e = go (eqb (length b) size) e
-  where
-    go : (t : Bool) → refusal number item ≡ choose t (rounds_reply (queue_of b) r) (refusal 255 0) → item < 256
-    go true f = never (cc)
-    go false f = let z : item ≡ 0 = cc in omega arith
-
 module _ (b : List ℕ) (r : ℕ) (answer : List ℕ) where
   pub unrounded : (length answer ≡ 12 → ⊥) → CallRounds b r answer wrong_length b answer
   unfolding rounds_code rounds_queue rounds_answer

@@ -4,16 +4,15 @@
 // another length than is asked.
 #![tactic(auto)]
 
-ghost use Rattle.std.specs.Prelude.{◌≡◌, [], ℕ, ◌^◌, ◌≤◌, ◌<◌, length};
+ghost use Rattle.std.specs.Prelude.{◌≡◌, ℕ, ◌^◌, ◌≤◌, ◌<◌, length};
 ghost use Rattle.model.specs.Written.{Written};
-ghost use Rattle.desk.specs.Queue.{submit, standing_by};
-ghost use Rattle.desk.specs.Meaning.{means};
-ghost use Rattle.export_counts.specs.Inner.Inner.{Twelve};
-ghost use Rattle.export_desk.specs.Told.{four_numbers, kind_of, reply_code, reply_answer, status_bytes, CallQueue, CallRelease, CallStatus};
-ghost use Rattle.export_desk.specs.Inner.Fits.{ReplyFits, StatusFits};
+ghost use Rattle.desk.specs.Queue.{submit, answered, standing_by};
+ghost use Rattle.desk.specs.Meaning.{turned_as};
+ghost use Rattle.export_desk.specs.Told.{four_numbers, kind_of, reply_answer, CallQueue, CallRelease, CallStatus};
+ghost use Rattle.export_desk.specs.Inner.Fits.{ReplyFits};
 
-use desk::Answer;
-use wire::{WRONG_LENGTH, code, four, three};
+use desk::Stands;
+use wire::{WRONG_LENGTH, four, refusal_code, three};
 
 // Puts four numbers at the front; answers the place after them.
 fn numbers(answer: &mut [u8], kind: usize, a: usize, b: usize, c: usize) -> usize
@@ -39,59 +38,26 @@ fn kind(standing: u8) -> usize
     3
 }
 
-// A reply as the returned number and the answer.
-pub fn told(answer: &mut [u8], r: Answer) -> u32
-    requires { ReplyFits (means r []) (length answer.old) }
-    ensures value { result ≡ reply_code (means r []) }
-    ensures answer_after { answer.new ≡ reply_answer (means r []) answer.old }
+// Puts how a slot stands, four numbers; answers the place after them.
+fn stands(answer: &mut [u8], s: Stands) -> usize
+    requires { (16 ≤ length answer.old) × (s.slot < 2 ^ 32) × (s.plans < 2 ^ 32) × (s.nodes < 2 ^ 32) }
+    ensures { Written answer.old 0 (four_numbers (kind_of (standing_by s.standing s.plans s.nodes)) s.slot s.plans s.nodes) answer.new result }
 {
-    match r {
-        Answer::Refused { number, item } => code(number, item),
-        Answer::Queued { slot } => {
-            three(answer, 1, slot, 0);
-            0
-        }
-        Answer::Idle => {
-            numbers(answer, 0, 0, 0, 0);
-            0
-        }
-        Answer::Stands {
-            slot,
-            standing,
-            plans,
-            nodes,
-        } => {
-            numbers(answer, kind(standing), slot, plans, nodes);
-            0
-        }
-        Answer::Released { bytes } => {
-            three(answer, 1, bytes, 0);
-            0
-        }
-    }
+    numbers(answer, kind(s.standing), s.slot, s.plans, s.nodes)
 }
 
-// How a slot stands as the returned number and the answer, with its counts.
-fn seen(answer: &mut [u8], r: Answer, counts: [u32; 12]) -> u32
-    requires { StatusFits (means r []) (length answer.old) × Twelve counts }
-    ensures value { result ≡ reply_code (means r []) }
-    ensures answer_after { answer.new ≡ status_bytes (means r []) counts answer.old }
+// The answer of a turn: how the slot served stands; four zeros where no run waits.
+pub fn turned(answer: &mut [u8], served: Option<Stands>)
+    requires { ReplyFits (answered (turned_as served)) (length answer.old) }
+    ensures { answer.new ≡ reply_answer (answered (turned_as served)) answer.old }
 {
-    match r {
-        Answer::Refused { number, item } => code(number, item),
-        Answer::Stands {
-            slot,
-            standing,
-            plans,
-            nodes,
-        } => {
-            let after = numbers(answer, kind(standing), slot, plans, nodes);
-            export_counts::numbers(answer, after, counts);
-            0
+    match served {
+        Some(s) => {
+            stands(answer, s);
         }
-        Answer::Queued { slot } => 0,
-        Answer::Idle => 0,
-        Answer::Released { bytes } => 0,
+        None => {
+            numbers(answer, 0, 0, 0, 0);
+        }
     }
 }
 
@@ -102,8 +68,13 @@ pub fn submit(queue: &mut [u8], sheet: &[u8], limit: u32, answer: &mut [u8]) -> 
     if answer.len() != 12 {
         return WRONG_LENGTH;
     }
-    let r = desk_submit::submit(queue, sheet, limit);
-    told(answer, r)
+    match desk_submit::submit(queue, sheet, limit) {
+        Ok(slot) => {
+            three(answer, 1, slot, 0);
+            0
+        }
+        Err(refusal) => refusal_code(refusal),
+    }
 }
 
 // How a slot stands. The answer has 64 bytes: its kind, its number, its plans, its nodes, and these by variable, twelve counts.
@@ -113,10 +84,14 @@ pub fn status(queue: &[u8], slot: u32, answer: &mut [u8]) -> u32
     if answer.len() != 64 {
         return WRONG_LENGTH;
     }
-    let s = desk_slots::status(queue, slot);
-    let counts = s.counts;
-    let r = s.answer;
-    seen(answer, r, counts)
+    match desk_slots::status(queue, slot) {
+        Ok(s) => {
+            let after = stands(answer, s.stands);
+            export_counts::numbers(answer, after, s.counts);
+            0
+        }
+        Err(question) => refusal_code(question.into()),
+    }
 }
 
 // Frees a slot: the plans listed so far go to the front of the room. The answer has 12 bytes: 1, the bytes written, 0.
@@ -127,6 +102,11 @@ pub fn release(queue: &mut [u8], slot: u32, room: &mut [u8], answer: &mut [u8]) 
     if answer.len() != 12 {
         return WRONG_LENGTH;
     }
-    let r = desk_slots::release(queue, slot, room);
-    told(answer, r)
+    match desk_slots::release(queue, slot, room) {
+        Ok(bytes) => {
+            three(answer, 1, bytes, 0);
+            0
+        }
+        Err(question) => refusal_code(question.into()),
+    }
 }

@@ -1,34 +1,24 @@
 // At least m plans (paper 02, #101)?
 #![tactic(auto)]
 
-ghost use Rattle.std.specs.Prelude.{◌≡◌, length};
+ghost use Rattle.std.specs.Prelude.{◌≡◌, Ok, length};
 ghost use Rattle.run.specs.Meaning.{said_enough};
-ghost use Rattle.export_enough.specs.Enough.{said_code, said_bytes};
+ghost use Rattle.export_enough.specs.Enough.{said_bytes};
 ghost use Rattle.export_enough.specs.Calls.{CallEnoughBytes};
 ghost use Rattle.export_enough.specs.Inner.Inner.{SmallSaid};
 
 use run::Enough;
-use wire::{WRONG_LENGTH, code, three};
+use wire::{WRONG_LENGTH, refusal_code, three};
 
-// What was said, as three numbers; a refusal leaves the answer.
-fn said(out: &mut [u8], r: Enough) -> u32
-    requires { (length out.old ≡ 12) × SmallSaid (said_enough r) }
-    ensures { (result ≡ said_code (said_enough r)) × (out.new ≡ said_bytes (said_enough r) out.old) }
+// What was said, as three numbers.
+fn said(out: &mut [u8], e: Enough)
+    requires { (length out.old ≡ 12) × SmallSaid (said_enough (Ok e)) }
+    ensures { out.new ≡ said_bytes (said_enough (Ok e)) out.old }
 {
-    match r {
-        Enough::Refused { number, item } => code(number, item),
-        Enough::Yes(plans, nodes) => {
-            three(out, 1, plans, nodes);
-            0
-        }
-        Enough::No(plans, nodes) => {
-            three(out, 2, plans, nodes);
-            0
-        }
-        Enough::Spent(plans, nodes) => {
-            three(out, 3, plans, nodes);
-            0
-        }
+    match e {
+        Enough::Yes(plans, nodes) => three(out, 1, plans, nodes),
+        Enough::No(plans, nodes) => three(out, 2, plans, nodes),
+        Enough::Spent(plans, nodes) => three(out, 3, plans, nodes),
     }
 }
 
@@ -47,6 +37,11 @@ pub fn at_least(
     if answer.len() != 12 {
         return WRONG_LENGTH;
     }
-    let r = run::at_least(sheet, pairs, block, plans as usize, limit);
-    said(answer, r)
+    match run::at_least(sheet, pairs, block, plans as usize, limit) {
+        Ok(e) => {
+            said(answer, e);
+            0
+        }
+        Err(refusal) => refusal_code(refusal),
+    }
 }

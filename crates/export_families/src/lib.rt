@@ -3,8 +3,7 @@
 
 ghost use Rattle.export_families.specs.Families.{CallFigured};
 
-use families_count::Answer;
-use wire::{WRONG_LENGTH, code, three};
+use wire::{WRONG_LENGTH, refusal_code, three};
 
 // The families of a run that is lent a sheet, pairs and a block, where it and the run without exchanges, both with this node limit and room for 4,096
 // plans, are finished. The answer has 12 bytes, three numbers of four bytes, low byte first: 1, their number, 0; else 2, 0, 0, the dash. Returns 0; or
@@ -15,16 +14,15 @@ pub fn families(sheet: &[u8], pairs: &[u8], block: &[u8], limit: u32, answer: &m
     if answer.len() != 12 {
         return WRONG_LENGTH;
     }
-    let r = families_count::families(sheet, pairs, block, limit);
-    match r {
-        Answer::Refused { number, item } => code(number, item),
-        Answer::Dash => {
+    match families_count::families(sheet, pairs, block, limit) {
+        Ok(None) => {
             three(answer, 2, 0, 0);
             0
         }
-        Answer::Number(k) => {
+        Ok(Some(k)) => {
             three(answer, 1, k, 0);
             0
         }
+        Err(refusal) => refusal_code(refusal),
     }
 }

@@ -1,9 +1,10 @@
 -- What a caller of `filter` (planner_filter) holds: of the bytes of the sets as they came and at the end and of the code that comes back, what crate filter's
 -- `FilterHeld` says of sets and answer. proofs/FilterBytes has the theorem.
-use Rattle.std.specs.Prelude.{◌≡◌, List, ℕ, ◌+◌, ◌*◌, ◌%◌, ◌<◌, length}
+use Rattle.std.specs.Prelude.{◌≡◌, List, ℕ, ◌+◌, ◌*◌, ◌%◌, ◌<◌, length, Result, Ok, Err}
 use Rattle.model.specs.Lists.{at}
-use Rattle.filter.specs.declared.Answer.TheVariants.{Failed, Entailed, Consistent, Refused}
-use Rattle.filter.specs.{FilterCalls.FilterHeld, declared.Answer.Answer}
+use Rattle.model.specs.{Refusals.number_of, declared.refusals.Refusal.Refusal}
+use Rattle.filter.specs.declared.Ending.TheVariants.{Failed, Entailed, Consistent}
+use Rattle.filter.specs.{FilterCalls.FilterHeld, declared.Ending.Ending}
 use Rattle.wire.specs.Wire.{wrong_length}
 use Rattle.export_filter.specs.Filter.{sets_in, filter_code, filter_bytes}
 
@@ -13,11 +14,11 @@ pub record CallBytes (b xs es us : List ℕ) (code : ℕ) (b' : List ℕ) : Type
   pub leaves : b' ≡ filter_bytes b xs es us
 
 -- the code of an answer
-abbrev pub code_of : Answer → ℕ
-code_of Consistent = 0
-code_of Entailed = 1
-code_of Failed = 2
-code_of (Refused number item) = number * 256 + item
+abbrev pub code_of : Result Ending Refusal → ℕ
+code_of (Ok Consistent) = 0
+code_of (Ok Entailed) = 1
+code_of (Ok Failed) = 2
+code_of (Err refused_by) = number_of refused_by.question * 256 + refused_by.item
 
 pub record BytesHeld (b xs es us : List ℕ) (code : ℕ) (b' : List ℕ) : Type 0 where
   -- an odd number of bytes
@@ -25,7 +26,7 @@ pub record BytesHeld (b xs es us : List ℕ) (code : ℕ) (b' : List ℕ) : Type
   -- else the code tells an answer of the filter for the sets in the bytes, and the sets in the bytes at the end are what it leaves; a refusal leaves the
   -- bytes as they came
   pub even : length b % 2 ≡ 0 →
-      (r : Answer) × (code ≡ code_of r) × FilterHeld (sets_in b) xs es us r (sets_in b') × ((number item : ℕ) → r ≡ Refused number item → b' ≡ b)
+      (r : Result Ending Refusal) × (code ≡ code_of r) × FilterHeld (sets_in b) xs es us r (sets_in b') × ((refused_by : Refusal) → r ≡ Err refused_by → b' ≡ b)
 
 abbrev pub BytesHeldClaim : Type 0
 BytesHeldClaim = (b xs es us : List ℕ) (code : ℕ) (b' : List ℕ) → ((i : ℕ) → at b i < 256) → CallBytes b xs es us code b' → BytesHeld b xs es us code b'

@@ -9,18 +9,20 @@ ghost use Rattle.filter.specs.Meaning.{means};
 ghost use Rattle.export_filter.specs.Filter.{filter_answer_code, sets_in, filtered_bytes, SmallAnswer};
 ghost use Rattle.export_filter.specs.FilterBytes.{CallBytes};
 
-use wire::{WRONG_LENGTH, code};
+use filter::Ending;
+use model::refusals::Refusal;
+use wire::{WRONG_LENGTH, refusal_code};
 
 // How the filter ended as one number, or its refusal.
-fn filter_code(answer: filter::Answer) -> u32
+fn filter_code(answer: Result<Ending, Refusal>) -> u32
     requires { SmallAnswer (means answer) }
     ensures { result ≡ filter_answer_code (means answer) }
 {
     match answer {
-        filter::Answer::Consistent => 0,
-        filter::Answer::Entailed => 1,
-        filter::Answer::Failed => 2,
-        filter::Answer::Refused { number, item } => code(number, item),
+        Ok(Ending::Consistent) => 0,
+        Ok(Ending::Entailed) => 1,
+        Ok(Ending::Failed) => 2,
+        Err(refusal) => refusal_code(refusal),
     }
 }
 

@@ -15,11 +15,9 @@ pub fn load(sets: &[u8], words: &mut [u16])
     requires { length sets.now ≡ 2 * length words.old }
     ensures { words.new ≡ sets_in sets.now }
 {
-    let mut i = 0;
-    while i < words.len() {
+    for i in 0..words.len() {
         let at = 2 * i;
         words[i] = word(sets[at], sets[at + 1]);
-        i += 1;
     }
 }
 
@@ -29,10 +27,8 @@ pub fn store(words: &[u16], sets: &mut [u8])
     ensures { sets.new ≡ bytes_of words.now }
 {
     let mut at = 0;
-    let mut i = 0;
-    while i < words.len() {
+    for i in 0..words.len() {
         at = two(sets, at, words[i]);
-        i += 1;
     }
 }
 

@@ -1,14 +1,17 @@
 -- The pieces of the answer as they are made, and the whole. Assumes nothing.
-use Rattle.model.specs.Kit.{◌≡◌, refl, sym, ap, ap₂, ◌∙◌, subst, Bool, true, false, List, [], ◌∷◌, ◌++◌, ℕ, zero, suc, ◌+◌, ◌-◌, ◌*◌, ◌/◌, ◌%◌, ◌≤◌, add-one, arith, eqb, length, set, replicate}
+use Rattle.model.specs.Kit.{◌≡◌, refl, sym, ap, ap₂, ◌∙◌, subst, Bool, true, false, List, [], ◌∷◌, ◌++◌, ℕ, ◌+◌, ◌*◌, ◌/◌, ◌%◌, ◌≤◌, ◌<◌, add-one, arith, eqb, length, set, replicate, take, drop}
 use Rattle.model.specs.Kit.{length-set, eq-eqb, ne_eqb}
-use Rattle.model.specs.{Bytes.four_bytes, Lists.at, Lists.choose, Lists.tabulate, Written.Written, Verdict.Verdict, Verdict.accepted, Verdict.refused}
-use Rattle.model.proofs.{Written.written_byte, Written.written_then, Written.written_none, Lists.tabulate_snoc}
+use Rattle.model.specs.{Bytes.four_bytes, Lists.at, Lists.choose, Lists.tabulate, Written.Written, Verdict.Verdict, Verdict.accepted, Verdict.Reply, Verdict.answered}
+use Rattle.model.proofs.{Written.written_byte, Written.written_then, Written.written_none, Lists.tabulate_snoc, Lists.at_tabulate, Lists.at_ext, Lists.length_tabulate, Demands.reply_so}
 use Rattle.wire.specs.Wire.{wrong_length}
 use Rattle.wire.proofs.Numbers.{whole}
-use Rattle.run_join.proofs.{Orders.tabulate_same, Turns.start_bytes, Turns.end_bytes}
-use Rattle.run_join.specs.{Join.join_verdict, Join.kind_at, Join.reach_place, Join.plans_of, Join.nodes_of, Join.count_of, Calls.answer_for, Calls.figure_for, Calls.CallJoin, declared.Joining.Joining}
-use Rattle.run_join.specs.{declared.Answer.Answer, declared.Answer.TheVariants.Refused, declared.Answer.TheVariants.Joined, declared.Answer.TheVariants.Missing}
-use Rattle.export_join.specs.Joined.{eight_bytes, wides_of, path_bytes_at, stand_bytes, begin_bytes, join_bytes, join_code_for, join_answer_for, join_code, join_answer, CallJoinBytes}
+use Rattle.run_join.proofs.Slices.{part_is}
+use Rattle.run_join.specs.{Join.join_verdict, Join.kind_at, Join.reach_place, Join.plans_of, Join.nodes_of, Join.count_of}
+use Rattle.run_join.specs.{Calls.Told, Calls.told_by, Calls.answer_for, Calls.figure_for, Calls.figure_in, Calls.CallJoin, declared.Joining.Joining, declared.Missing.Missing}
+use Rattle.std.specs.Prelude.{Option, None, Some, Result, Ok}
+use Rattle.model.specs.{Refusals.reply_from_question, declared.refusals.Question.Question}
+use Rattle.export_join.specs.Joined.{eight_bytes, wides_of, path_bytes_at, join_bytes, join_code_for, kind_for, range_for, join_answer_for, join_code, join_answer, CallJoinBytes}
+use Rattle.export_join.specs.Inner.Inside.{InsideHeads}
 
 -- ---- a number in eight bytes
 pub eight_put : {d e : List ℕ} {r : ℕ} {f : List ℕ} {s : ℕ} (o x low high : ℕ) → o + 8 ≤ length d → low ≡ x % 4294967296 → high ≡ x / 4294967296 → Written d o (four_bytes low) e r → Written e r
@@ -20,6 +23,12 @@ eight_put {d} {e} {r} {f} {s} o x low high h p q u v =
 length_eight : (x : ℕ) → length (eight_bytes x) ≡ 8
 unfolding eight_bytes four_bytes
 length_eight x = refl
+
+tabulate_same : (n : ℕ) (f g : ℕ → ℕ) → ((i : ℕ) → i < n → f i ≡ g i) → tabulate n f ≡ tabulate n g
+tabulate_same n f g h =
+    let long = length_tabulate n f in
+    at_ext (tabulate n f) (tabulate n g) (long ∙ sym (length_tabulate n g))
+    (λ i j. let l : i < n = omega arith in at_tabulate n f i l ∙ h i l ∙ sym (at_tabulate n g i l))
 
 -- ---- values one behind the other
 wides_snoc : (ks : List ℕ) (x : ℕ) → wides_of (ks ++ (x ∷ [])) ≡ wides_of ks ++ eight_bytes x
@@ -45,34 +54,30 @@ wides_all {d} {e} {at} i f z h w =
     subst (λ (k : ℕ). Written d 24 (wides_of (tabulate 12 f)) e k) ends (subst (λ (k : ℕ). Written d 24 (wides_of (tabulate k f)) e at) z w)
 
 -- ---- thirteen bytes
-pub bytes_all : (d e : List ℕ) (start i : ℕ) (l : List ℕ) (o : ℕ) → i ≡ 13 → Written d start (tabulate i (λ k. at l (o + k))) e (start + i) → Written d start (path_bytes_at l o) e (start + 13)
+pub path_put : {d e : List ℕ} {r : ℕ} (start : ℕ) (l : List ℕ) (o n : ℕ) → o + 13 ≤ length l → n ≡ 13 → Written d start (take n (drop o l)) e r → Written d start (path_bytes_at l o) e (start + 13)
 unfolding path_bytes_at
-bytes_all d e start i l o h w = subst (λ (k : ℕ). Written d start (tabulate k (λ j. at l (o + j))) e (start + k)) h w
+path_put {d} {e} {r} start l o n h q v =
+    let f : ℕ → ℕ = λ i. at l (o + i) in
+    let long = length_tabulate 13 f in
+    let part = part_is l (tabulate 13 f) o 13 h long (λ i j. sym (at_tabulate 13 f i j)) in
+    let w = subst (λ (x : List ℕ). Written d start x e r) (ap (λ (k : ℕ). take k (drop o l)) q ∙ part) v in
+    subst (λ (k : ℕ). Written d start (tabulate 13 f) e k) (w.ends ∙ ap (λ (k : ℕ). start + k) long) w
 
 -- ---- the first and the last path
-pub none_at : path_bytes_at start_bytes 0 ≡ replicate 13 0
+pub none_at : path_bytes_at (replicate 13 0) 0 ≡ replicate 13 0
 unfolding path_bytes_at tabulate at
 none_at = refl
 
-pub end_at : path_bytes_at end_bytes 0 ≡ 1 ∷ 255 ∷ replicate 11 0
+pub end_at : path_bytes_at (1 ∷ 255 ∷ 0 ∷ 0 ∷ 0 ∷ 0 ∷ 0 ∷ 0 ∷ 0 ∷ 0 ∷ 0 ∷ 0 ∷ 0 ∷ []) 0 ≡ 1 ∷ 255 ∷ replicate 11 0
 unfolding path_bytes_at tabulate at
 end_at = refl
 
-module _ (l : List ℕ) where
-  pub stand_at : (stand q : ℕ) → (stand ≡ 0 → ⊥) → q ≡ reach_place l (stand - 1) → path_bytes_at l q ≡ stand_bytes l stand
-  stand_at zero q d e = absurd (d refl)
-  stand_at (suc k) q d e = let z : suc k - 1 ≡ k = omega arith in ap (path_bytes_at l) (e ∙ ap (reach_place l) z)
-
-  pub begin_at : (near : ℕ) → (near ≡ 0 → ⊥) → path_bytes_at l (115 * (near - 1) + 76) ≡ begin_bytes l near
-  begin_at zero d = absurd (d refl)
-  begin_at (suc k) d = let z : suc k - 1 ≡ k = omega arith in ap (λ (i : ℕ). path_bytes_at l (115 * i + 76)) z
-
-  pub reach_fits : (k q : ℕ) → 115 * k + 115 ≤ length l → q ≡ reach_place l k → q + 13 ≤ length l
-  reach_fits k q h e = go (eqb (kind_at l k) 1) e
-    where
-      go : (b : Bool) → q ≡ choose b (115 * k + 89) (115 * k + 102) → q + 13 ≤ length l
-      go true z = omega arith
-      go false z = omega arith
+pub reach_fits : (l : List ℕ) (k : ℕ) → 115 * k + 115 ≤ length l → reach_place l k + 13 ≤ length l
+reach_fits l k h = go (eqb (kind_at l k) 1)
+  where
+    go : (b : Bool) → choose b (115 * k + 89) (115 * k + 102) + 13 ≤ length l
+    go true = omega arith
+    go false = omega arith
 
 -- ---- the kind and the sums
 pub sums_put : {d e : List ℕ} {a : ℕ} {f : List ℕ} {b : ℕ} {g : List ℕ} {c : ℕ} {h : List ℕ} {i : ℕ} {j : List ℕ} (kind plans nodes : ℕ) (cs : List ℕ) → length d ≡ 152 →
@@ -95,8 +100,8 @@ zeros_put d e r n m u =
     written_then (omega arith) w (written_byte (set e 150 0) 151 0 (omega (arith, length-set e 150 0)))
 
 -- two paths
-pub two_put : {d e f : List ℕ} (x y z w : List ℕ) → length d ≡ 152 → x ≡ z → y ≡ w → Written d 120 x e (120 + 13) → Written e 133 y f (133 + 13) → Written d 120 (z ++ w) f 146
-two_put {d} {e} {f} x y z w n p q u v = subst (λ (t : List ℕ). Written d 120 t f 146) (ap₂ (λ (a b : List ℕ). a ++ b) p q) (written_then (omega arith) u v)
+pub two_put : {d e f : List ℕ} (x y : List ℕ) → length d ≡ 152 → Written d 120 x e (120 + 13) → Written e 133 y f (133 + 13) → Written d 120 (x ++ y) f 146
+two_put x y n u v = written_then (omega arith) u v
 
 -- ---- the whole
 module _ (l answer : List ℕ) where
@@ -110,7 +115,7 @@ module _ (l answer : List ℕ) where
         tells = sym (ap {B = List ℕ} (λ (t : Bool). choose t (join_answer_for l a answer) answer) e);
       }
 
-  pub right_size : (x : Answer) (code : ℕ) (bytes : List ℕ) → length answer ≡ 152 → answer_for (join_verdict l) l ≡ x → code ≡ join_code_for x → bytes ≡ join_answer_for l x answer
+  pub right_size : (x : Reply Told) (code : ℕ) (bytes : List ℕ) → length answer ≡ 152 → answer_for (join_verdict l) l ≡ x → code ≡ join_code_for x → bytes ≡ join_answer_for l x answer
       → CallJoinBytes l answer code bytes
   unfolding join_code join_answer
   right_size x code bytes h so c w =
@@ -118,38 +123,38 @@ module _ (l answer : List ℕ) where
       let a = answer_for (join_verdict l) l in
       record {
         returns = c ∙ ap join_code_for (sym so) ∙ sym (ap {B = ℕ} (λ (t : Bool). choose t (join_code_for a) wrong_length) e);
-        tells = w ∙ ap (λ (y : Answer). join_answer_for l y answer) (sym so) ∙ sym (ap {B = List ℕ} (λ (t : Bool). choose t (join_answer_for l a answer) answer) e);
+        tells = w ∙ ap (λ (y : Reply Told). join_answer_for l y answer) (sym so) ∙ sym (ap {B = List ℕ} (λ (t : Bool). choose t (join_answer_for l a answer) answer) e);
       }
 
--- an answer that is no refusal
-abbrev pub Answered : Answer → Type 0
-Answered (Refused number) = ⊥
-Answered Joined = Unit {0}
-Answered (Missing stand near) = Unit {0}
+module _ (l : List ℕ) (r : Result Joining Question) (call : CallJoin l r) where
+  pub said : (x : Result Joining Question) → r ≡ x → answer_for (join_verdict l) l ≡ reply_from_question (λ j. told_by j.missing) x
+  said x so = sym call.answers ∙ ap (reply_from_question (λ j. told_by j.missing)) so
 
-module _ (l : List ℕ) (r : Joining) (call : CallJoin l r) (x : Answer) (so : r.answer ≡ x) (no : Answered x) where
-  accepted_of : (v : Verdict) → answer_for v l ≡ x → v ≡ accepted
-  unfolding answer_for
-  accepted_of accepted e = refl
-  accepted_of (refused n i) e = absurd (subst Answered (sym e) no)
+  -- heads that were joined
+  module _ (j : Joining) (so : r ≡ Ok j) where
+    pub among : InsideHeads l j.missing
+    among = go j.missing refl
+      where
+        go : (m : Option Missing) → j.missing ≡ m → InsideHeads l m
+        go None e = tt
+        go (Some m) e = call.inside j m so e
 
-  pub verdict : join_verdict l ≡ accepted
-  verdict = accepted_of (join_verdict l) (sym call.answers ∙ so)
+    verdict : join_verdict l ≡ accepted
+    unfolding answer_for
+    verdict = (reply_so (join_verdict l) _ (told_by j.missing) (said (Ok j) so)).0
 
-  pub said : answer_for (join_verdict l) l ≡ x
-  said = sym call.answers ∙ so
+    figure : (f : Joining → ℕ) (x : ℕ) → figure_in f r ≡ figure_for (join_verdict l) x → f j ≡ x
+    figure f x e = sym (ap (figure_in f) so) ∙ e ∙ ap (λ (t : Verdict). figure_for t x) verdict
 
-  pub pieces : {d e f g : List ℕ} (kind : ℕ) (from upto : List ℕ) → length d ≡ 152 →
-      Written d 0 (four_bytes kind ++ four_bytes 0 ++ eight_bytes r.plans ++ eight_bytes r.nodes ++ wides_of (tabulate 12 (at r.counts))) e 120 → Written e 120 (from ++ upto) f 146
-      → Written f 146 (four_bytes 0 ++ 0 ∷ 0 ∷ []) g 152 →
-      g ≡ join_bytes l kind from upto
-  unfolding join_bytes
-  pieces {d} {e} {f} {g} kind from upto n u v w =
-      let all = written_then (omega arith) (written_then (omega arith) u v) w in
-      let plans : r.plans ≡ plans_of l = call.plans ∙ ap (λ (t : Verdict). figure_for t (plans_of l)) verdict in
-      let nodes : r.nodes ≡ nodes_of l = call.nodes ∙ ap (λ (t : Verdict). figure_for t (nodes_of l)) verdict in
-      let counts : tabulate 12 (at r.counts) ≡ tabulate 12 (count_of l) = tabulate_same 12 (at r.counts) (count_of l)
-      (λ x h. call.counts x h ∙ ap (λ (t : Verdict). figure_for t (count_of l x)) verdict) in
-      whole (omega (arith, all.ends)) all
-      ∙ ap₂ (λ (a b : ℕ). (four_bytes kind ++ four_bytes 0 ++ eight_bytes a ++ eight_bytes b ++ wides_of (tabulate 12 (at r.counts))) ++ (from ++ upto) ++ (four_bytes 0 ++ 0 ∷ 0 ∷ [])) plans nodes
-      ∙ ap (λ (c : List ℕ). (four_bytes kind ++ four_bytes 0 ++ eight_bytes (plans_of l) ++ eight_bytes (nodes_of l) ++ wides_of c) ++ (from ++ upto) ++ (four_bytes 0 ++ 0 ∷ 0 ∷ [])) counts
+    pub pieces : {d e f g : List ℕ} (kind : ℕ) → length d ≡ 152 → kind ≡ kind_for (told_by j.missing) →
+        Written d 0 (four_bytes kind ++ four_bytes 0 ++ eight_bytes j.plans ++ eight_bytes j.nodes ++ wides_of (tabulate 12 (at j.counts))) e 120 →
+        Written e 120 (range_for l (told_by j.missing)) f 146 → Written f 146 (four_bytes 0 ++ 0 ∷ 0 ∷ []) g 152 → g ≡ join_answer_for l (answered (told_by j.missing)) d
+    unfolding join_bytes
+    pieces {d} {e} {f} {g} kind n k u v w =
+        let range = range_for l (told_by j.missing) in
+        let all = written_then (omega arith) (written_then (omega arith) u v) w in
+        let counts : tabulate 12 (at j.counts) ≡ tabulate 12 (count_of l) = tabulate_same 12 (at j.counts) (count_of l) (λ x h. figure (λ i. at i.counts x) (count_of l x) (call.counts x h)) in
+        whole (omega (arith, all.ends)) all
+        ∙ ap₂ (λ (a b : ℕ). (four_bytes kind ++ four_bytes 0 ++ eight_bytes a ++ eight_bytes b ++ wides_of (tabulate 12 (at j.counts))) ++ range ++ (four_bytes 0 ++ 0 ∷ 0 ∷ []))
+        (figure (λ i. i.plans) (plans_of l) call.plans) (figure (λ i. i.nodes) (nodes_of l) call.nodes)
+        ∙ ap₂ (λ (i : ℕ) (c : List ℕ). (four_bytes i ++ four_bytes 0 ++ eight_bytes (plans_of l) ++ eight_bytes (nodes_of l) ++ wides_of c) ++ range ++ (four_bytes 0 ++ 0 ∷ 0 ∷ [])) k counts

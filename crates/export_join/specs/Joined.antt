@@ -1,9 +1,9 @@
 -- planner_join: what it returns, and the bytes of the answer afterwards.
 use Rattle.std.specs.Prelude.{◌≡◌, List, [], ◌∷◌, ◌++◌, ℕ, zero, suc, ◌+◌, ◌*◌, ◌/◌, ◌%◌, eqb, length, replicate}
-use Rattle.model.specs.{Bytes.four_bytes, Lists.at, Lists.choose, Lists.tabulate}
+use Rattle.model.specs.{Bytes.four_bytes, Lists.at, Lists.choose, Lists.tabulate, Verdict.Reply, Verdict.answered, Verdict.refusal}
 use Rattle.wire.specs.Wire.{wrong_length}
 use Rattle.run_join.specs.Join.{join_verdict, reach_place, plans_of, nodes_of, count_of}
-use Rattle.run_join.specs.{Calls.answer_for, declared.Answer.Answer, declared.Answer.TheVariants.Refused, declared.Answer.TheVariants.Joined, declared.Answer.TheVariants.Missing}
+use Rattle.run_join.specs.Calls.{Told, nothing_missing, missing, answer_for}
 
 -- a number in eight bytes, low byte first; numbers one after another
 unfoldable pub eight_bytes : ℕ → List ℕ
@@ -26,21 +26,27 @@ begin_bytes l zero = 1 ∷ 255 ∷ replicate 11 0
 begin_bytes l (suc k) = path_bytes_at l (115 * k + 76)
 
 -- the kind, zero, the sums of the heads taken, a range, six zeros
-unfoldable pub join_bytes : List ℕ → ℕ → List ℕ → List ℕ → List ℕ
-join_bytes l kind from upto =
-    (four_bytes kind ++ four_bytes 0 ++ eight_bytes (plans_of l) ++ eight_bytes (nodes_of l) ++ wides_of (tabulate 12 (count_of l))) ++ (from ++ upto) ++ (four_bytes 0 ++ 0 ∷ 0 ∷ [])
+unfoldable pub join_bytes : List ℕ → ℕ → List ℕ → List ℕ
+join_bytes l kind range =
+    (four_bytes kind ++ four_bytes 0 ++ eight_bytes (plans_of l) ++ eight_bytes (nodes_of l) ++ wides_of (tabulate 12 (count_of l))) ++ range ++ (four_bytes 0 ++ 0 ∷ 0 ∷ [])
 
 -- 0, or the number of the refusal
-abbrev pub join_code_for : Answer → ℕ
-join_code_for (Refused number) = number * 256
-join_code_for Joined = 0
-join_code_for (Missing stand near) = 0
+abbrev pub join_code_for : Reply Told → ℕ
+join_code_for (refusal number item) = number * 256
+join_code_for (answered told) = 0
 
 -- 1 joined, with no range; 2 missing, from where one stands up to the nearest beginning after it; as it came after a refusal
-abbrev pub join_answer_for : List ℕ → Answer → List ℕ → List ℕ
-join_answer_for l (Refused number) answer = answer
-join_answer_for l Joined answer = join_bytes l 1 (replicate 13 0) (replicate 13 0)
-join_answer_for l (Missing stand near) answer = join_bytes l 2 (stand_bytes l stand) (begin_bytes l near)
+abbrev pub kind_for : Told → ℕ
+kind_for nothing_missing = 1
+kind_for (missing stand near) = 2
+
+abbrev pub range_for : List ℕ → Told → List ℕ
+range_for l nothing_missing = replicate 13 0 ++ replicate 13 0
+range_for l (missing stand near) = stand_bytes l stand ++ begin_bytes l near
+
+abbrev pub join_answer_for : List ℕ → Reply Told → List ℕ → List ℕ
+join_answer_for l (refusal number item) answer = answer
+join_answer_for l (answered told) answer = join_bytes l (kind_for told) (range_for l told)
 
 -- where the answer has not 152 bytes nothing is changed
 unfoldable pub join_code : List ℕ → List ℕ → ℕ

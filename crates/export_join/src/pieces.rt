@@ -3,11 +3,14 @@ ghost use Rattle.std.specs.Prelude.{◌≡◌, [], ◌∷◌, ◌++◌, ◌+◌,
 ghost use Rattle.model.specs.Bytes.{four_bytes};
 ghost use Rattle.model.specs.Lists.{at, tabulate};
 ghost use Rattle.model.specs.Written.{Written};
-ghost use Rattle.run_join.specs.Join.{heads_in};
-ghost use Rattle.export_join.specs.Joined.{eight_bytes, wides_of, path_bytes_at, stand_bytes, begin_bytes};
+ghost use Rattle.run_join.specs.Join.{heads_in, head_number, reach_place};
+ghost use Rattle.run_join.specs.Calls.{told_by};
+ghost use Rattle.export_join.specs.Joined.{eight_bytes, wides_of, path_bytes_at, stand_bytes, begin_bytes, kind_for, range_for};
+ghost use Rattle.export_join.specs.Inner.Inside.{InsideHeads};
 
-use run_join::steps::reach_place;
-use wire::four;
+use run_join::Missing;
+use run_join::paths::four_at;
+use wire::{four, put};
 
 // Puts a number in eight bytes; answers the place after it.
 fn eight(out: &mut [u8], at: usize, x: u64) -> usize
@@ -26,10 +29,8 @@ fn put_counts(out: &mut [u8], counts: [u64; 12])
     ensures { Written out.old 24 (wides_of (tabulate 12 (at counts))) out.new 120 }
 {
     let mut place = 24;
-    let mut i = 0;
-    while i < 12 {
+    for i in 0..12 {
         place = eight(out, place, counts[i]);
-        i += 1;
     }
 }
 
@@ -51,56 +52,67 @@ fn put_path(out: &mut [u8], start: usize, l: &[u8], o: usize)
     requires { (start + 13 ≤ length out.old) × (o + 13 ≤ length l.now) }
     ensures { Written out.old start (path_bytes_at l.now o) out.new (start + 13) }
 {
-    let mut i = 0;
-    while i < 13 {
-        out[start + i] = l[o + i];
-        i += 1;
+    put(out, start, &l[o..o + 13]);
+}
+
+// Where the path stands that head k reaches.
+fn reach_place(l: &[u8], k: usize) -> usize
+    requires { 115 * k + 115 ≤ length l.now }
+    ensures { result ≡ reach_place l.now k }
+{
+    if four_at(l, 115 * k) == 1 {
+        115 * k + 89
+    } else {
+        115 * k + 102
     }
 }
 
 // The path where one stands.
-fn put_stand(out: &mut [u8], start: usize, l: &[u8], stand: usize)
-    requires { (start + 13 ≤ length out.old) × (stand ≤ heads_in l.now) }
-    ensures { Written out.old start (stand_bytes l.now stand) out.new (start + 13) }
+fn put_stand(out: &mut [u8], start: usize, l: &[u8], stand: Option<usize>)
+    requires { (start + 13 ≤ length out.old) × (head_number stand ≤ heads_in l.now) }
+    ensures { Written out.old start (stand_bytes l.now (head_number stand)) out.new (start + 13) }
 {
-    if stand == 0 {
-        let none = [0u8; 13];
-        put_path(out, start, &none, 0);
-    } else {
-        put_path(out, start, l, reach_place(l, stand - 1));
+    match stand {
+        None => put_path(out, start, &[0; 13], 0),
+        Some(k) => put_path(out, start, l, reach_place(l, k)),
     }
 }
 
 // The beginning of a head, else the last path.
-fn put_begin(out: &mut [u8], start: usize, l: &[u8], near: usize)
-    requires { (start + 13 ≤ length out.old) × (near ≤ heads_in l.now) }
-    ensures { Written out.old start (begin_bytes l.now near) out.new (start + 13) }
+fn put_begin(out: &mut [u8], start: usize, l: &[u8], near: Option<usize>)
+    requires { (start + 13 ≤ length out.old) × (head_number near ≤ heads_in l.now) }
+    ensures { Written out.old start (begin_bytes l.now (head_number near)) out.new (start + 13) }
 {
-    if near == 0 {
-        let end = [1u8, 255, 0, 0, 0, 0, 0, 0, 0, 0, 0, 0, 0];
-        put_path(out, start, &end, 0);
-    } else {
-        put_path(out, start, l, 115 * (near - 1) + 76);
+    match near {
+        None => put_path(out, start, &[1, 255, 0, 0, 0, 0, 0, 0, 0, 0, 0, 0, 0], 0),
+        Some(k) => put_path(out, start, l, 115 * k + 76),
     }
 }
 
-// The missing range.
-pub fn put_range(out: &mut [u8], l: &[u8], stand: usize, near: usize)
-    requires { (length out.old ≡ 152) × (stand ≤ heads_in l.now) × (near ≤ heads_in l.now) }
-    ensures { Written out.old 120 (stand_bytes l.now stand ++ begin_bytes l.now near) out.new 146 }
+// The missing range; zeros where there is none.
+pub fn put_missing(out: &mut [u8], l: &[u8], missing: Option<Missing>)
+    requires { (length out.old ≡ 152) × InsideHeads l.now missing }
+    ensures { Written out.old 120 (range_for l.now (told_by missing)) out.new 146 }
 {
-    put_stand(out, 120, l, stand);
-    put_begin(out, 133, l, near);
+    match missing {
+        None => {
+            put(out, 120, &[0; 26]);
+        }
+        Some(missing) => {
+            put_stand(out, 120, l, missing.from);
+            put_begin(out, 133, l, missing.upto);
+        }
+    }
 }
 
-// No range.
-pub fn put_none(out: &mut [u8])
-    requires { length out.old ≡ 152 }
-    ensures { Written out.old 120 (replicate 13 0 ++ replicate 13 0) out.new 146 }
+// 1 joined, 2 missing.
+pub fn kind(missing: Option<Missing>) -> usize
+    ensures { result ≡ kind_for (told_by missing) }
 {
-    let none = [0u8; 13];
-    put_path(out, 120, &none, 0);
-    put_path(out, 133, &none, 0);
+    match missing {
+        None => 1,
+        Some(_) => 2,
+    }
 }
 
 // Six zeros at the end.

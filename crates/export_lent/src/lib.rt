@@ -4,16 +4,15 @@
 ghost use Rattle.export_lent.specs.Calls.{CallQuestionCode, CallRunBytes};
 
 use export_counts::ending;
-use wire::{WRONG_LENGTH, code};
+use wire::{WRONG_LENGTH, refusal_code};
 
 // Puts all questions of a run that is lent pairs and a block: 0, or the number of the first "no" times 256, plus its item.
 pub fn question_lent(sheet: &[u8], pairs: &[u8], block: &[u8]) -> u32
     ensures { CallQuestionCode sheet.now pairs.now block.now result }
 {
-    let answer = run_input::question(sheet, pairs, block);
-    match answer {
-        sheet::Answer::Accepted => 0,
-        sheet::Answer::Refused { number, item } => code(number, item),
+    match run_input::question(sheet, pairs, block) {
+        Ok(()) => 0,
+        Err(refusal) => refusal_code(refusal),
     }
 }
 
@@ -34,14 +33,11 @@ pub fn run_lent(
         return WRONG_LENGTH;
     }
     let r = run::run_counted(sheet, pairs, block, limit, list);
-    let tally = r.tally;
-    let counts = tally.counts;
-    let said = r.answer;
-    match said {
-        run::Answer::Refused { number, item } => code(number, item),
-        run::Answer::Ended(e) => {
-            ending(answer, e, counts);
+    match r.answer {
+        Ok(e) => {
+            ending(answer, e, r.tally.counts);
             0
         }
+        Err(refused) => refusal_code(refused),
     }
 }

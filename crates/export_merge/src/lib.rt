@@ -4,8 +4,7 @@
 
 ghost use Rattle.export_merge.specs.Merged.{CallMerged};
 
-use list_merge::Answer;
-use wire::{WRONG_LENGTH, code, three};
+use wire::{WRONG_LENGTH, refusal_code, three};
 
 // Writes the rows of either list, ascending, each once. Returns 0; or a refusal, and then every buffer is as it came; or, asked first, 255 times
 // 256 where the answer has not 12 bytes.
@@ -23,10 +22,9 @@ pub fn merge<'a>(
     if answer.len() != 12 {
         return WRONG_LENGTH;
     }
-    let r = list_merge::merge(variables as usize, pairs, first, second, out);
-    match r {
-        Answer::Refused { number, item } => code(number, item),
-        Answer::Written(count) => {
+    match list_merge::merge(variables as usize, pairs, first, second, out) {
+        Err(question) => refusal_code(question.into()),
+        Ok(count) => {
             three(answer, 1, count % 4294967296, count / 4294967296);
             0
         }

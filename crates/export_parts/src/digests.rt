@@ -17,10 +17,8 @@ pub fn digest(bytes: &[u8], base: usize) -> usize
     ensures { (result ≡ digest base bytes.now) × (result < 2147483647) }
 {
     let mut h: usize = 1;
-    let mut i = 0;
-    while i < bytes.len() {
-        h = with_byte(h, base, wide(bytes[i]));
-        i += 1;
+    for byte in bytes {
+        h = with_byte(h, base, wide(*byte));
     }
     h
 }

@@ -1,5 +1,5 @@
 // The head of a part, piece by piece.
-ghost use Rattle.std.specs.Prelude.{◌≡◌, ◌++◌, ◌+◌, ◌^◌, ◌≤◌, ◌<◌, min, length, take};
+ghost use Rattle.std.specs.Prelude.{◌≡◌, ◌++◌, ◌+◌, ◌^◌, ◌≤◌, ◌<◌, length, take};
 ghost use Rattle.model.specs.Lists.{at, tabulate};
 ghost use Rattle.model.specs.Written.{Written};
 ghost use Rattle.run_state.specs.Meaning.{ending_of};
@@ -49,21 +49,11 @@ pub fn put_name(out: &mut [u8], sheet: &[u8], pairs: &[u8], block: &[u8])
     four(out, fourth, digest(block, 1000003));
 }
 
-// The lesser of two numbers.
-fn lesser(a: usize, b: usize) -> usize
-    ensures { result ≡ min a b }
-{
-    if a <= b { a } else { b }
-}
-
 // The value at an index of the first n of a path, 0 behind them.
 fn value_at(path: &[u8], n: usize, i: usize) -> u8
     ensures { result ≡ at (take n path.now) i }
 {
-    if i < lesser(n, path.len()) {
-        return path[i];
-    }
-    0
+    if i < n.min(path.len()) { path[i] } else { 0 }
 }
 
 // Twelve values of the first n of a path.
@@ -71,10 +61,8 @@ fn put_values(out: &mut [u8], start: usize, path: &[u8], n: usize)
     requires { start + 12 ≤ length out.old }
     ensures { Written out.old start (tabulate 12 (at (take n path.now))) out.new (start + 12) }
 {
-    let mut i = 0;
-    while i < 12 {
+    for i in 0..12 {
         out[start + i] = value_at(path, n, i);
-        i += 1;
     }
 }
 
@@ -83,7 +71,7 @@ fn put_path(out: &mut [u8], start: usize, path: &[u8], n: usize)
     requires { start + 13 ≤ length out.old }
     ensures { Written out.old start (path_bytes (take n path.now)) out.new (start + 13) }
 {
-    let kept = lesser(12, lesser(n, path.len()));
+    let kept = n.min(path.len()).min(12);
     out[start] = kept as u8;
     put_values(out, start + 1, path, n);
 }

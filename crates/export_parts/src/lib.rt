@@ -7,7 +7,7 @@ mod heads;
 ghost use Rattle.export_parts.specs.Parts.{CallPartBytes};
 
 use crate::heads::{put_ending, put_name, put_paths};
-use wire::{WRONG_LENGTH, code};
+use wire::{WRONG_LENGTH, refusal_code};
 
 // The nodes after the path `from` and not after `upto`, with a limit of nodes; plans go to the front of the list. The answer has 115 bytes, the part's head.
 // Returns 0, or the refusal, or, asked first, 255 times 256 where the answer has not 115 bytes; list and answer are then as they came.
@@ -27,18 +27,13 @@ pub fn run_part(
     if answer.len() != 115 {
         return WRONG_LENGTH;
     }
-    let r = run_part::run_part(sheet, pairs, block, from, upto, limit, list);
-    let tally = r.tally;
-    let counts = tally.counts;
-    let last = r.last;
-    let length = r.length;
-    let said = r.answer;
-    match said {
-        run::Answer::Refused { number, item } => code(number, item),
-        run::Answer::Ended(e) => {
-            put_ending(answer, e, counts);
+    let part = run_part::run_part(sheet, pairs, block, from, upto, limit, list);
+    match part.answer {
+        Err(refusal) => refusal_code(refusal),
+        Ok(ending) => {
+            put_ending(answer, ending, part.tally.counts);
             put_name(answer, sheet, pairs, block);
-            put_paths(answer, from, upto, &last, length);
+            put_paths(answer, from, upto, &part.last, part.length);
             0
         }
     }

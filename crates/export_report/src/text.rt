@@ -2,14 +2,13 @@
 ghost use Rattle.std.specs.Prelude.{◌≡◌};
 ghost use Rattle.model.specs.Sheet.{verdict_of};
 ghost use Rattle.model.specs.Run.{finished};
-ghost use Rattle.families_figure.specs.Figure.{Figure, dash};
+ghost use Rattle.families_figure.specs.Figure.{dash};
 ghost use Rattle.report.specs.Report.{report_for};
 ghost use Rattle.report.specs.Inner.Text.{ended_text, Fitted};
 ghost use Rattle.run_state.specs.Meaning.{ending_of};
-ghost use Rattle.families_count.specs.Told.{told, means};
+ghost use Rattle.families_count.specs.Told.{figure_of};
 ghost use Rattle.export_report.specs.Inner.Inner.{Listed, Dashed};
 
-use run::Answer;
 use run_state::Ending;
 
 // A run whose families aren't counted.
@@ -26,7 +25,7 @@ fn stop_report(e: Ending, list: &[u8], n: usize, out: &mut [u8]) -> usize
 
 // A finished run, with the number of families or a dash.
 fn finished_report(
-    figure: families_count::Answer,
+    figure: Option<usize>,
     plans: usize,
     nodes: usize,
     list: &[u8],
@@ -34,26 +33,20 @@ fn finished_report(
     out: &mut [u8],
 ) -> usize
     requires { Listed (finished plans nodes) n list.now }
-    ensures { (f : Figure) → means figure ≡ told f → Fitted out.old (ended_text (finished plans nodes) f n list.now)
+    ensures { Fitted out.old (ended_text (finished plans nodes) (figure_of figure) n list.now)
         out.new result }
 {
-    let families_count::Answer::Number(families) = figure else {
-        return report::uncounted(plans, nodes, list, n, out);
-    };
-    report::finished(plans, nodes, families, list, n, out)
+    match figure {
+        Some(families) => report::finished(plans, nodes, families, list, n, out),
+        None => report::uncounted(plans, nodes, list, n, out),
+    }
 }
 
 // A finished run is taken apart first; the two others are a stop, whose figure is the dash.
-fn ending_report(
-    figure: families_count::Answer,
-    e: Ending,
-    list: &[u8],
-    n: usize,
-    out: &mut [u8],
-) -> usize
+fn ending_report(figure: Option<usize>, e: Ending, list: &[u8], n: usize, out: &mut [u8]) -> usize
     requires { Listed (ending_of e) n list.now }
-    ensures { (f : Figure) → means figure ≡ told f → Dashed (ending_of e) f → Fitted out.old
-        (ended_text (ending_of e) f n list.now) out.new result }
+    ensures { Dashed (ending_of e) (figure_of figure) → Fitted out.old
+        (ended_text (ending_of e) (figure_of figure) n list.now) out.new result }
 {
     let Ending::Finished(plans, nodes) = e else {
         return stop_report(e, list, n, out);
@@ -67,12 +60,10 @@ pub fn sheet_report(sheet: &[u8], out: &mut [u8]) -> usize
 {
     let mut list = families_count::plan_room();
     let run = families_count::report_run(sheet, report::REPORT_LIMIT, &mut list);
-    let answer = run.answer;
-    let figure = run.figure;
     let n = run.variables;
     let used = report::REPORT_PLANS * n;
-    match answer {
-        Answer::Refused { number, item } => report::refused(number as usize, item, out),
-        Answer::Ended(e) => ending_report(figure, e, &list[..used], n, out),
+    match run.answer {
+        Ok(e) => ending_report(run.figure, e, &list[..used], n, out),
+        Err(refusal) => report::refused(usize::from(refusal.question.number()), refusal.item, out),
     }
 }

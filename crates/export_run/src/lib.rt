@@ -8,16 +8,15 @@ ghost use Rattle.export_run.specs.Calls.{CallCode};
 ghost use Rattle.export_run.specs.Inner.Inner.{Counted};
 
 use run_state::Ending;
-use wire::{code, three};
+use wire::{refusal_code, three};
 
 // Puts the questions to a sheet: 0 where it is accepted, else the number of the first "no" times 256, plus its item.
 pub fn question(sheet: &[u8]) -> u32
     ensures { CallCode sheet.now result }
 {
-    let answer = sheet::question(sheet);
-    match answer {
-        sheet::Answer::Accepted => 0,
-        sheet::Answer::Refused { number, item } => code(number, item),
+    match sheet::question(sheet) {
+        Ok(()) => 0,
+        Err(refusal) => refusal_code(refusal),
     }
 }
 

@@ -4,7 +4,7 @@
 ghost use Rattle.export_run.specs.Calls.{CallExported};
 
 use export_run::ending;
-use wire::{WRONG_LENGTH, code};
+use wire::{WRONG_LENGTH, refusal_code};
 
 // Runs the search on a sheet, with a limit of nodes; plans go to the front of the list. The answer has 12 bytes, three numbers of four
 // bytes, low byte first: 1 finished, 2 spent, 3 full, then plans and nodes. Returns 0, or the refusal as one number, or 255 times 256
@@ -15,12 +15,11 @@ pub fn run(sheet: &[u8], limit: u32, list: &mut [u8], answer: &mut [u8]) -> u32
     if answer.len() != 12 {
         return WRONG_LENGTH;
     }
-    let r = run::run(sheet, limit, list);
-    match r {
-        run::Answer::Refused { number, item } => code(number, item),
-        run::Answer::Ended(e) => {
+    match run::run(sheet, limit, list) {
+        Ok(e) => {
             ending(answer, e);
             0
         }
+        Err(refusal) => refusal_code(refusal),
     }
 }

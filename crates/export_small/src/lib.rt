@@ -3,8 +3,7 @@
 
 ghost use Rattle.export_small.specs.Calls.{CallSmallBytes};
 
-use sheet_small::Answer;
-use wire::{WRONG_LENGTH, code, three};
+use wire::{WRONG_LENGTH, refusal_code, three};
 
 // Writes the small sheet at position k, from 0, to the front of the room. The answer has 12 bytes, three numbers of four bytes, low byte
 // first: 1, the number of bytes written, 0. Answers 0; or a refusal, and then both buffers are as they came; or, asked first, 255 times
@@ -15,10 +14,9 @@ pub fn small_sheet(k: u32, out: &mut [u8], answer: &mut [u8]) -> u32
     if answer.len() != 12 {
         return WRONG_LENGTH;
     }
-    let r = sheet_small::small_sheet(k as usize, out);
-    match r {
-        Answer::Refused { number, item } => code(number, item),
-        Answer::Written { bytes } => {
+    match sheet_small::small_sheet(k as usize, out) {
+        Err(question) => refusal_code(question.into()),
+        Ok(bytes) => {
             three(answer, 1, bytes, 0);
             0
         }

@@ -1,6 +1,9 @@
 -- The store's exported calls: an outcome's numbers fit the code and the answer; answers of 12 bytes and of another length. Assumes nothing.
 use Rattle.model.specs.Kit.{◌≡◌, sym, ap, ◌∙◌, Bool, true, false, List, ℕ, ◌+◌, ◌≤◌, min, arith, leb, ltb, eqb, length, drop, length-take, eq-eqb, ne_eqb}
-use Rattle.model.specs.{Lists.both, Lists.either, Lists.choose, Verdict.Verdict, Verdict.accepted, Verdict.refused, Verdict.ask, Sheet.«word», Room.Outcome, Room.outcome_of}
+use Rattle.model.specs.{Lists.both, Lists.either, Lists.choose, Verdict.Verdict, Verdict.accepted, Verdict.refused, Verdict.ask, Sheet.«word», Room.Outcome, Room.outcome_of, Room.wrote}
+use Rattle.std.specs.Prelude.{Result, Ok, Err, MatchResult, IsOkAnd}
+use Rattle.model.specs.declared.refusals.Question.{Question}
+use Rattle.store.specs.Meaning.{means, means_bytes}
 use Rattle.store.specs.Store.{none, table, is_table, table_in, Entries, keys_of, Action, put, fetch, remove, StoreCall, call, action_verdict, call_verdict, copied_out, size}
 use Rattle.store.specs.Inner.Layout.{slot_at, slot_with, table_at, store_of, verdict_on, reply_on, bytes_after}
 use Rattle.wire.specs.{Wire.wrong_length, Outcomes.outcome_code, Outcomes.outcome_answer}
@@ -43,6 +46,13 @@ reply_holds b (call o key a) = go (verdict_on b (call o key a)) (verdict_on_smal
     go : (v : Verdict) → Small v → OutcomeFits (outcome_of v (copied_out a (store_of b o key)))
     go accepted h = let l = written_short b o key a in omega arith
     go (refused number item) h = h
+
+-- put and remove write no bytes
+pub told_none : (P : Unit → ℕ → Type 0) (r : Result Unit Question) (s : Result ℕ Question) → MatchResult r (λ done. IsOkAnd s (P done)) (λ asked. s ≡ Err asked) →
+    ((done : Unit) (bytes : ℕ) → P done bytes → bytes ≡ 0) → means_bytes s ≡ means r
+told_none P (Ok done) (Ok bytes) h nought = ap wrote (nought done bytes h)
+told_none P (Ok done) (Err asked) h nought = absurd h
+told_none P (Err asked) s h nought = ap means_bytes h
 
 -- ---- by the answer's length
 module _ {A : Type 0} (yes other : A) (answer : List ℕ) where

@@ -4,23 +4,23 @@
 #![tactic(auto)]
 
 ghost use Rattle.std.specs.Prelude.{◌≡◌, length};
-ghost use Rattle.store.specs.Meaning.{means};
+ghost use Rattle.store.specs.Meaning.{means_bytes};
 ghost use Rattle.wire.specs.Outcomes.{outcome_code, outcome_answer};
 ghost use Rattle.export_store.specs.Inner.Fits.{OutcomeFits};
 ghost use Rattle.export_store.specs.Calls.{CallPutBytes, CallFetchBytes, CallDropBytes};
 
-use store::Answer;
-use wire::{WRONG_LENGTH, code, three};
+use model::refusals::Question;
+use wire::{WRONG_LENGTH, refusal_code, three};
 
-// An outcome as the returned number and the answer.
-fn told(answer: &mut [u8], r: Answer) -> u32
-    requires { (length answer.old ≡ 12) × OutcomeFits (means r) }
-    ensures value { result ≡ outcome_code (means r) }
-    ensures answer_after { answer.new ≡ outcome_answer (means r) answer.old }
+// The number of bytes written, or the refusal, as the returned number and the answer.
+fn told(answer: &mut [u8], written: Result<usize, Question>) -> u32
+    requires { (length answer.old ≡ 12) × OutcomeFits (means_bytes written) }
+    ensures value { result ≡ outcome_code (means_bytes written) }
+    ensures answer_after { answer.new ≡ outcome_answer (means_bytes written) answer.old }
 {
-    match r {
-        Answer::Refused { number, item } => code(number, item),
-        Answer::Done { bytes } => {
+    match written {
+        Err(question) => refusal_code(question.into()),
+        Ok(bytes) => {
             three(answer, 1, bytes, 0);
             0
         }
@@ -34,8 +34,8 @@ pub fn store_put(store: &mut [u8], owner: u32, key: u8, table: &[u8], answer: &m
     if answer.len() != 12 {
         return WRONG_LENGTH;
     }
-    let r = store::put(store, owner, key, table);
-    told(answer, r)
+    let done = store::put(store, owner, key, table);
+    told(answer, done.map(|()| 0))
 }
 
 // Copies a table to the front of the room.
@@ -45,8 +45,8 @@ pub fn store_fetch(store: &[u8], owner: u32, key: u8, room: &mut [u8], answer: &
     if answer.len() != 12 {
         return WRONG_LENGTH;
     }
-    let r = store::fetch(store, owner, key, room);
-    told(answer, r)
+    let written = store::fetch(store, owner, key, room);
+    told(answer, written)
 }
 
 // Removes a table; its room is used again.
@@ -56,6 +56,6 @@ pub fn store_drop(store: &mut [u8], owner: u32, key: u8, answer: &mut [u8]) -> u
     if answer.len() != 12 {
         return WRONG_LENGTH;
     }
-    let r = store::remove(store, owner, key);
-    told(answer, r)
+    let done = store::remove(store, owner, key);
+    told(answer, done.map(|()| 0))
 }

@@ -28,6 +28,10 @@ module _ {p : Problem} {rows : List ℕ} {variables : ℕ} (a : Listed p rows va
         let c = a.whole in
         omega arith
 
+    -- its number and its place, as the code computes them
+    pub listed_place : (i < 4096) × (i * variables + variables ≤ length rows) × (variables ≤ 12)
+    listed_place = let b = a.few in (omega arith, listed_row, listed_twelve)
+
     pub listed_small : (x : ℕ) → x < variables → at rows (i * variables + x) < 16
     listed_small x h =
         let e = a.row i x l h in
@@ -112,6 +116,11 @@ module _ {p : Problem} {rows images : List ℕ} {variables i k : ℕ} (a : Imagi
         let b = (image_pair p good respected k i a.symmetry a.solution x lx).1 in
         let c = a.lent.listed.named in
         omega arith
+
+    -- all that the code's sums and indices ask
+    pub imaging_facts : (at rows (i * variables + x) < 16) × (192 * k + 16 * x + at rows (i * variables + x) < length images) × (sent rows images variables i k x / 16 < variables)
+        × (variables ≤ 12)
+    imaging_facts = (imaging_value, imaging_index, imaging_variable, imaging_bounds.0)
 
     pub imaging_same : at (solution_at p (image_at p k i)) (sent rows images variables i k x / 16) ≡ sent rows images variables i k x % 16
     imaging_same = ap (at (solution_at p (image_at p k i))) sent_variable ∙ (image_pair p good respected k i a.symmetry a.solution x lx).2 ∙ sym sent_value

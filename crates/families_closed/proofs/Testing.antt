@@ -2,7 +2,8 @@
 use Rattle.model.specs.Kit.{◌≡◌, refl, sym, ap, ap₂, ◌∙◌, subst₂, Bool, true, false, List, [], ◌∷◌, ℕ, ◌+◌, ◌*◌, ◌/◌, ◌%◌, ◌≤◌, ◌<◌, arith, T, length, get_or, length-append, lt-ltb, le-ltb}
 use Rattle.model.specs.{Lists.at, Problem.Problem, Verdict.Verdict, Verdict.accepted, Verdict.refused, Verdict.is_accepted, Verdict.reply, Sheet.problem_of, Inner.WellFormed.WellFormed}
 use Rattle.model.proofs.{Lists.length_below, Lists.never, Accepted.stated, Accepted.symmetries_are, Accepted.accepted_is, Accepted.is_accepted_lem}
-use Rattle.sheet.specs.{declared.Answer.Answer, declared.Answer.TheVariants.Accepted}
+use Rattle.std.specs.Prelude.{Result, Ok}
+use Rattle.model.specs.{Refusals.verdict_from, declared.refusals.Refusal.Refusal}
 use Rattle.block.specs.Block.{factorial, ordering_table, block_tables, tables_lent, block_lent, with_lent}
 use Rattle.block.proofs.{Orderings.factorial_le, Block.block_e}
 use Rattle.arrays.specs.Inner.Places.{WIDE}
@@ -11,24 +12,23 @@ use Rattle.run_input.specs.{Lent.verdict_lent, Lent.problem_with, Inner.Compile.
 use Rattle.run_input.proofs.Lent.{lent_passed, well_sheet, well_lent}
 use Rattle.families_closed.specs.{Open.first_missing, Open.none, Open.two, Open.first_open, Inner.Held.Held, Inner.Held.Passed, Lent.Told, Lent.told, Lent.closed_lent}
 use Rattle.families_closed.proofs.Open.{open_first}
-use Rattle.sheet.specs.Meaning as sheet
 
 -- ---- the first two from their number
 module _ (p : Problem) (n k : ℕ) (e : n ≡ length p.symmetries) (f : k ≡ first_missing p) where
-  pub open_two : k < n * n → told (two (k / n) (k % n)) ≡ told (first_open p)
+  pub open_two : k < n * n → two (k / n) (k % n) ≡ first_open p
   unfolding first_open
   open_two l =
       let g = length p.symmetries in
       let h : first_missing p < g * g = subst₂ (λ (i j : ℕ). i < j * j) f e l in
-      ap₂ (λ (i j : ℕ). told (two (j / i) (j % i))) e f ∙ ap told (sym (ap (λ (t : Bool). elim t [ true ↦ two (first_missing p / g) (first_missing p % g) | false ↦ none ])
-      (lt-ltb (first_missing p) (g * g) h)))
+      ap₂ (λ (i j : ℕ). two (j / i) (j % i)) e f ∙ sym (ap (λ (t : Bool). elim t [ true ↦ two (first_missing p / g) (first_missing p % g) | false ↦ none ])
+      (lt-ltb (first_missing p) (g * g) h))
 
-  pub open_no : n * n ≤ k → told none ≡ told (first_open p)
+  pub open_no : n * n ≤ k → none ≡ first_open p
   unfolding first_open
   open_no l =
       let g = length p.symmetries in
       let h : g * g ≤ first_missing p = subst₂ (λ (i j : ℕ). j * j ≤ i) f e l in
-      ap told (sym (ap (λ (t : Bool). elim t [ true ↦ two (first_missing p / g) (first_missing p % g) | false ↦ none ]) (le-ltb (first_missing p) (g * g) h)))
+      sym (ap (λ (t : Bool). elim t [ true ↦ two (first_missing p / g) (first_missing p % g) | false ↦ none ]) (le-ltb (first_missing p) (g * g) h))
 
 -- ---- the arrays
 module _ (b pairs block numbers images : List ℕ) (h : Passed b pairs block numbers images) where
@@ -67,11 +67,11 @@ module _ (b pairs block numbers images : List ℕ) (h : Passed b pairs block num
   }
 
 -- ---- the answer
-module _ (b pairs block numbers supports images order : List ℕ) (r : Answer) (a : AskedLent b pairs block numbers supports images order r) where
-  pub passed_of : r ≡ Accepted → Passed b pairs block numbers images
-  passed_of e = record { verdict = sym a.answers ∙ ap sheet.means e; numbered = (a.compiled e).numbered; imaged = (a.compiled e).imaged; sized = (a.sizes e).images_length }
+module _ (b pairs block numbers supports images order : List ℕ) (r : Result Unit Refusal) (a : AskedLent b pairs block numbers supports images order r) where
+  pub passed_of : r ≡ Ok tt → Passed b pairs block numbers images
+  passed_of e = record { verdict = sym a.answers ∙ ap verdict_from e; numbered = (a.compiled e).numbered; imaged = (a.compiled e).imaged; sized = (a.sizes e).images_length }
 
-  pub told_for : (v : Verdict) (t : Told) → sheet.means r ≡ v → t ≡ reply v (first_open (problem_with b block)) → t ≡ closed_lent b pairs block
+  pub told_for : (v : Verdict) (t : Told) → verdict_from r ≡ v → t ≡ reply v (first_open (problem_with b block)) → t ≡ closed_lent b pairs block
   unfolding closed_lent
   told_for v t e q = q ∙ ap (λ (u : Verdict). reply u (first_open (problem_with b block))) (sym e ∙ a.answers)
 

@@ -1,5 +1,10 @@
 -- The figure from a bare run on the arrays (specs/Held). Assumes nothing.
 use Rattle.model.specs.Kit.{◌≡◌, refl, sym, ap, ◌∙◌, subst, inl, ⊎_elim, List, [], ◌∷◌, Memᴰ-not_nil, ℕ, ◌*◌, ◌≤◌, arith, T, length, set, replicate, length-set, length-replicate}
+use Rattle.std.specs.Prelude.{Bool, true, false, Result, Ok, Err}
+use Rattle.std.specs.Result.{is_err}
+use Rattle.run_state.specs.Inner.Cut.{stop_of}
+use Rattle.run_state.specs.declared.Cut.{Cut}
+use Rattle.run_state.specs.declared.Cut.TheVariants as cut
 use Rattle.model.specs.Run.{Ending, finished, spent, full, plans_in, nodes_in, result_of, Tally}
 use Rattle.model.specs.{Lists.at, Problem.Problem, Inner.WellFormed.WellFormed, Verdict.Verdict, Verdict.accepted, Verdict.refused, Verdict.is_accepted, Verdict.reply, Sheet.problem_of}
 use Rattle.model.specs.{Sheet.verdict_of}
@@ -26,6 +31,16 @@ use Rattle.families_count.specs.Told as T
 -- room for the plans
 pub room_long : (r : List ℕ) → r ≡ replicate 49152 0 → 49152 ≡ length r
 room_long r e = sym (ap length e ∙ length-replicate {A = ℕ} 49152 0)
+
+-- ---- how a run stopped
+pub cut_short : (stop : Result Unit Cut) (t : Bool) → t ≡ is_err stop → t ≡ true → stop_of stop ≡ ALL → ⊥
+cut_short (Ok done) t e f z = never (let y : true ≡ false = sym f ∙ e in cc)
+cut_short (Err cut.Spent) t e f z = let y : SPENT ≡ ALL = z in omega arith
+cut_short (Err cut.Full) t e f z = let y : FULL ≡ ALL = z in omega arith
+
+pub not_cut : (stop : Result Unit Cut) (t : Bool) → t ≡ is_err stop → t ≡ false → stop_of stop ≡ ALL
+not_cut (Ok done) t e f = refl
+not_cut (Err by) t e f = never (let y : false ≡ true = sym f ∙ e in cc)
 
 -- ---- the count
 -- a run that stopped so is finished

@@ -6,7 +6,8 @@ use Rattle.arrays.specs.Inner.{Places.INITIAL, Places.SCOPES, Places.VARIABLES, 
 use Rattle.order.specs.{Order.Ordering, Order.settling_order, Reordered.reordered, Reordered.symmetry_in}
 use Rattle.order.proofs.{Order.no_pairs, LeadersBy.reordered_below}
 use Rattle.arrays_order.specs.Inner.Reorder.{Movable, Moved}
-use Rattle.sheet.specs.{declared.Answer.Answer, declared.Answer.TheVariants.Accepted}
+use Rattle.std.specs.Prelude.{Result, Ok}
+use Rattle.model.specs.declared.refusals.Refusal.{Refusal}
 use Rattle.block.specs.Block.{block_lent}
 use Rattle.arrays_block.specs.Inner.Asked.{Widened, Imaged, Put}
 use Rattle.run_input.specs.{Lent.verdict_lent, Lent.problem_with, Lent.order_lent, Lent.problem_lent, Inner.Compile.AskedLent}
@@ -34,17 +35,17 @@ numbers_with p gs numbers n f few long e c = record {
     same i h = at_set_other numbers SYMMETRIES n i h
 
 -- ---- the images and the order
-pub asked_so : (b pairs block numbers supports images order : List ℕ) (r : Answer) → r ≡ Accepted → AskedLent b pairs block numbers supports images order r
-    → AskedLent b pairs block numbers supports images order Accepted
+pub asked_so : (b pairs block numbers supports images order : List ℕ) (r : Result Unit Refusal) → r ≡ Ok tt → AskedLent b pairs block numbers supports images order r
+    → AskedLent b pairs block numbers supports images order (Ok tt)
 asked_so b pairs block numbers supports images order r e a = subst (AskedLent b pairs block numbers supports images order) e a
 
-module _ (b pairs block numbers supports images order : List ℕ) (a : AskedLent b pairs block numbers supports images order Accepted) where
+module _ (b pairs block numbers supports images order : List ℕ) (a : AskedLent b pairs block numbers supports images order (Ok tt)) where
   -- so `arrays_block::put_images` may be called
   pub lent_images : (old wide : List ℕ) → Widened images old wide → length old ≡ WIDE → Imaged (problem_of b) numbers wide
-  lent_images = imaged_of b pairs block numbers images (passed_of b pairs block numbers supports images order Accepted a refl)
+  lent_images = imaged_of b pairs block numbers images (passed_of b pairs block numbers supports images order (Ok tt) a refl)
 
   pub lent_block : block_lent (problem_of b) block ≡ accepted
-  lent_block = block_passed b pairs block numbers images (passed_of b pairs block numbers supports images order Accepted a refl)
+  lent_block = block_passed b pairs block numbers images (passed_of b pairs block numbers supports images order (Ok tt) a refl)
 
   good : T (is_accepted (verdict_lent b pairs block))
   good = is_accepted_lem (verdict_lent b pairs block) (sym a.answers)

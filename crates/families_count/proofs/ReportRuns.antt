@@ -6,18 +6,19 @@ use lib.Seq.{take_at}
 use Rattle.model.proofs.{Accepted.passed, Accepted.well_formed_lem, Accepted.symmetries_are, Lists.never}
 use Rattle.arrays.specs.Inner.Places.{VARIABLES, PLANS, STACK, TABLES, WORK}
 use Rattle.families_figure.specs.Figure.{report_figure}
-use Rattle.sheet.specs.{Inner.Form.Compilation, declared.Answer.TheVariants.Accepted}
+use Rattle.std.specs.Prelude.{Option, Result, Ok, Err}
+use Rattle.model.specs.{Refusals.number_of, declared.refusals.Refusal.Refusal}
+use Rattle.sheet.specs.Inner.Form.{Compilation}
 use Rattle.sheet.proofs.Whole.{zeros}
 use Rattle.run_state.specs.Inner.Walk.{stop_in}
-use Rattle.run_search.proofs.{Begun.numbers_kept, Explored.stop_in_lem}
-use Rattle.run.specs.{Calls.CallRun, Inner.Whole.Stopped, Inner.Whole.Answered, declared.Answer.Answer, declared.Answer.TheVariants.Refused}
+use Rattle.run_search.proofs.{Begun.numbers_kept}
+use Rattle.run_state.specs.Meaning.{ending_of}
+use Rattle.run_state.specs.declared.Ending as S
+use Rattle.run.specs.{Calls.CallRun, Inner.Whole.Answered}
 use Rattle.run.proofs.Whole.{ended_same}
-use Rattle.families_count.specs.{Told.told, Inner.Held.Runs, Inner.Held.Ran, Inner.Held.Fresh, Inner.Held.Listed, Inner.Held.RunTold}
-use Rattle.sheet.specs.declared.Answer as A
-use Rattle.families_count.specs.Told as F
-use Rattle.families_count.specs.declared.Answer as C
+use Rattle.families_count.specs.{Told.told, Told.figure_of, Inner.Held.Runs, Inner.Held.Ran, Inner.Held.Fresh, Inner.Held.Listed, Inner.Held.RunTold}
 
-module _ (b : List ℕ) (limit : ℕ) (numbers supports images : List ℕ) (c : Compilation b numbers supports images Accepted) where
+module _ (b : List ℕ) (limit : ℕ) (numbers supports images : List ℕ) (c : Compilation b numbers supports images (Ok tt)) where
   verdict : verdict_of b ≡ accepted
   verdict = sym c.answers
 
@@ -66,22 +67,16 @@ module _ (b : List ℕ) (limit : ℕ) (numbers supports images : List ℕ) (c : 
         stopped = a.stopped ∙ ap (λ (k : ℕ). stop_in (result_of (problem_of b) limit k).ending) room_is;
       }
 
-      pub report_stopped : Stopped work' stop
-      report_stopped = let l = stop_in_lem e in let s = a.stopped in record { number = λ z. absurd (omega arith); known = λ z. omega arith }
-
       -- the list was the front of one that is lent whole
-      pub report_told_so : (made : ℕ) → made ≡ tally'.nodes → (r : Answer) → Answered work' made stop r → (f : C.Answer) → F.means f ≡ told (report_figure b limit) →
+      pub report_told_so : (made : ℕ) → made ≡ tally'.nodes → (x : S.Ending) → Answered work' made stop (ending_of x) → (f : Option ℕ) → told (figure_of f) ≡ told (report_figure b limit) →
           (whole : List ℕ) → list ≡ take (4096 * at numbers VARIABLES) whole → length list' ≡ length list → RunTold b limit whole
-          (record { answer = r; figure = f; variables = at numbers VARIABLES }) (list' ++ drop (4096 * at numbers VARIABLES) whole)
+          (record { answer = Ok x; figure = f; variables = at numbers VARIABLES }) (list' ++ drop (4096 * at numbers VARIABLES) whole)
       unfolding answer_of list_of
-      report_told_so made m r q f g whole x y =
-          let l = stop_in_lem e in
-          let s = a.stopped in
-          let o = q.ended (λ z. omega arith) in
+      report_told_so made m x q f g whole w y =
           record {
             sized = record { most = report_few; true_of = λ z. (c.compiled refl).numbered.variables };
-            call = subst₂ (λ (i j : List ℕ). CallRun b limit i r j) x (sym (take_at list' (drop (4096 * at numbers VARIABLES) whole) (4096 * at numbers VARIABLES) (y ∙ long))) record {
-              answers = o.1 ∙ ap ended (ended_same o.0 e (o.2 ∙ a.plans) (o.3 ∙ m ∙ a.nodes) (o.4 ∙ a.stopped)) ∙ ap (λ (u : Verdict). reply u e) (sym verdict);
+            call = subst₂ (λ (i j : List ℕ). CallRun b limit i (Ok x) j) w (sym (take_at list' (drop (4096 * at numbers VARIABLES) whole) (4096 * at numbers VARIABLES) (y ∙ long))) record {
+              answers = ap ended (ended_same (ending_of x) e (q.plans ∙ a.plans) (q.nodes ∙ m ∙ a.nodes) (q.stopped ∙ a.stopped)) ∙ ap (λ (u : Verdict). reply u e) (sym verdict);
               leaves = a.wrote ∙ ap (λ (u : Verdict). kept u list (written (result_of (problem_of b) limit (length list)).rows list)) (sym verdict);
             };
             figure = λ z. g;
@@ -90,14 +85,14 @@ module _ (b : List ℕ) (limit : ℕ) (numbers supports images : List ℕ) (c : 
 pub new_arrays : Fresh (replicate STACK 0) (replicate WORK 0) (replicate TABLES 0)
 new_arrays = record { writable = record { stack_length = (zeros STACK).sized; work_length = (zeros WORK).sized; tables_length = (zeros TABLES).sized }; begun = (zeros WORK).blank PLANS }
 
-pub accepted_so : (b numbers supports images : List ℕ) (v : A.Answer) → v ≡ Accepted → Compilation b numbers supports images v → Compilation b numbers supports images Accepted
+pub accepted_so : (b numbers supports images : List ℕ) (v : Result Unit Refusal) → v ≡ Ok tt → Compilation b numbers supports images v → Compilation b numbers supports images (Ok tt)
 accepted_so b numbers supports images v e c = subst (Compilation b numbers supports images) e c
 
 -- a refusal, of which no byte of the list counts
-pub report_refused : (b : List ℕ) (limit : ℕ) (list : List ℕ) (number item : ℕ) (f : C.Answer) → refused number item ≡ verdict_of b → RunTold b limit list
-    (record { answer = Refused number item; figure = f; variables = 0 }) list
+pub report_refused : (b : List ℕ) (limit : ℕ) (list : List ℕ) (refused_by : Refusal) (f : Option ℕ) → refused (number_of refused_by.question) refused_by.item ≡ verdict_of b → RunTold b limit list
+    (record { answer = Err refused_by; figure = f; variables = 0 }) list
 unfolding answer_of list_of
-report_refused b limit list number item f v = record {
+report_refused b limit list refused_by f v = record {
   sized = record { most = omega arith; true_of = λ z. absurd (never_so z) };
   call = record {
     answers = ap (λ (u : Verdict). reply u (result_of (problem_of b) limit (length (take 0 list))).ending) v;
@@ -107,4 +102,4 @@ report_refused b limit list number item f v = record {
 }
   where
     never_so : verdict_of b ≡ accepted → ⊥
-    never_so z = let y : refused number item ≡ accepted = v ∙ z in never (cc)
+    never_so z = let y : refused (number_of refused_by.question) refused_by.item ≡ accepted = v ∙ z in never (cc)

@@ -2,36 +2,30 @@
 // compiled once, and the arrays serve every run on it and the count.
 #![tactic(auto)]
 
-ghost use Rattle.std.specs.Prelude.{◌≡◌, List, ℕ, length, replicate};
+ghost use Rattle.std.specs.Prelude.{◌≡◌, List, ℕ, Ok, length, replicate};
 ghost use Rattle.model.specs.Problem.{Problem};
 ghost use Rattle.arrays.specs.Inner.Places.{WIDE};
 ghost use Rattle.run_state.specs.Meaning.{tally_in};
+ghost use Rattle.run_state.specs.Inner.Cut.{stop_of};
 ghost use Rattle.run_input.specs.Inner.Compile.{AskedLent};
 ghost use Rattle.sheet.specs.Inner.Form.{Compilation};
-ghost use Rattle.sheet.specs.declared.Answer.TheVariants.{Accepted};
 ghost use Rattle.families_figure.specs.Figure.{report_figure, families_lent};
-ghost use Rattle.families_count.specs.Told.{counted_lent, told, means};
+ghost use Rattle.families_count.specs.Told.{counted_lent, told, figure_of, means};
 ghost use Rattle.families_count.specs.Inner.Held.{Roomy, Runs, Ran, Put, Whole, Fresh, Listed, RunTold};
 
 use arrays::{
-    ALL, IMAGES, Images, NUMBERS, Numbers, PLANS, STACK, SUPPORTS, SYMMETRIES, Stack, Supports,
-    TABLES, Tables, VARIABLES, WIDE, WORK, Wide, Work,
+    IMAGES, Images, NUMBERS, Numbers, PLANS, STACK, SUPPORTS, SYMMETRIES, Stack, Supports, TABLES,
+    Tables, VARIABLES, WIDE, WORK, Wide, Work,
 };
+use model::refusals::Refusal;
+use run_state::{Cut, Ending};
 use run_tree::CountedPart;
 
-// The number of families, the dash, or the refusal of a run.
-#[derive(Clone, Copy)]
-pub enum Answer {
-    Number(usize),
-    Dash,
-    Refused { number: u8, item: usize },
-}
-
-// The run of a report, its figure, and the number of variables, 0 after a refusal.
-#[derive(Clone, Copy)]
+// The run of a report, its figure, none for the dash, and the number of variables, 0 after a refusal.
+#[derive(Clone, Copy, Debug, PartialEq, Eq)]
 pub struct ReportRun {
-    pub answer: run::Answer,
-    pub figure: Answer,
+    pub answer: Result<Ending, Refusal>,
+    pub figure: Option<usize>,
     pub variables: usize,
 }
 
@@ -52,10 +46,10 @@ fn put_images(
     order: &[u8; 16],
     wide: &mut Wide,
 ) -> usize
-    requires { ((b : List ℕ) × AskedLent b pairs.now block.now numbers.old supports.old images.now order.now Accepted) ×
+    requires { ((b : List ℕ) × AskedLent b pairs.now block.now numbers.old supports.old images.now order.now (Ok tt)) ×
         (length wide.old ≡ WIDE) }
     ensures { (b : List ℕ) → AskedLent b pairs.now block.now numbers.old supports.old
-        images.now order.now Accepted → Put b pairs.now block.now numbers.new supports.new
+        images.now order.now (Ok tt) → Put b pairs.now block.now numbers.new supports.new
         wide.new result × (length wide.new ≡ WIDE) }
 {
     arrays_block::widen(images, wide);
@@ -81,13 +75,13 @@ fn run_arrays(
     requires { (p : Problem) × Runs p stack.old work.old supports.now tables.old numbers.old images.now list.old }
     ensures { (p : Problem) → Runs p stack.old work.old supports.now tables.old numbers.old
         images.now list.old → Ran p limit numbers.old list.old stack.new work.new
-        tables.new numbers.new list.new (tally_in result.tally) result.stop }
+        tables.new numbers.new list.new (tally_in result.tally) (stop_of result.stop) }
 {
     let mut order = [0u8; 16];
     run_task::by_position(&mut order);
     run_task::put_bounds(numbers, limit as u64, 4096);
-    let step = run_search::begin(stack, work, supports, tables, numbers, images, &order, 0, 1);
-    run_search::walk_tree(stack, work, supports, tables, numbers, list, step)
+    let node = run_search::begin(stack, work, supports, tables, numbers, images, &order, 0, 1);
+    run_search::walk_tree(stack, work, supports, tables, numbers, list, node)
 }
 
 // The families of the problem in the arrays, whose symmetries have their images: the run without symmetries, which reads no images, and where it is finished
@@ -103,22 +97,22 @@ fn figure(
     symmetries: usize,
     limit: u32,
     list: &mut [u8],
-) -> Answer
+) -> Option<usize>
     requires { (b : List ℕ) × (pairs : List ℕ) × (block : List ℕ) × Whole b pairs block symmetries stack.old work.old supports.now tables.old
         numbers.old images.now × Roomy b n list.old }
     ensures { (b pairs block : List ℕ) → Whole b pairs block symmetries stack.old work.old supports.now
-        tables.old numbers.old images.now → Roomy b n list.old → means result ≡ told
+        tables.old numbers.old images.now → Roomy b n list.old → told (figure_of result) ≡ told
         (families_lent b pairs block limit (length list.old)) }
 {
     numbers[SYMMETRIES] = 0;
     work[PLANS] = 0;
     let none = [0u8; IMAGES];
     let part = run_arrays(stack, work, supports, tables, numbers, &none, limit, list);
-    if part.stop != ALL {
-        return Answer::Dash;
+    if part.stop.is_err() {
+        return None;
     }
     let solutions = work[PLANS] as usize;
-    Answer::Number(families::families(list, images, n, symmetries, solutions))
+    Some(families::families(list, images, n, symmetries, solutions))
 }
 
 // The same with room of its own.
@@ -131,11 +125,11 @@ fn counted(
     images: &[u8],
     symmetries: usize,
     limit: u32,
-) -> Answer
+) -> Option<usize>
     requires { (b : List ℕ) × (pairs : List ℕ) × (block : List ℕ) × Whole b pairs block symmetries stack.old work.old supports.now tables.old
         numbers.old images.now }
     ensures { (b pairs block : List ℕ) → Whole b pairs block symmetries stack.old work.old supports.now
-        tables.old numbers.old images.now → means result ≡ counted_lent b pairs block limit }
+        tables.old numbers.old images.now → told (figure_of result) ≡ counted_lent b pairs block limit }
 {
     let n = numbers[VARIABLES] as usize;
     let used = 4096 * n;
@@ -156,7 +150,12 @@ fn counted(
 
 // The families of a run that is lent a sheet, pairs and a block, where it and the bare run, both with this node limit and room for 4,096 plans, are
 // finished.
-pub fn families(sheet: &[u8], pairs: &[u8], block: &[u8], limit: u32) -> Answer
+pub fn families(
+    sheet: &[u8],
+    pairs: &[u8],
+    block: &[u8],
+    limit: u32,
+) -> Result<Option<usize>, Refusal>
     ensures { means result ≡ counted_lent sheet.now pairs.now block.now limit }
 {
     let mut stack = [0u16; STACK];
@@ -166,7 +165,7 @@ pub fn families(sheet: &[u8], pairs: &[u8], block: &[u8], limit: u32) -> Answer
     let mut numbers = [0u64; NUMBERS];
     let mut images = [0u8; IMAGES];
     let mut order = [0u8; 16];
-    let verdict = run_input::ask(
+    run_input::ask(
         sheet,
         pairs,
         block,
@@ -174,32 +173,27 @@ pub fn families(sheet: &[u8], pairs: &[u8], block: &[u8], limit: u32) -> Answer
         &mut supports,
         &mut images,
         &mut order,
+    )?;
+    let mut wide = [0u8; WIDE];
+    let symmetries = put_images(
+        pairs,
+        block,
+        &mut numbers,
+        &mut supports,
+        &images,
+        &order,
+        &mut wide,
     );
-    match verdict {
-        sheet::Answer::Accepted => {
-            let mut wide = [0u8; WIDE];
-            let symmetries = put_images(
-                pairs,
-                block,
-                &mut numbers,
-                &mut supports,
-                &images,
-                &order,
-                &mut wide,
-            );
-            counted(
-                &mut stack,
-                &mut work,
-                &supports,
-                &mut tables,
-                &mut numbers,
-                &wide,
-                symmetries,
-                limit,
-            )
-        }
-        sheet::Answer::Refused { number, item } => Answer::Refused { number, item },
-    }
+    Ok(counted(
+        &mut stack,
+        &mut work,
+        &supports,
+        &mut tables,
+        &mut numbers,
+        &wide,
+        symmetries,
+        limit,
+    ))
 }
 
 // The figure of a report whose run stopped so. Without symmetries its plans are the families, and there is no second run.
@@ -210,19 +204,19 @@ fn report_figure(
     tables: &mut Tables,
     numbers: &mut Numbers,
     images: &[u8],
-    stop: u8,
+    stop: Result<(), Cut>,
     limit: u32,
-) -> Answer
-    requires { (b : List ℕ) × Listed b limit stack.old work.old supports.now tables.old numbers.old images.now stop }
+) -> Option<usize>
+    requires { (b : List ℕ) × Listed b limit stack.old work.old supports.now tables.old numbers.old images.now (stop_of stop) }
     ensures { (b : List ℕ) → Listed b limit stack.old work.old supports.now tables.old
-        numbers.old images.now stop → means result ≡ told (report_figure b limit) }
+        numbers.old images.now (stop_of stop) → told (figure_of result) ≡ told (report_figure b limit) }
 {
-    if stop != ALL {
-        return Answer::Dash;
+    if stop.is_err() {
+        return None;
     }
     let symmetries = numbers[SYMMETRIES] as usize;
     if symmetries == 0 {
-        return Answer::Number(work[PLANS] as usize);
+        return Some(work[PLANS] as usize);
     }
     counted(
         stack, work, supports, tables, numbers, images, symmetries, limit,
@@ -240,9 +234,9 @@ fn report_arrays(
     limit: u32,
     list: &mut [u8],
 ) -> ReportRun
-    requires { ((b : List ℕ) × Compilation b numbers.old supports.now images.now Accepted) × Fresh stack.old work.old tables.old ×
+    requires { ((b : List ℕ) × Compilation b numbers.old supports.now images.now (Ok tt)) × Fresh stack.old work.old tables.old ×
         (length list.old ≡ 49152) }
-    ensures { (b : List ℕ) → Compilation b numbers.old supports.now images.now Accepted → RunTold b limit
+    ensures { (b : List ℕ) → Compilation b numbers.old supports.now images.now (Ok tt) → RunTold b limit
         list.old result list.new }
 {
     let variables = numbers[VARIABLES] as usize;
@@ -259,10 +253,10 @@ fn report_arrays(
     );
     let tally = part.tally;
     let stop = part.stop;
-    let answer = run::answered(work, tally.nodes, stop);
+    let ending = run::answered(work, tally.nodes, stop);
     let figure = report_figure(stack, work, supports, tables, numbers, images, stop, limit);
     ReportRun {
-        answer,
+        answer: Ok(ending),
         figure,
         variables,
     }
@@ -279,9 +273,8 @@ pub fn report_run(sheet: &[u8], limit: u32, list: &mut [u8]) -> ReportRun
     let mut tables = [0u16; TABLES];
     let mut numbers = [0u64; NUMBERS];
     let mut images = [0u8; IMAGES];
-    let verdict = sheet::compile(sheet, &mut numbers, &mut supports, &mut images);
-    match verdict {
-        sheet::Answer::Accepted => report_arrays(
+    match sheet::compile(sheet, &mut numbers, &mut supports, &mut images) {
+        Ok(()) => report_arrays(
             &mut stack,
             &mut work,
             &supports,
@@ -291,9 +284,9 @@ pub fn report_run(sheet: &[u8], limit: u32, list: &mut [u8]) -> ReportRun
             limit,
             list,
         ),
-        sheet::Answer::Refused { number, item } => ReportRun {
-            answer: run::Answer::Refused { number, item },
-            figure: Answer::Dash,
+        Err(refusal) => ReportRun {
+            answer: Err(refusal),
+            figure: None,
             variables: 0,
         },
     }

@@ -8,9 +8,13 @@ use Rattle.model.specs.{Lists.at, Lists.both, ValueSets.has, NogoodClaims.CaseOf
 use mathlib.Core.Logic.{∥∥₁_elim, ∥∥₁_prop}
 use Rattle.model.proofs.{Lists.both_i, Lists.both_l, Lists.both_r, Lists.not_of, Lists.get_d_at, Lists.never, Assignments.drawn_i, Assignments.drawn_e, Filter.length_filtered, Filter.filtered_sets}
 use Rattle.model.proofs.{EntryKinds.kind_holds, Endings.failed_exactly, Endings.entailed_exactly, Endings.consistent_exactly, Demands.filter_keeps, Demands.filter_empties}
-use Rattle.filter.specs.declared.Answer.TheVariants.{Failed, Entailed, Consistent, Refused}
+use Rattle.std.proofs.Common.{Result, Ok, Err}
+use Rattle.model.specs.{Refusals.number_of, declared.refusals.Question.Question, declared.refusals.Refusal.Refusal}
+use Rattle.model.specs.declared.refusals.Question.TheVariants as question
+use Rattle.filter.specs.declared.Ending.TheVariants.{Failed, Entailed, Consistent}
 use Rattle.filter.specs.FilterCalls.{CallFilter, SetsRight, LengthsRight, EntryRight, ListsRight, Breaks, Obeys, NoneObeys, EveryObeys, FilterCalls}
-use Rattle.filter.specs.{declared.Answer.Answer, Meaning.means}
+use Rattle.filter.specs.{declared.Ending.Ending, Meaning.means}
+use Rattle.filter.proofs.Named.{named, by_number}
 use Rattle.filter.proofs.Questions.{wrong_at, wrong_none, wrong_entry, all_right}
 
 -- ---- an entry that is right
@@ -123,29 +127,30 @@ module _ (a : List ℕ) where
 
 -- ---- the call
 -- an answer is known by what it means
-is_failed : (r : Answer) → means r ≡ answered failed → r ≡ Failed
-is_failed Failed e = refl
-is_failed Entailed e = never (cc)
-is_failed Consistent e = never (cc)
-is_failed (Refused n i) e = never (cc)
+is_failed : (r : Result Ending Refusal) → means r ≡ answered failed → r ≡ Ok Failed
+is_failed (Ok Failed) e = refl
+is_failed (Ok Entailed) e = never (cc)
+is_failed (Ok Consistent) e = never (cc)
+is_failed (Err by) e = never (cc)
 
-is_entailed : (r : Answer) → means r ≡ answered entailed → r ≡ Entailed
-is_entailed Failed e = never (cc)
-is_entailed Entailed e = refl
-is_entailed Consistent e = never (cc)
-is_entailed (Refused n i) e = never (cc)
+is_entailed : (r : Result Ending Refusal) → means r ≡ answered entailed → r ≡ Ok Entailed
+is_entailed (Ok Failed) e = never (cc)
+is_entailed (Ok Entailed) e = refl
+is_entailed (Ok Consistent) e = never (cc)
+is_entailed (Err by) e = never (cc)
 
-is_consistent : (r : Answer) → means r ≡ answered consistent → r ≡ Consistent
-is_consistent Failed e = never (cc)
-is_consistent Entailed e = never (cc)
-is_consistent Consistent e = refl
-is_consistent (Refused n i) e = never (cc)
+is_consistent : (r : Result Ending Refusal) → means r ≡ answered consistent → r ≡ Ok Consistent
+is_consistent (Ok Failed) e = never (cc)
+is_consistent (Ok Entailed) e = never (cc)
+is_consistent (Ok Consistent) e = refl
+is_consistent (Err by) e = never (cc)
 
-is_refused : (r : Answer) (n i : ℕ) → means r ≡ refusal n i → r ≡ Refused n i
-is_refused Failed n i e = never (cc)
-is_refused Entailed n i e = never (cc)
-is_refused Consistent n i e = never (cc)
-is_refused (Refused m j) n i e = cc
+is_refused : (r : Result Ending Refusal) (known : Question) (n i : ℕ) → ((q : Question) → named n q ≡ known) → means r ≡ refusal n i → r ≡ Err (record { question = known; item = i })
+is_refused (Ok ending) known n i k e = never (cc)
+is_refused (Err by) known n i k e =
+    let a : number_of by.question ≡ n = cc in
+    let b : by.item ≡ i = cc in
+    ap₂ (λ (q : Question) (j : ℕ). Err (record { question = q; item = j })) (by_number n by.question known (k by.question) a) b
 
 -- a question that is answered "no"
 asked_no : (c : Bool) (number item : ℕ) (later : Verdict) → (T c → ⊥) → ask c number item later ≡ refused number item
@@ -158,30 +163,31 @@ right_accepted ds xs es us right =
     let ok : (j : ℕ) → j < length xs → entry_ok (length ds) (at xs j) (at es j) (at us j) ≡ true = λ j l. (let q = right.entry j l in ok_i (length ds) (at xs j) (at es j) (at us j) q.0 q.1) in
     sym (all_right ds xs es us right.sets.0 right.sets.1 right.lengths.0 right.lengths.1 right.lengths.2 m (wrong_none (length ds) xs es us m (omega arith) (omega arith) ok) refl)
 
-module _ (ds xs es us : List ℕ) (r : Answer) (rs : List ℕ) (small : (x : ℕ) → at ds x < 2 ^ 16) (c : CallFilter ds xs es us r rs) where
+module _ (ds xs es us : List ℕ) (r : Result Ending Refusal) (rs : List ℕ) (small : (x : ℕ) → at ds x < 2 ^ 16) (c : CallFilter ds xs es us r rs) where
   abbrev es' : List Entry
   es' = entries xs es us
 
-  refused_so : (number item : ℕ) → filter_verdict ds xs es us ≡ refused number item → (r ≡ Refused number item) × (rs ≡ ds)
+  refused_so : (number item : ℕ) (known : Question) → ((q : Question) → named number q ≡ known) → filter_verdict ds xs es us ≡ refused number item
+      → (r ≡ Err (record { question = known; item = item })) × (rs ≡ ds)
   unfolding filter_answer sets_after
-  refused_so number item e = (is_refused r number item (c.answers ∙ ap (λ (v : Verdict). reply v (filter_ending ds es')) e), c.leaves ∙ ap (λ (v : Verdict). sets_after v ds es') e)
+  refused_so number item known k e = (is_refused r known number item k (c.answers ∙ ap (λ (v : Verdict). reply v (filter_ending ds es')) e), c.leaves ∙ ap (λ (v : Verdict). sets_after v ds es') e)
 
   sets_test : SetsRight ds → both (leb 1 (length ds)) (leb (length ds) 12) ≡ true
   sets_test s = ap₂ both (le-leb 1 (length ds) s.0) (le-leb (length ds) 12 s.1)
 
-  sets_wrong : (SetsRight ds → ⊥) → (r ≡ Refused 17 0) × (rs ≡ ds)
+  sets_wrong : (SetsRight ds → ⊥) → (r ≡ Err (record { question = question.Sets; item = 0 })) × (rs ≡ ds)
   unfolding filter_verdict
-  sets_wrong n = refused_so 17 0 (asked_no (both (leb 1 (length ds)) (leb (length ds) 12)) 17 0 _
+  sets_wrong n = refused_so 17 0 question.Sets (λ q. refl) (asked_no (both (leb 1 (length ds)) (leb (length ds) 12)) 17 0 _
       (λ t. n (leb→le 1 (length ds) (both_l (leb 1 (length ds)) (leb (length ds) 12) t), leb→le (length ds) 12 (both_r (leb 1 (length ds)) (leb (length ds) 12) t))))
 
-  lengths_wrong : SetsRight ds → (LengthsRight xs es us → ⊥) → (r ≡ Refused 18 0) × (rs ≡ ds)
+  lengths_wrong : SetsRight ds → (LengthsRight xs es us → ⊥) → (r ≡ Err (record { question = question.ListLengths; item = 0 })) × (rs ≡ ds)
   unfolding filter_verdict
   lengths_wrong s n =
       let e = eqb (length es) (length xs) in
       let u = eqb (length us) (length xs) in
       let m = leb (length xs) 192 in
       let last = ask (eqb (first_wrong (length ds) xs es us) (length xs)) 19 (first_wrong (length ds) xs es us) accepted in
-      refused_so 18 0
+      refused_so 18 0 question.ListLengths (λ q. refl)
       (ap (λ (b : Bool). ask b 17 0 (ask (both (both e u) m) 18 0 last)) (sets_test s)
       ∙ asked_no (both (both e u) m) 18 0 last (λ t. n (
         eqb→eq (length es) (length xs) (both_l e u (both_l (both e u) m t)),
@@ -190,11 +196,11 @@ module _ (ds xs es us : List ℕ) (r : Answer) (rs : List ℕ) (small : (x : ℕ
       )))
 
   entry_wrong : SetsRight ds → LengthsRight xs es us →
-      (j : ℕ) → j < length xs → ((i : ℕ) → i < j → EntryRight (length ds) xs es us i) → (EntryRight (length ds) xs es us j → ⊥) → (r ≡ Refused 19 j) × (rs ≡ ds)
+      (j : ℕ) → j < length xs → ((i : ℕ) → i < j → EntryRight (length ds) xs es us i) → (EntryRight (length ds) xs es us j → ⊥) → (r ≡ Err (record { question = question.Entry; item = j })) × (rs ≡ ds)
   entry_wrong s l j b before n =
       let w = wrong_at (length ds) xs es us j b (λ i k. let q = before i k in ok_i (length ds) (at xs i) (at es i) (at us i) q.0 q.1)
       (not_of (entry_ok (length ds) (at xs j) (at es j) (at us j)) (λ t. n (ok_e (length ds) (at xs j) (at es j) (at us j) t))) in
-      refused_so 19 j (sym (wrong_entry ds xs es us s.0 s.1 l.0 l.1 l.2 j w (λ z. omega arith)))
+      refused_so 19 j question.Entry (λ q. refl) (sym (wrong_entry ds xs es us s.0 s.1 l.0 l.1 l.2 j w (λ z. omega arith)))
 
   after_sized : (v : Verdict) → length (sets_after v ds (entries xs es us)) ≡ length ds
   unfolding sets_after
@@ -250,28 +256,28 @@ module _ (ds xs es us : List ℕ) (r : Answer) (rs : List ℕ) (small : (x : ℕ
     so : (e : FilterEnding) → answered (filter_ending ds (entries xs es us)) ≡ answered e → filter_ending ds (entries xs es us) ≡ e
     so e h = cc
 
-    fails : (r ≡ Failed) ↔ NoneObeys ds xs es us
+    fails : (r ≡ Ok Failed) ↔ NoneObeys ds xs es us
     fails =
         let x = failed_exactly ds es' in (
           λ e. none_e (x.0 (so failed (sym ended ∙ ap means e))),
           λ n. is_failed r (ended ∙ ap answered (x.1 (none_i n))),
         )
 
-    entails : (r ≡ Entailed) ↔ ((NoneObeys ds xs es us → ⊥) × EveryObeys rs xs es us)
+    entails : (r ≡ Ok Entailed) ↔ ((NoneObeys ds xs es us → ⊥) × EveryObeys rs xs es us)
     entails =
         let x = entailed_exactly ds es' in (
           λ e. (let q = x.0 (so entailed (sym ended ∙ ap means e)) in (λ n. q.0 (none_i n), every_e q.1)),
           λ q. is_entailed r (ended ∙ ap answered (x.1 (λ f. q.0 (none_e f), every_i q.1))),
         )
 
-    otherwise : (r ≡ Consistent) ↔ ((NoneObeys ds xs es us → ⊥) × (EveryObeys rs xs es us → ⊥))
+    otherwise : (r ≡ Ok Consistent) ↔ ((NoneObeys ds xs es us → ⊥) × (EveryObeys rs xs es us → ⊥))
     otherwise =
         let x = consistent_exactly ds es' in (
           λ e. (let q = x.0 (so consistent (sym ended ∙ ap means e)) in (λ n. q.0 (none_i n), λ h. q.1 (every_i h))),
           λ q. is_consistent r (ended ∙ ap answered (x.1 (λ f. q.0 (none_e f), λ h. q.1 (every_e h)))),
         )
 
-    empties : r ≡ Failed → rs ≡ replicate (length ds) 0
+    empties : r ≡ Ok Failed → rs ≡ replicate (length ds) 0
     empties e = left ∙ filter_empties ds es' small (λ a d t. fails.0 e a d (to a d.0 t))
 
 pub filter_calls : FilterCalls

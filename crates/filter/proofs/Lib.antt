@@ -6,6 +6,7 @@ pub mod Endings
 pub mod Turns
 pub mod Copies
 pub mod Questions
+pub mod Named
 pub mod FilterCalls
 pub mod Splits
 pub mod Tied

@@ -12,7 +12,6 @@ use Rattle.filter.specs.declared.Kind.TheVariants.{Equality, Disequality, BothAb
 use Rattle.filter.specs.Marks.{Vacuous, ObeyedForGood, NamesGone, Skippable, SkippedHere, SkippedBelow}
 use Rattle.filter.specs.{declared.entry.Step.TheVariants.Next, declared.entry.Step.TheVariants.Obeyed, Inner.Scan.Right, Inner.Scan.step_of, Inner.Lists.kind_as}
 use Rattle.filter.specs.declared.Kind as code
-use Rattle.filter.proofs.Scan
 use Rattle.filter.proofs.Front
 
 -- ---- the cases, as the code has them

@@ -1,13 +1,13 @@
 -- The questions 17, 18 and 19, one by one, and what an accepted call knows. Assumes nothing.
 use Rattle.model.specs.Kit.{◌≡◌, refl, sym, ap, ◌∙◌, subst, Bool, true, false, not, List, ℕ, ◌≤◌, ◌<◌, arith, T, eqb, leb, length, eq-eqb, ne_eqb, eqb-true, le-leb, lt-leb, leb-true, not-false}
-use Rattle.model.specs.Nogood.{entries, entry_ok, first_wrong, filter_verdict, sets_after, filter_ending, filter_answer}
+use Rattle.std.proofs.Common.{Option, Some, None, MatchOption, Result, Ok, Err}
+use Rattle.model.specs.Nogood.{entries, entry_ok, first_wrong, filter_verdict, sets_after, filter_ending, filter_answer, answered}
 use Rattle.model.specs.{Lists.at, Lists.both, Verdict.Verdict, Verdict.accepted, Verdict.refused, Verdict.ask, Verdict.reply}
 use Rattle.model.proofs.{Lists.T_of, Lists.both_false, Lists.never, Masks.least_none, Masks.least_at, Masks.least_below}
-use Rattle.filter.specs.Inner.Lists.{Listed, Applied, verdict_is}
-use Rattle.filter.specs.{declared.Answer.Answer, declared.Verdict.TheVariants.Accepted, declared.Verdict.TheVariants.Refused, FilterCalls.CallFilter}
+use Rattle.filter.specs.Inner.Lists.{Listed, Applied, WrongFound}
+use Rattle.filter.specs.{declared.Ending.Ending, FilterCalls.CallFilter}
+use Rattle.model.specs.{Refusals.number_of, Refusals.verdict_from, declared.refusals.Refusal.Refusal}
 use Rattle.filter.proofs.Marks.{ok_right}
-use Rattle.filter.specs.declared.Answer.TheVariants as answer
-use Rattle.filter.specs.declared.Verdict as code
 
 -- ---- the first entry that is not right
 module _ (n : ℕ) (xs es us : List ℕ) where
@@ -23,6 +23,12 @@ module _ (n : ℕ) (xs es us : List ℕ) where
   wrong_none i l r h =
       let e : length xs ≡ i = omega arith in
       sym e ∙ sym (least_none (length xs) (λ j. not (ok_at j)) (λ j m. ap not (h j (omega arith))))
+
+  -- what a search through the places answers
+  pub found_wrong : (r : Option ℕ) → MatchOption r ((k : ℕ) → 0 ≤ k → k < length xs → ok_at k ≡ true) (λ i. (0 ≤ i) × (i < length xs) × (ok_at i ≡ false) × ((k : ℕ) → 0 ≤ k → k < i → ok_at k ≡ true))
+      → WrongFound n xs es us r
+  found_wrong None h = wrong_none (length xs) (omega arith) (omega arith) (λ j l. h j (omega arith) l)
+  found_wrong (Some i) h = (h.1, wrong_at i h.1 (λ j l. h.3 j (omega arith) l) h.2)
 
   all_ok : first_wrong n xs es us ≡ length xs → (j : ℕ) → j < length xs → ok_at j ≡ true
   unfolding first_wrong
@@ -87,11 +93,11 @@ both_true : (a b : Bool) → both a b ≡ true → (a ≡ true) × (b ≡ true)
 both_true true b e = (refl, e)
 both_true false b e = absurd (subst T (sym e) tt)
 
-module _ (ds xs es us : List ℕ) (a : code.Verdict) (v : verdict_is a ≡ filter_verdict ds xs es us) where
-  pub accepted_listed : a ≡ Accepted → (length ds ≤ 12) × Listed (length ds) xs es us
+module _ (ds xs es us : List ℕ) (a : Result Unit Refusal) (v : verdict_from a ≡ filter_verdict ds xs es us) where
+  pub accepted_listed : a ≡ Ok tt → (length ds ≤ 12) × Listed (length ds) xs es us
   unfolding filter_verdict
   accepted_listed e =
-      let p = passed _ 17 0 _ (ap verdict_is (sym e) ∙ v) in
+      let p = passed _ 17 0 _ (ap verdict_from (sym e) ∙ v) in
       let q = passed _ 18 0 _ p.1 in
       let r = passed (eqb (first_wrong (length ds) xs es us) (length xs)) 19 (first_wrong (length ds) xs es us) accepted q.1 in
       let n = both_true (leb 1 (length ds)) (leb (length ds) 12) p.0 in
@@ -106,16 +112,14 @@ module _ (ds xs es us : List ℕ) (a : code.Verdict) (v : verdict_is a ≡ filte
         },
       )
 
-  pub after_accepted : (rs : List ℕ) (r : Answer) → a ≡ Accepted → Applied ds (entries xs es us) rs r
-      → CallFilter ds xs es us r rs
+  pub after_accepted : (rs : List ℕ) (r : Ending) → a ≡ Ok tt → Applied ds (entries xs es us) rs r → CallFilter ds xs es us (Ok r) rs
   unfolding sets_after filter_answer
   after_accepted rs r e h =
-      let q : accepted ≡ filter_verdict ds xs es us = ap verdict_is (sym e) ∙ v in
-      record { answers = h.answer ∙ ap (λ (w : Verdict). reply w (filter_ending ds (entries xs es us))) q; leaves = h.left ∙ ap (λ (w : Verdict). sets_after w ds (entries xs es us)) q }
+      let q : accepted ≡ filter_verdict ds xs es us = ap verdict_from (sym e) ∙ v in
+      record { answers = ap answered h.ended ∙ ap (λ (w : Verdict). reply w (filter_ending ds (entries xs es us))) q; leaves = h.left ∙ ap (λ (w : Verdict). sets_after w ds (entries xs es us)) q }
 
-  pub after_refused : (number item : ℕ) → a ≡ Refused number item
-      → CallFilter ds xs es us (answer.Refused number item) ds
+  pub after_refused : (by : Refusal) → a ≡ Err by → CallFilter ds xs es us (Err by) ds
   unfolding sets_after filter_answer
-  after_refused number item e =
-      let q : refused number item ≡ filter_verdict ds xs es us = ap verdict_is (sym e) ∙ v in
+  after_refused by e =
+      let q : refused (number_of by.question) by.item ≡ filter_verdict ds xs es us = ap verdict_from (sym e) ∙ v in
       record { answers = ap (λ (w : Verdict). reply w (filter_ending ds (entries xs es us))) q; leaves = ap (λ (w : Verdict). sets_after w ds (entries xs es us)) q }

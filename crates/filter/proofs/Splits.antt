@@ -1,6 +1,6 @@
 -- The equality at which a pass stops, and what the whole filter leaves. Assumes nothing.
-use Rattle.model.specs.Kit.{◌≡◌, refl, sym, ap, ◌∙◌, subst, Bool, true, false, not, List, [], ◌∷◌, ℕ, zero, suc, ◌+◌, ◌^◌, ◌<◌, add-one, arith, T, length, take, drop, replicate}
-use Rattle.model.specs.{Lists.at, Nogood.Entry, Nogood.equality, Nogood.disequality, Nogood.entries, Nogood.filtered, Nogood.ending_by, Nogood.every_obeys, Nogood.filter_ending, Nogood.answered}
+use Rattle.model.specs.Kit.{◌≡◌, refl, sym, ap, ◌∙◌, subst, Bool, true, false, not, List, [], ◌∷◌, ℕ, zero, suc, ◌+◌, ◌^◌, ◌<◌, add-one, arith, T, length, take, drop, replicate, ◌⊎◌, ⊎_elim}
+use Rattle.model.specs.{Lists.at, Nogood.Entry, Nogood.equality, Nogood.disequality, Nogood.entries, Nogood.filtered, Nogood.ending_by, Nogood.every_obeys, Nogood.filter_ending}
 use Rattle.filter.specs.declared.Reached.TheVariants.{Failed, End, Split}
 use Rattle.filter.specs.Inner.Scan.{models, Right, Stepped, None, Some, Live, Passed, Remainder, Resolved, Changed}
 use Rattle.filter.specs.{declared.entry.Step.Step, declared.Reached.Reached, declared.Ending.Ending, Inner.Lists.Listed, Inner.Lists.Ready}
@@ -8,13 +8,16 @@ use Rattle.filter.specs.Inner.Lists.{AtSplit, SplitReached, PassResult, ScanResu
 use Rattle.filter.proofs.{Turns.entry_at, Endings.none_failed, Endings.passed_ending, Endings.every_passed, Endings.every_changed, Endings.ended_entailed, Endings.ended_every}
 use Rattle.filter.proofs.{Endings.kept_ending, Endings.gone_entailed, Endings.unchanged, Endings.changed_front, Endings.by_changed, Endings.front_consistent, Endings.front_remainder}
 use Rattle.filter.specs.declared.Ending.TheVariants as ending
-use Rattle.filter.specs.declared.Answer.TheVariants as answer
 use Rattle.filter.proofs.Scan
 use Rattle.filter.proofs.Front
 
 -- what a pass said, where it ended so
 said : (n : ℕ) (ss xs es us : List ℕ) (start : ℕ) (rs : List ℕ) (r v : Reached) → r ≡ v → PassResult n ss xs es us start rs r → PassResult n ss xs es us start rs v
 said n ss xs es us start rs r v e h = subst (λ (w : Reached). PassResult n ss xs es us start rs w) e h
+
+-- what a resolved split says, by its answer
+pub by_answer : (b : Bool) {v : Bool} → b ≡ v → {n : ℕ} {ss : List ℕ} {es : List Entry} {rs : List ℕ} → Resolved b n ss es rs → Resolved v n ss es rs
+by_answer b e {n} {ss} {es} {rs} r = subst (λ (y : Bool). Resolved y n ss es rs) e r
 
 -- ---- at the equality of entry k
 module _ {n : ℕ} {ss xs es us : List ℕ} {k : ℕ} (f : AtSplit n ss xs es us k) where
@@ -155,11 +158,11 @@ ones_small (suc k) zero = omega arith
 ones_small (suc k) (suc x) = ones_small k x
 
 -- the sets are cleared where no assignment obeys
-failed_applied : (ss : List ℕ) (es : List Entry) {ts : List ℕ} → ((q : List ℕ → Bool) → models ss es q ≡ false) → ts ≡ zeros ss → Applied ss es ts answer.Failed
-failed_applied ss es z c = record { left = c ∙ Scan.filtered_none ss es z; answer = ap answered (sym (none_failed ss es z)) }
+failed_applied : (ss : List ℕ) (es : List Entry) {ts : List ℕ} → ((q : List ℕ → Bool) → models ss es q ≡ false) → ts ≡ zeros ss → Applied ss es ts ending.Failed
+failed_applied ss es z c = record { left = c ∙ Scan.filtered_none ss es z; ended = sym (none_failed ss es z) }
 
 module _ (ss : List ℕ) (es : List Entry) (rs : List ℕ) (y : Bool) (z : Loaded y ss rs) where
-  pub empty_applied : y ≡ true → {ts : List ℕ} → ts ≡ zeros ss → Applied ss es ts answer.Failed
+  pub empty_applied : y ≡ true → {ts : List ℕ} → ts ≡ zeros ss → Applied ss es ts ending.Failed
   empty_applied e c =
       let h : Loaded true ss rs = subst (λ (b : Bool). Loaded b ss rs) e z in
       failed_applied ss es (λ q. Scan.at_empty ss h.0 es q h.1 h.2) c
@@ -175,10 +178,10 @@ module _ (ss : List ℕ) (es : List Entry) (rs : List ℕ) (y : Bool) (z : Loade
       result : (v : Ending) → t ≡ v → ScanResult v (length ss) rs es ts
       result v d = subst (λ (b : Ending). ScanResult b (length ss) rs es ts) d o
 
-      pub none_applied : t ≡ ending.Failed → {vs : List ℕ} → vs ≡ zeros ss → Applied ss es vs answer.Failed
-      none_applied d c =
+      pub none_applied : t ≡ ending.Failed → {vs : List ℕ} → vs ≡ zeros ss → Applied ss es vs t
+      none_applied d {vs} c =
           let m : None (length ss) rs es = result ending.Failed d in
-          failed_applied ss es (λ q. ap (λ (l : List ℕ). models l es q) (sym front.0) ∙ m q) c
+          subst (λ (b : Ending). Applied ss es vs b) (sym d) (failed_applied ss es (λ q. ap (λ (l : List ℕ). models l es q) (sym front.0) ∙ m q) c)
 
       -- what is left is stored
       stored : (every : Bool) → Resolved every (length ss) rs es ts → {vs : List ℕ} → vs ≡ take (length ss) ts → (vs ≡ filtered ss es) × (filter_ending ss es ≡ ending_by true every)
@@ -187,14 +190,20 @@ module _ (ss : List ℕ) (es : List Entry) (rs : List ℕ) (y : Bool) (z : Loade
         ap (λ (m : List ℕ). filter_ending m es) (sym front.0) ∙ r.ending,
       )
 
-      pub entailed_sixteen : t ≡ ending.Entailed → length ts ≡ 16
-      entailed_sixteen d = let r : Resolved true (length ss) rs es ts = result ending.Entailed d in r.remainder.live.sixteen
+      entailed_applied : t ≡ ending.Entailed → {vs : List ℕ} → vs ≡ take (length ss) ts → Applied ss es vs t
+      entailed_applied d {vs} c =
+          let s = stored true (result ending.Entailed d) c in subst (λ (b : Ending). Applied ss es vs b) (sym d) (record { left = s.0; ended = sym s.1 })
 
-      pub entailed_applied : t ≡ ending.Entailed → {vs : List ℕ} → vs ≡ take (length ss) ts → Applied ss es vs answer.Entailed
-      entailed_applied d c = let s = stored true (result ending.Entailed d) c in record { left = s.0; answer = ap answered (sym s.1) }
+      consistent_applied : t ≡ ending.Consistent → {vs : List ℕ} → vs ≡ take (length ss) ts → Applied ss es vs t
+      consistent_applied d {vs} c =
+          let s = stored false (result ending.Consistent d) c in subst (λ (b : Ending). Applied ss es vs b) (sym d) (record { left = s.0; ended = sym s.1 })
 
-      pub consistent_sixteen : t ≡ ending.Consistent → length ts ≡ 16
-      consistent_sixteen d = let r : Resolved false (length ss) rs es ts = result ending.Consistent d in r.remainder.live.sixteen
+      abbrev pub Left : Type 0
+      Left = (t ≡ ending.Entailed) ⊎ (t ≡ ending.Consistent)
 
-      pub consistent_applied : t ≡ ending.Consistent → {vs : List ℕ} → vs ≡ take (length ss) ts → Applied ss es vs answer.Consistent
-      consistent_applied d c = let s = stored false (result ending.Consistent d) c in record { left = s.0; answer = ap answered (sym s.1) }
+      pub left_sixteen : Left → length ts ≡ 16
+      left_sixteen = ⊎_elim (λ d. let r : Resolved true (length ss) rs es ts = result ending.Entailed d in r.remainder.live.sixteen)
+          (λ d. let r : Resolved false (length ss) rs es ts = result ending.Consistent d in r.remainder.live.sixteen)
+
+      pub left_applied : Left → {vs : List ℕ} → vs ≡ take (length ss) ts → Applied ss es vs t
+      left_applied e {vs} c = ⊎_elim (λ d. entailed_applied d c) (λ d. consistent_applied d c) e

@@ -1,7 +1,11 @@
 -- What the code does to one set, as the step of an entry. Assumes nothing.
-use Rattle.model.specs.Kit.{◌≡◌, refl, sym, ap, ap₂, ◌∙◌, Bool, true, false, not, List, ℕ, ◌+◌, ◌^◌, ◌≤◌, ◌<◌, arith, eqb, set, below_more, eq-eqb, ne_eqb, eqb-true, eqb-false}
+use Rattle.model.specs.Kit.{◌≡◌, refl, sym, ap, ap₂, ◌∙◌, Bool, true, false, not, List, [], ◌∷◌, ℕ, suc, ◌^◌, ◌<◌, arith, eqb, length, set, eq-eqb, ne_eqb, eqb-false}
 use Rattle.model.specs.{Lists.at, ValueSets.without_mask, ValueSets.only_mask, Nogood.equality, Nogood.disequality}
-use mathlib.Core.Bool.{◌||◌}
+use mathlib.Core.Bool.{◌&&◌}
+use lib.Pointwise.{pointwise}
+use Rattle.std.proofs.lemmas.Slice.Eq.{slice_eq-Decides}
+use Rattle.std.proofs.lemmas.Bool.Decides.{Decides-eqb}
+use Rattle.model.proofs.Lists.{never}
 use Rattle.filter.specs.declared.entry.Step.TheVariants.{Next, Failed, Obeyed, Split}
 use Rattle.filter.specs.Inner.Scan.{Stepped, Changed, cut_step, keep_step}
 use Rattle.filter.proofs.Scan.{kept_without, absent_only}
@@ -32,19 +36,22 @@ module _ (ss : List ℕ) (x v left : ℕ) (q : left ≡ without_mask (at ss x) v
   keep_split h b e f n =
       record { step = sym (ap₂ keep_step (is_full b e f) (ne_eqb (only_mask (at ss x) v) 0 (λ z. n (q ∙ kept_without (at ss x) v h z)))); sets = refl }
 
--- ---- two times sixteen sets, compared from the front on
-abbrev pub Compared : Bool → ℕ → List ℕ → List ℕ → Type 0
-Compared true y old new = (z : ℕ) × (z < y) × (at new z ≡ at old z → ⊥)
-Compared false y old new = (z : ℕ) → z < y → at new z ≡ at old z
-
-pub compared_next : (old new : List ℕ) (r : Bool) (y : ℕ) → Compared r y old new → Compared (r || not (eqb (at old y) (at new y))) (y + 1) old new
-compared_next old new true y g = let l = g.1 in (g.0, omega arith, g.2)
-compared_next old new false y g = go (eqb (at old y) (at new y)) refl
+-- ---- two times sixteen sets, compared
+differ : (old new : List ℕ) → length old ≡ length new → pointwise eqb old new ≡ false → (y : ℕ) × (y < length old) × (at new y ≡ at old y → ⊥)
+unfolding at
+differ [] [] n e = never (cc)
+differ [] (y ∷ ys) n e = absurd (let z : 0 ≡ suc (length ys) = n in omega arith)
+differ (x ∷ xs) [] n e = absurd (let z : suc (length xs) ≡ 0 = n in omega arith)
+differ (x ∷ xs) (y ∷ ys) n e = go (eqb x y) refl e (λ f. differ xs ys (omega arith) f)
   where
-    go : (c : Bool) → eqb (at old y) (at new y) ≡ c → Compared (not c) (y + 1) old new
-    go true q = below_more (λ i. at new i ≡ at old i) y g (sym (eqb-true (at old y) (at new y) q))
-    go false q = (y, omega arith, λ e. eqb-false (at old y) (at new y) q (sym e))
+    go : (c : Bool) → eqb x y ≡ c → (c && pointwise eqb xs ys) ≡ false
+        → (pointwise eqb xs ys ≡ false → (k : ℕ) × (k < length xs) × (at ys k ≡ at xs k → ⊥)) → (k : ℕ) × (k < length (x ∷ xs)) × (at (y ∷ ys) k ≡ at (x ∷ xs) k → ⊥)
+    go true q f rest = let w = rest f in (suc w.0, omega (arith, w.1), w.2)
+    go false q f rest = (0, omega arith, λ k. eqb-false x y q (sym k))
 
-pub compared_all : (old new : List ℕ) (r : Bool) (y : ℕ) → 16 ≤ y → y ≤ 16 → Compared r y old new → Changed r old new
-compared_all old new true y h k g = let l = g.1 in (g.0, omega arith, g.2)
-compared_all old new false y h k g = λ z l. g z (omega arith)
+pub compared : (old new : List ℕ) → length old ≡ 16 → length new ≡ 16 → Changed (not (pointwise eqb old new)) old new
+compared old new m n = go (pointwise eqb old new) refl
+  where
+    go : (c : Bool) → pointwise eqb old new ≡ c → Changed (not c) old new
+    go true q = λ y l. ap (λ (s : List ℕ). at s y) (sym ((slice_eq-Decides Decides-eqb old new _ refl).0 q))
+    go false q = let w = differ old new (m ∙ sym n) q in (w.0, omega (arith, w.1), w.2)

@@ -1,12 +1,13 @@
 -- What a caller of `filter` may rely on (paper 01, "Nogood lists" and demand 2; paper 02, #102 and #105), in terms of what it holds: the sets as they
 -- came, the three lists, the answer, and the sets afterwards. proofs/FilterCalls has the theorem.
-use Rattle.std.specs.Prelude.{◌≡◌, ◌⊎◌, ◌↔◌, List, ℕ, ◌^◌, ◌≤◌, ◌<◌, length, replicate, T}
+use Rattle.std.specs.Prelude.{◌≡◌, ◌⊎◌, ◌↔◌, List, ℕ, ◌^◌, ◌≤◌, ◌<◌, length, replicate, T, Result, Ok, Err}
 use Rattle.model.specs.{Lists.at, ValueSets.has, Nogood.mark, Nogood.entries, Nogood.filter_verdict, Nogood.filter_answer, Nogood.sets_after, Claims.Drawn}
-use Rattle.filter.specs.declared.Answer.TheVariants.{Failed, Entailed, Consistent, Refused}
-use Rattle.filter.specs.{Meaning.means, declared.Answer.Answer}
+use Rattle.model.specs.declared.{refusals.Question.TheVariants.Sets, refusals.Question.TheVariants.ListLengths, refusals.Question.TheVariants.Entry, refusals.Refusal.Refusal}
+use Rattle.filter.specs.declared.Ending.TheVariants.{Failed, Entailed, Consistent}
+use Rattle.filter.specs.{Meaning.means, declared.Ending.Ending}
 
 -- a call of `filter`: sets ds and the lists index, equal, not-equal as lent, answer r, sets rs at the end. It is the function's contract.
-pub record CallFilter (ds xs es us : List ℕ) (r : Answer) (rs : List ℕ) : Type 0 where
+pub record CallFilter (ds xs es us : List ℕ) (r : Result Ending Refusal) (rs : List ℕ) : Type 0 where
   pub answers : means r ≡ filter_answer ds xs es us
   pub leaves : rs ≡ sets_after (filter_verdict ds xs es us) ds (entries xs es us)
 
@@ -47,23 +48,23 @@ NoneObeys ds xs es us = (a : List ℕ) → Drawn ds a → Obeys a xs es us → �
 abbrev pub EveryObeys : List ℕ → List ℕ → List ℕ → List ℕ → Type 0
 EveryObeys ds xs es us = (a : List ℕ) → Drawn ds a → Obeys a xs es us
 
-pub record FilterHeld (ds xs es us : List ℕ) (r : Answer) (rs : List ℕ) : Type 0 where
+pub record FilterHeld (ds xs es us : List ℕ) (r : Result Ending Refusal) (rs : List ℕ) : Type 0 where
   -- as many sets as came
   pub sized : length rs ≡ length ds
   -- right lists: a value is left exactly if some assignment drawn from the lent sets uses it and obeys every nogood
   pub keeps : ListsRight ds xs es us → (x v : ℕ) → x < length ds → T (has (at rs x) v) ↔ ∥ ((a : List ℕ) × Drawn ds a × Obeys a xs es us × (at a x ≡ v)) ∥₁
   -- failed exactly if no assignment from the lent sets obeys them; then every set is empty
-  pub fails : ListsRight ds xs es us → (r ≡ Failed) ↔ NoneObeys ds xs es us
-  pub empties : ListsRight ds xs es us → r ≡ Failed → rs ≡ replicate (length ds) 0
+  pub fails : ListsRight ds xs es us → (r ≡ Ok Failed) ↔ NoneObeys ds xs es us
+  pub empties : ListsRight ds xs es us → r ≡ Ok Failed → rs ≡ replicate (length ds) 0
   -- entailed exactly if it is not failed and every assignment from the sets left obeys them all; else consistent
-  pub entails : ListsRight ds xs es us → (r ≡ Entailed) ↔ ((NoneObeys ds xs es us → ⊥) × EveryObeys rs xs es us)
-  pub else : ListsRight ds xs es us → (r ≡ Consistent) ↔ ((NoneObeys ds xs es us → ⊥) × (EveryObeys rs xs es us → ⊥))
-  -- wrong ones: the first number due with its item, and the sets as they came
-  pub sets_wrong : (SetsRight ds → ⊥) → (r ≡ Refused 17 0) × (rs ≡ ds)
-  pub lengths_wrong : SetsRight ds → (LengthsRight xs es us → ⊥) → (r ≡ Refused 18 0) × (rs ≡ ds)
+  pub entails : ListsRight ds xs es us → (r ≡ Ok Entailed) ↔ ((NoneObeys ds xs es us → ⊥) × EveryObeys rs xs es us)
+  pub else : ListsRight ds xs es us → (r ≡ Ok Consistent) ↔ ((NoneObeys ds xs es us → ⊥) × (EveryObeys rs xs es us → ⊥))
+  -- wrong ones: the first question whose answer is no, with its item, and the sets as they came
+  pub sets_wrong : (SetsRight ds → ⊥) → (r ≡ Err (record { question = Sets; item = 0 })) × (rs ≡ ds)
+  pub lengths_wrong : SetsRight ds → (LengthsRight xs es us → ⊥) → (r ≡ Err (record { question = ListLengths; item = 0 })) × (rs ≡ ds)
   pub entry_wrong : SetsRight ds → LengthsRight xs es us →
-      (j : ℕ) → j < length xs → ((i : ℕ) → i < j → EntryRight (length ds) xs es us i) → (EntryRight (length ds) xs es us j → ⊥) → (r ≡ Refused 19 j) × (rs ≡ ds)
+      (j : ℕ) → j < length xs → ((i : ℕ) → i < j → EntryRight (length ds) xs es us i) → (EntryRight (length ds) xs es us j → ⊥) → (r ≡ Err (record { question = Entry; item = j })) × (rs ≡ ds)
 
 -- of any lists, and any sets of sixteen bits
 abbrev pub FilterCalls : Type 0
-FilterCalls = (ds xs es us : List ℕ) (r : Answer) (rs : List ℕ) → ((x : ℕ) → at ds x < 2 ^ 16) → CallFilter ds xs es us r rs → FilterHeld ds xs es us r rs
+FilterCalls = (ds xs es us : List ℕ) (r : Result Ending Refusal) (rs : List ℕ) → ((x : ℕ) → at ds x < 2 ^ 16) → CallFilter ds xs es us r rs → FilterHeld ds xs es us r rs

@@ -9,7 +9,7 @@ ghost use Rattle.filter.specs.Inner.Scan.{Stepped, Changed};
 use model::ValueSet;
 
 // What one entry comes to.
-#[derive(Clone, Copy)]
+#[derive(Clone, Copy, Debug, PartialEq, Eq)]
 pub enum Step {
     // The next entry is due.
     Next,
@@ -30,9 +30,10 @@ pub fn disequality(sets: &mut [u16; 16], x: usize, v: u8) -> Step
     let left = set.without(v as u16);
     sets[x] = left.bits;
     if left.is_empty() {
-        return Step::Failed;
+        Step::Failed
+    } else {
+        Step::Next
     }
-    Step::Next
 }
 
 // An equality: whether every assignment keeps it, or some does, or none.
@@ -43,12 +44,12 @@ pub fn equality(sets: &[u16; 16], x: usize, v: u8) -> Step
     let set = ValueSet { bits: sets[x] };
     let others = set.without(v as u16);
     if others.is_empty() {
-        return Step::Next;
+        Step::Next
+    } else if others.bits == set.bits {
+        Step::Obeyed
+    } else {
+        Step::Split
     }
-    if others.bits == set.bits {
-        return Step::Obeyed;
-    }
-    Step::Split
 }
 
 // The pair is forced: the variable keeps only the value.
@@ -65,11 +66,5 @@ pub fn force(sets: &mut [u16; 16], x: usize, v: u8)
 pub fn changed(old: &[u16; 16], new: &[u16; 16]) -> bool
     ensures { Changed result old.now new.now }
 {
-    let mut other = false;
-    let mut y = 0;
-    while y < 16 {
-        other = other | (old[y] != new[y]);
-        y += 1;
-    }
-    other
+    old != new
 }

@@ -2,6 +2,10 @@
 use Rattle.model.specs.Kit.{◌≡◌, sym, ap, ap₂, ◌∙◌, subst, Bool, true, false, List, ℕ, ◌+◌, ◌*◌, ◌/◌, ◌%◌, ◌≤◌, ◌<◌, mul-le-mul, mul-le-mul_right, arith, length, get_or, T, leb, ltb, eqb, ltb→lt}
 use Rattle.model.specs.Kit.{lt→ltb, below_more, leb-true, eqb-true, lt-leb, le-leb, eq-eqb}
 use Rattle.model.specs.{Lists.both, Lists.all, Sheet.«word», Verdict.Verdict, Verdict.accepted, Verdict.refused, Verdict.ask, Verdict.is_accepted}
+use Rattle.model.specs.{Refusals.number_of, Room.refusal, Room.outcome_of, Room.room_after}
+use Rattle.model.specs.declared.{refusals.Question.Question}
+use Rattle.std.proofs.Common.{Result, Err}
+use Rattle.list_columns.specs.Meaning.{means}
 use native.Mathlib.Nat.{div-add-mod'}
 use Rattle.model.proofs.Lists.{all_i, all_e, of_T, T_of, TExt, not_of, mem_get_d, place_of, both_i, both_l, both_r, never}
 use Rattle.model.proofs.Accepted.{asked}
@@ -164,3 +168,11 @@ pub accepted_store : (s : List ℕ) (room : ℕ) → rows_verdict s room ≡ acc
 unfolding rows_verdict
 accepted_store s room e =
     of_T _ (asked (is_store s) 23 0 (bytes_verdict (variables s) (body s) (length (body s)) room) (subst (λ (v : Verdict). T (is_accepted v)) (sym e) tt)).0
+
+-- an answer that refuses by a question
+pub refused_by : (r : Result ℕ Question) (asked by : Question) (v : Verdict) (t d : List ℕ) → r ≡ Err asked → asked ≡ by → refused (number_of by) 0 ≡ v →
+    (means r ≡ outcome_of v t) × (d ≡ room_after v t d)
+refused_by r asked by v t d e f h = (
+  ap means e ∙ ap (λ (q : Question). refusal (number_of q) 0) f ∙ ap (λ (w : Verdict). outcome_of w t) h,
+  ap (λ (w : Verdict). room_after w t d) h,
+)

@@ -5,12 +5,14 @@ use lib.Seq.{take-append_seam, drop-append_seam}
 use Rattle.model.proofs.Lists.{never}
 use Rattle.list_columns.specs.Columns.{columns_of, rows_of, variables, columns_verdict, rows_verdict}
 use Rattle.list_columns.specs.Calls.{CallColumns, CallRows, Wrote, RowsBackCalls, StoreBackCalls}
-use Rattle.list_columns.specs.{Meaning.means, declared.Answer.Answer, declared.Answer.TheVariants.Written, declared.Answer.TheVariants.Refused}
+use Rattle.std.proofs.Common.{Result, Ok, Err}
+use Rattle.model.specs.declared.{refusals.Question.Question}
+use Rattle.list_columns.specs.Meaning.{means}
 use Rattle.list_columns.proofs.Back.{rows_back, store_back}
 
-is_written : (r : Answer) (k : ℕ) → means r ≡ wrote k → r ≡ Written k
-is_written (Written j) k e = cc
-is_written (Refused number item) k e = never (cc)
+is_written : (r : Result ℕ Question) (k : ℕ) → means r ≡ wrote k → r ≡ Ok k
+is_written (Ok j) k e = let f : j ≡ k = cc in ap Ok f
+is_written (Err asked) k e = never (cc)
 
 -- an answer with a number of bytes: nothing was refused, and the text stands at the front
 text_front : (v : Verdict) (text room : List ℕ) (k : ℕ) (after : List ℕ) → wrote k ≡ outcome_of v text → after ≡ room_after v text room → (v ≡ accepted) × (take k after ≡ text)
@@ -21,7 +23,7 @@ text_front accepted text room k after e w = (
 text_front (refused number item) text room k after e w = never (cc)
 
 -- an accepted call wrote its text
-accepted_wrote : (v : Verdict) (text text' room : List ℕ) (r : Answer) (after : List ℕ) → means r ≡ outcome_of v text → after ≡ room_after v text room → v ≡ accepted → text ≡ text'
+accepted_wrote : (v : Verdict) (text text' room : List ℕ) (r : Result ℕ Question) (after : List ℕ) → means r ≡ outcome_of v text → after ≡ room_after v text room → v ≡ accepted → text ≡ text'
     → Wrote text' room r after
 accepted_wrote v text text' room r after e w a q = subst (λ (t : List ℕ). Wrote t room r after) q record {
   answer = is_written r (length text) (e ∙ ap (λ (u : Verdict). outcome_of u text) a);

@@ -1,6 +1,6 @@
 -- A whole store and all rows of a store, as the code writes them. Assumes nothing.
 use Rattle.model.specs.Kit.{◌≡◌, refl, sym, ap, ap₂, ◌∙◌, subst, Bool, true, false, List, ℕ, ◌+◌, ◌*◌, ◌-◌, ◌/◌, ◌≤◌, ◌<◌, arith, length, take, drop, length-append, length-drop, take_all}
-use Rattle.model.specs.{Verdict.accepted, Verdict.refused, Room.rows_in, Room.wrote, Room.refusal, Room.outcome_of, Room.room_after, Room.numbered, Written.placed, Written.Written, Written.Fronted}
+use Rattle.model.specs.{Verdict.accepted, Verdict.refused, Room.rows_in, Room.wrote, Room.refusal, Room.outcome_of, Room.room_after, Written.placed, Written.Written, Written.Fronted}
 use native.Mathlib.Nat.{mul_comm, zero-add}
 use Rattle.model.proofs.{Lists.T_of, Room.refused_out, Room.wrote_out, Written.written_then, Written.fronted}
 use Rattle.list_columns.specs.Columns.{heading, columns_of, variables, plans, body, columns_in, rows_of, bytes_verdict, columns_verdict, is_store, rows_verdict}
@@ -34,15 +34,11 @@ not_a_store s room t d e = refused_out 23 (rows_verdict s room) t d (λ q. omega
 
 -- b is the part after the header, p and q the first two numbers
 module _ (s : List ℕ) (is : is_store s ≡ true) (b : List ℕ) (p q : ℕ) (eb : b ≡ body s) (ep : p ≡ variables s) (eq : q ≡ plans s) (d : List ℕ) where
-  verdict_is : bytes_verdict p b (0 + length b) (length d) ≡ rows_verdict s (length d)
+  pub verdict_is : bytes_verdict p b (0 + length b) (length d) ≡ rows_verdict s (length d)
   verdict_is =
       ap₂ (λ (x : ℕ) (c : List ℕ). bytes_verdict x c (0 + length c) (length d)) ep eb
       ∙ ap (λ (k : ℕ). bytes_verdict (variables s) (body s) k (length d)) (zero-add (length (body s)))
       ∙ sym (asked_23 s (length d) true is)
-
-  pub rows_refused : (k : ℕ) → (k ≡ 0 → ⊥) → numbered k ≡ bytes_verdict p b (0 + length b) (length d) → (refusal k 0 ≡ outcome_of (rows_verdict s (length d)) (rows_of s)) ×
-      (d ≡ room_after (rows_verdict s (length d)) (rows_of s) d)
-  rows_refused k h e = refused_out k (rows_verdict s (length d)) (rows_of s) d h (e ∙ verdict_is)
 
   size : length b ≡ p * q
   size =

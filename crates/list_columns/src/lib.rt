@@ -5,62 +5,44 @@ ghost use Rattle.std.specs.Prelude.{◌≡◌, ◌+◌, ◌*◌, ◌≤◌, ◌<
 ghost use Rattle.model.specs.Lists.{flat};
 ghost use Rattle.model.specs.Run.{listed_plans};
 ghost use Rattle.model.specs.Sheet.{«word» as word_of};
-ghost use Rattle.model.specs.Room.{numbered};
+ghost use Rattle.model.specs.Refusals.{verdict_from_question};
 ghost use Rattle.model.specs.Bytes.{two_bytes};
 ghost use Rattle.model.specs.Written.{placed, Written};
 ghost use Rattle.list_columns.specs.Columns.{transposed, heading, small_values, bytes_verdict, is_store};
 ghost use Rattle.list_columns.specs.Inner.Steps.{Inside, Copied};
 ghost use Rattle.list_columns.specs.Calls.{CallColumns, CallRows};
 
+use model::refusals::Question;
 use model::wide;
-
-#[derive(Clone, Copy)]
-pub enum Answer {
-    Written(usize),
-    Refused { number: u8, item: usize },
-}
 
 // Question 21: each value is below 16. The largest is taken and the loop has one way out, so that many are compared in one step.
 fn small(bytes: &[u8]) -> bool
     ensures { result ≡ small_values bytes.now }
 {
     let mut most = 0;
-    let mut i = 0;
-    while i < bytes.len() {
-        if most < bytes[i] {
-            most = bytes[i];
-        }
-        i += 1;
+    for byte in bytes {
+        most = most.max(*byte);
     }
     most < 16
 }
 
-// Questions 20 to 22, of rows of n bytes and the room for a header and these bytes: the number of the first "no", or 0.
-fn question(n: usize, bytes: &[u8], header: usize, room: usize) -> u8
+// Questions 20 to 22, of rows of n bytes and the room for a header and these bytes.
+fn question(n: usize, bytes: &[u8], header: usize, room: usize) -> Result<(), Question>
     requires { header ≤ 8 }
-    ensures { numbered result ≡ bytes_verdict n bytes.now (header + length bytes.now) room }
+    ensures { verdict_from_question result ≡ bytes_verdict n bytes.now (header + length bytes.now) room }
 {
-    if n < 1 {
-        return 20;
-    }
-    if 12 < n {
-        return 20;
-    }
-    if bytes.len() % n != 0 {
-        return 20;
-    }
-    if 4096 < bytes.len() / n {
-        return 20;
+    if n < 1 || 12 < n || bytes.len() % n != 0 || 4096 < bytes.len() / n {
+        return Err(Question::WholeRows);
     }
     let values = small(bytes);
     let fits = header + bytes.len() <= room;
     if !values {
-        return 21;
+        return Err(Question::SmallValues);
     }
     if !fits {
-        return 22;
+        return Err(Question::Room);
     }
-    0
+    Ok(())
 }
 
 // Puts a 16-bit number; answers the place after it.
@@ -98,10 +80,8 @@ fn copy(
     requires { (1 ≤ step) × Inside (length out.old) at step count × Inside (length cells.now) from stride count }
     ensures { Copied out.old at step cells.now from stride count out.new }
 {
-    let mut i = 0;
-    while i < count {
+    for i in 0..count {
         out[at + i * step] = cells[from + i * stride];
-        i += 1;
     }
 }
 
@@ -110,10 +90,8 @@ fn put_columns(out: &mut [u8], at: usize, rows: &[u8], variables: usize, plans: 
     requires { (plans * variables ≤ length rows.now) × (at + variables * plans ≤ length out.old) }
     ensures { out.new ≡ placed out.old at (flat (transposed variables (listed_plans variables plans rows.now))) }
 {
-    let mut x = 0;
-    while x < variables {
+    for x in 0..variables {
         copy(out, at + x * plans, 1, rows, x, variables, plans);
-        x += 1;
     }
 }
 
@@ -122,25 +100,20 @@ fn put_rows(out: &mut [u8], columns: &[u8], variables: usize, plans: usize)
     requires { (variables * plans ≤ length columns.now) × (plans * variables ≤ length out.old) }
     ensures { out.new ≡ placed out.old 0 (flat (transposed plans (listed_plans plans variables columns.now))) }
 {
-    let mut x = 0;
-    while x < variables {
+    for x in 0..variables {
         copy(out, x, variables, columns, x * plans, 1, plans);
-        x += 1;
     }
 }
 
 // Writes rows of n bytes as columns, behind a header of four numbers.
-pub fn to_columns(n: usize, rows: &[u8], room: &mut [u8]) -> Answer
+pub fn to_columns(n: usize, rows: &[u8], room: &mut [u8]) -> Result<usize, Question>
     ensures { CallColumns n rows.now room.old result room.new }
 {
-    let number = question(n, rows, 8, room.len());
-    if number != 0 {
-        return Answer::Refused { number, item: 0 };
-    }
+    question(n, rows, 8, room.len())?;
     let plans = rows.len() / n;
     let at = put_heading(room, n, plans);
     put_columns(room, at, rows, n, plans);
-    Answer::Written(at + rows.len())
+    Ok(at + rows.len())
 }
 
 // The 16-bit number at an offset, low byte first, and that it is one.
@@ -155,13 +128,7 @@ fn word_at(store: &[u8], at: usize) -> usize
 fn is_store(store: &[u8]) -> bool
     ensures { result ≡ is_store store.now }
 {
-    if store.len() < 8 {
-        return false;
-    }
-    if word_at(store, 4) != 8 {
-        return false;
-    }
-    if store.len() != word_at(store, 6) {
+    if store.len() < 8 || word_at(store, 4) != 8 || store.len() != word_at(store, 6) {
         return false;
     }
     let variables = word_at(store, 0);
@@ -170,22 +137,16 @@ fn is_store(store: &[u8]) -> bool
 }
 
 // Turns a store back into rows.
-pub fn to_rows(store: &[u8], room: &mut [u8]) -> Answer
+pub fn to_rows(store: &[u8], room: &mut [u8]) -> Result<usize, Question>
     ensures { CallRows store.now room.old result room.new }
 {
     if !is_store(store) {
-        return Answer::Refused {
-            number: 23,
-            item: 0,
-        };
+        return Err(Question::Columns);
     }
     let variables = word_at(store, 0);
     let plans = word_at(store, 2);
     let columns = &store[8..];
-    let number = question(variables, columns, 0, room.len());
-    if number != 0 {
-        return Answer::Refused { number, item: 0 };
-    }
+    question(variables, columns, 0, room.len())?;
     put_rows(room, columns, variables, plans);
-    Answer::Written(columns.len())
+    Ok(columns.len())
 }

@@ -5,8 +5,12 @@ use Rattle.model.specs.Room.{Outcome, rows_in, wrote, refusal, outcome_of, room_
 use Rattle.model.specs.{Lists.both, Lists.all, Lists.flat, Lists.same, Verdict.Verdict, Verdict.accepted, Verdict.refused, Verdict.ask}
 use native.Mathlib.Nat.{div-add-mod'}
 use Rattle.model.proofs.{Lists.T_of, Lists.both_l, Lists.both_r, Lists.both_no_l, Lists.both_no_r, Lists.both_yes, Lists.never, Room.flat_cut, Room.refused_out, Room.wrote_out, Written.fronted}
-use Rattle.order.specs.{Order.settling_order, Order.settles_all, Order.order_verdict, Inner.Settled.Ordered, Reordered.earlier_by}
+use Rattle.order.specs.{Order.settling_order, Order.settles_all, Order.order_verdict, Inner.Settled.Ordered, Inner.Settled.followed, Reordered.earlier_by}
 use Rattle.order.proofs.Placing.{settling_of}
+use Rattle.std.proofs.Common.{Result, Ok, Err, is_ok}
+use Rattle.model.specs.{Refusals.number_of, Refusals.verdict_from_question}
+use Rattle.model.specs.declared.{refusals.Question.Question}
+use Rattle.list_merge.specs.Meaning.{means}
 use Rattle.list_merge.specs.Merge.{ascends, insert, union, merged_by, merged, whole_lists, ordered_verdict, merge_verdict}
 use Rattle.list_merge.specs.Inner.Inner.{Rests, Sorts, Walked}
 
@@ -77,19 +81,23 @@ fits_both n order a b s room h =
 
 -- ---- what a count tells
 module _ (writes : Bool) (d text after : List ℕ) (o : Outcome) (w : Walked writes d text after o) where
-  pub told_yes : (x : ℕ) → o ≡ wrote x → true ≡ leb (length text) (length d)
+  told_yes : (x : ℕ) → o ≡ wrote x → true ≡ leb (length text) (length d)
   told_yes x e = go (leb (length text) (length d)) refl
     where
       go : (t : Bool) → leb (length text) (length d) ≡ t → true ≡ t
       go true q = refl
       go false q = let k : o ≡ refusal 27 0 = w.short (leb-false (length text) (length d) q) in never (cc)
 
-  pub told_no : (x y : ℕ) → o ≡ refusal x y → false ≡ leb (length text) (length d)
+  told_no : (x y : ℕ) → o ≡ refusal x y → false ≡ leb (length text) (length d)
   told_no x y e = go (leb (length text) (length d)) refl
     where
       go : (t : Bool) → leb (length text) (length d) ≡ t → false ≡ t
       go true q = let k : o ≡ wrote (length text) = w.fits (leb-true (length text) (length d) q) in never (cc)
       go false q = refl
+
+pub told : (writes : Bool) (d text after : List ℕ) (r : Result ℕ Question) → Walked writes d text after (means r) → is_ok r ≡ leb (length text) (length d)
+told writes d text after (Ok k) w = told_yes writes d text after (wrote k) w k refl
+told writes d text after (Err e) w = told_no writes d text after (refusal (number_of e) 0) w (number_of e) 0 refl
 
 -- ---- 24
 module _ (n : ℕ) (a b : List ℕ) where
@@ -140,23 +148,24 @@ module _ (n : ℕ) (pairs a b d : List ℕ) where
       (λ (t : Bool). ask t 24 0 (order_verdict n pairs (ordered_verdict n (settling_order n pairs) a b (length d)))) e)) in
       (s ∙ r.0, r.1)
 
-  module _ (yes : whole_lists n a b ≡ true) {old new : List ℕ} {number : ℕ} (q : Ordered n pairs old new number) where
-    asked : verdict_is ≡ ask (eqb number 0) number 0 (ordered_verdict n (settling_order n pairs) a b (length d))
+  module _ (yes : whole_lists n a b ≡ true) {old new : List ℕ} {r : Result Unit Question} (q : Ordered n pairs old new r) where
+    abbrev later_is : Verdict
+    later_is = ordered_verdict n (settling_order n pairs) a b (length d)
+
+    asked : verdict_is ≡ followed (verdict_from_question r) later_is
     unfolding merge_verdict
-    asked =
-        ap (λ (t : Bool). ask t 24 0 (order_verdict n pairs (ordered_verdict n (settling_order n pairs) a b (length d)))) yes
-        ∙ q.answer (ordered_verdict n (settling_order n pairs) a b (length d))
+    asked = ap (λ (t : Bool). ask t 24 0 (order_verdict n pairs later_is)) yes ∙ q.answer later_is
 
-    pub no_pairs : (number ≡ 0 → ⊥) → (o : Outcome) → o ≡ refusal number 0 → (o ≡ outcome_of verdict_is (merged n pairs a b)) × (d ≡ room_after verdict_is (merged n pairs a b) d)
-    no_pairs z o s =
-        let v : verdict_is ≡ refused number 0 = asked ∙ ap (λ (t : Bool). ask t number 0 (ordered_verdict n (settling_order n pairs) a b (length d))) (ne_eqb number 0 z) in
-        (s ∙ ap (λ (w : Verdict). outcome_of w (merged n pairs a b)) (sym v), sym (ap (λ (w : Verdict). room_after w (merged n pairs a b) d) v))
+    pub no_pairs : (e : Question) → r ≡ Err e → (refusal (number_of e) 0 ≡ outcome_of verdict_is (merged n pairs a b)) × (d ≡ room_after verdict_is (merged n pairs a b) d)
+    no_pairs e z =
+        let v : verdict_is ≡ refused (number_of e) 0 = asked ∙ ap (λ (s : Result Unit Question). followed (verdict_from_question s) later_is) z in
+        (ap (λ (w : Verdict). outcome_of w (merged n pairs a b)) (sym v), sym (ap (λ (w : Verdict). room_after w (merged n pairs a b) d) v))
 
-    module _ (z : number ≡ 0) where
+    module _ (z : r ≡ Ok tt) where
       pub ready : Rests n (take n new) a b
       ready =
           let w = whole_e n a b yes in
-          let g = (settling_of n pairs old new number q z).ordering in
+          let g = (settling_of n pairs old new r q (ap is_ok z)).ordering in
           record { places = record { inside = g.inside; each = g.each }; some = w.some; first = w.first; second = w.second }
 
       pub answered : (o : Outcome) (after : List ℕ) → o ≡ outcome_of (ordered_verdict n (take n new) a b (length d)) (merged_by n (take n new) a b) →
@@ -164,9 +173,8 @@ module _ (n : ℕ) (pairs a b d : List ℕ) where
           (o ≡ outcome_of verdict_is (merged n pairs a b)) × (after ≡ room_after verdict_is (merged n pairs a b) d)
       unfolding merged
       answered o after e f =
-          let v : ordered_verdict n (settling_order n pairs) a b (length d) ≡ verdict_is =
-          sym (asked ∙ ap (λ (t : Bool). ask t number 0 (ordered_verdict n (settling_order n pairs) a b (length d))) (eq-eqb number 0 z)) in
-          let s = q.settled z in (
+          let v : later_is ≡ verdict_is = sym (asked ∙ ap (λ (s : Result Unit Question). followed (verdict_from_question s) later_is) z) in
+          let s = q.settled (ap is_ok z) in (
             e ∙ ap (λ (l : List ℕ). outcome_of (ordered_verdict n l a b (length d)) (merged_by n l a b)) s ∙ ap (λ (w : Verdict). outcome_of w (merged_by n (settling_order n pairs) a b)) v,
             f ∙ ap (λ (l : List ℕ). room_after (ordered_verdict n l a b (length d)) (merged_by n l a b) d) s ∙ ap (λ (w : Verdict). room_after w (merged_by n (settling_order n pairs) a b) d) v,
           )

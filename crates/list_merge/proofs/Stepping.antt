@@ -1,25 +1,28 @@
 -- The next row of two lists, and what is left of them after it. Assumes nothing.
 use Rattle.model.specs.Kit.{◌≡◌, refl, sym, ap, ap₂, ◌∙◌, subst, Bool, true, false, not, ◌⊎◌, inl, inr, List, [], ◌∷◌, ◌++◌, Memᴰ, Memᴰ-head, Memᴰ-tail, Memᴰ-not_nil, ℕ, ◌+◌, ◌-◌}
 use Rattle.model.specs.Kit.{◌%◌, ◌≤◌, ◌<◌, mod-eq_of_lt, arith, T, eqb, leb, ltb, length, take, drop, length-drop, length-take-le, eqb-true, eqb-false, eq-eqb, ne_eqb, leb-true, leb-false, ltb-true}
-use Rattle.model.specs.Kit.{ltb-false, lt-ltb, le-ltb}
+use Rattle.model.specs.Kit.{ltb-false, lt-ltb, le-ltb, dec_lt}
 use Rattle.model.specs.{Lists.choose, Lists.both, Lists.either, Lists.flat, Lists.same, Room.rows_in}
+use Rattle.std.proofs.Common.{cond, nat_cmp}
 use native.Mathlib.Nat.{mod-eq-sub-mod}
 use lib.Seq.{take-nil}
 use Rattle.model.proofs.Lists.{T_of, of_T, not_of, of_not, same_eq, same_refl, earlier_asym, earlier_trans, Sorted, length_none, never}
 use Rattle.model.proofs.Room.{Wide, wide_tail, rows_wide, rows_none, rows_cons}
 use Rattle.list_merge.specs.{Merge.ascends, Merge.union, Merge.merged_by, Merge.from_first, Merge.next_row, Inner.Inner.Places, Inner.Inner.way_of, Inner.Inner.Rests, Inner.Inner.Sorts}
-use Rattle.list_merge.specs.{Inner.Inner.of_first, Inner.Inner.taken, declared.Way.Way, declared.Way.TheVariants.Before, declared.Way.TheVariants.Same, declared.Way.TheVariants.After}
+use Rattle.list_merge.specs.{Inner.Inner.of_first, Inner.Inner.taken}
+use Rattle.std.specs.declared.cmp.Ordering.{Ordering}
+use Rattle.std.specs.declared.cmp.Ordering.TheVariants.{Less, Equal, Greater}
 use Rattle.order.specs.Reordered.{read, earlier_by}
 use Rattle.list_merge.proofs.{Reading.rows_equal, Reading.Earlier, Reading.sorted_of, Reading.ascends_of, Union.union_step}
 
 -- ---- ways
-pub way_before : (p q : Bool) → p ≡ true → Before ≡ way_of p q
+pub way_before : (p q : Bool) → p ≡ true → Less ≡ way_of p q
 way_before p q e = sym (ap (λ (t : Bool). way_of t q) e)
 
-pub way_after : (p q : Bool) → p ≡ false → q ≡ true → After ≡ way_of p q
+pub way_after : (p q : Bool) → p ≡ false → q ≡ true → Greater ≡ way_of p q
 way_after p q e f = sym (ap₂ way_of e f)
 
-pub way_same : (p q : Bool) → p ≡ false → q ≡ false → Same ≡ way_of p q
+pub way_same : (p q : Bool) → p ≡ false → q ≡ false → Equal ≡ way_of p q
 way_same p q e f = sym (ap₂ way_of e f)
 
 pub less_by : (room first second : ℕ) → first ≤ room → ltb (room - first) second ≡ ltb room (first + second)
@@ -29,27 +32,40 @@ less_by room first second h = go (ltb (room - first) second) refl
     go true e = sym (lt-ltb room (first + second) (omega (arith, ltb-true (room - first) second e)))
     go false e = sym (le-ltb room (first + second) (omega (arith, ltb-false (room - first) second e)))
 
+-- the library's comparison of numbers
+pub cmp_way : (x y : ℕ) → nat_cmp x y ≡ way_of (ltb x y) (ltb y x)
+cmp_way x y = go (dec_lt x y) (dec_lt y x)
+  where
+    go : Dec (x < y) → Dec (y < x) → nat_cmp x y ≡ way_of (ltb x y) (ltb y x)
+    go (yes l) d = ap (λ (b : Bool). cond b Less (cond (eqb x y) Equal Greater)) (lt-ltb x y l) ∙ way_before (ltb x y) (ltb y x) (lt-ltb x y l)
+    go (no m) (yes l) =
+        ap₂ (λ (b e : Bool). cond b Less (cond e Equal Greater)) (le-ltb x y (omega arith)) (ne_eqb x y (λ z. omega arith))
+        ∙ way_after (ltb x y) (ltb y x) (le-ltb x y (omega arith)) (lt-ltb y x l)
+    go (no m) (no k) =
+        ap₂ (λ (b e : Bool). cond b Less (cond e Equal Greater)) (le-ltb x y (omega arith)) (eq-eqb x y (omega arith))
+        ∙ way_same (ltb x y) (ltb y x) (le-ltb x y (omega arith)) (le-ltb y x (omega arith))
+
 -- the list that is chosen
-pub chosen_second : {A : Type 0} (w : Way) → w ≡ Before → (x y : A) → y ≡ choose (of_first w) x y
-chosen_second w q x y = sym (ap (λ (v : Way). choose (of_first v) x y) q)
+pub chosen_second : {A : Type 0} (w : Ordering) → w ≡ Less → (x y : A) → y ≡ choose (of_first w) x y
+chosen_second w q x y = sym (ap (λ (v : Ordering). choose (of_first v) x y) q)
 
-pub chosen_first : {A : Type 0} (w : Way) → w ≡ Same → (x y : A) → x ≡ choose (of_first w) x y
-chosen_first w q x y = sym (ap (λ (v : Way). choose (of_first v) x y) q)
+pub chosen_first : {A : Type 0} (w : Ordering) → w ≡ Equal → (x y : A) → x ≡ choose (of_first w) x y
+chosen_first w q x y = sym (ap (λ (v : Ordering). choose (of_first v) x y) q)
 
-pub chosen_rest : {A : Type 0} (w : Way) → w ≡ After → (x y : A) → x ≡ choose (of_first w) x y
-chosen_rest w q x y = sym (ap (λ (v : Way). choose (of_first v) x y) q)
+pub chosen_rest : {A : Type 0} (w : Ordering) → w ≡ Greater → (x y : A) → x ≡ choose (of_first w) x y
+chosen_rest w q x y = sym (ap (λ (v : Ordering). choose (of_first v) x y) q)
 
 -- and back
-pub before_way : (p q : Bool) → Before ≡ way_of p q → p ≡ true
+pub before_way : (p q : Bool) → Less ≡ way_of p q → p ≡ true
 before_way true q e = refl
 before_way false true e = never (cc)
 before_way false false e = never (cc)
 
-pub after_way : (p q : Bool) → After ≡ way_of p q → p ≡ false
+pub after_way : (p q : Bool) → Greater ≡ way_of p q → p ≡ false
 after_way true q e = never (cc)
 after_way false q e = refl
 
-pub same_way : (p q : Bool) → Same ≡ way_of p q → (p ≡ false) × (q ≡ false)
+pub same_way : (p q : Bool) → Equal ≡ way_of p q → (p ≡ false) × (q ≡ false)
 same_way true q e = never (cc)
 same_way false true e = never (cc)
 same_way false false e = (refl, refl)

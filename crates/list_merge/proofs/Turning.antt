@@ -6,7 +6,8 @@ use lib.Seq.{take-nil}
 use Rattle.model.proofs.{Room.rows_none, Room.rows_cons, Lists.length_none}
 use Rattle.list_merge.specs.Merge.{ascends, merged_by, from_first, next_row}
 use Rattle.list_merge.specs.Inner.Inner.{way_of, Rests, Sorts, stands, of_first, Fronts, taken_first, taken_second, taken}
-use Rattle.list_merge.specs.{declared.Way.Way, declared.Way.TheVariants.Before, declared.Way.TheVariants.Same, declared.Way.TheVariants.After}
+use Rattle.std.specs.declared.cmp.Ordering.{Ordering}
+use Rattle.std.specs.declared.cmp.Ordering.TheVariants.{Less, Equal, Greater}
 use Rattle.order.specs.Reordered.{earlier_by}
 use Rattle.list_merge.proofs.Reading.{rows_equal, ascends_yes, ascends_no, ascends_none, ascends_one}
 use Rattle.list_merge.proofs.Stepping.{before_way, after_way, same_way, second_empty, first_empty, by_rows, next_first, next_second, some_row, drop_whole, taken_none, taken_yes, taken_no}
@@ -14,20 +15,20 @@ use Rattle.list_merge.proofs.Stepping.{not_itself, Step, stepped, ended}
 
 -- ---- stand
 module _ (n : ℕ) (order a b : List ℕ) where
-  pub stand_after : length b ≡ 0 → After ≡ stands n order a b
+  pub stand_after : length b ≡ 0 → Greater ≡ stands n order a b
   unfolding stands
   stand_after e = sym (ap (λ (t : Bool). elim t [
-    | true ↦ After
+    | true ↦ Greater
     | false ↦ elim (eqb (length a) 0)
-        [ true ↦ Before | false ↦ way_of (earlier_by order (take n b) (take n a)) (earlier_by order (take n a) (take n b)) ]
+        [ true ↦ Less | false ↦ way_of (earlier_by order (take n b) (take n a)) (earlier_by order (take n a) (take n b)) ]
   ]) (eq-eqb (length b) 0 e))
 
-  pub stand_before : (length b ≡ 0 → ⊥) → length a ≡ 0 → Before ≡ stands n order a b
+  pub stand_before : (length b ≡ 0 → ⊥) → length a ≡ 0 → Less ≡ stands n order a b
   unfolding stands
   stand_before h e = sym (ap₂ (λ (t u : Bool). elim t [
-    | true ↦ After
+    | true ↦ Greater
     | false ↦ elim u [
-      | true ↦ Before
+      | true ↦ Less
       | false ↦ way_of (earlier_by order (take n b) (take n a))
           (earlier_by order (take n a) (take n b))
     ]
@@ -36,26 +37,26 @@ module _ (n : ℕ) (order a b : List ℕ) where
   pub stand_rows : (length b ≡ 0 → ⊥) → (length a ≡ 0 → ⊥) → way_of (earlier_by order (take n b) (take n a)) (earlier_by order (take n a) (take n b)) ≡ stands n order a b
   unfolding stands
   stand_rows h k = sym (ap₂ (λ (t u : Bool). elim t [
-    | true ↦ After
+    | true ↦ Greater
     | false ↦ elim u [
-      | true ↦ Before
+      | true ↦ Less
       | false ↦ way_of (earlier_by order (take n b) (take n a))
           (earlier_by order (take n a) (take n b))
     ]
   ]) (ne_eqb (length b) 0 h) (ne_eqb (length a) 0 k))
 
 -- what is known by how the second's next row stands to the first's
-module _ (n : ℕ) (order a b : List ℕ) (d : Rests n order a b) (w : Way) (e : w ≡ stands n order a b) where
-  split : (P : Way → Type 0) → (length b ≡ 0 → P After) → ((length b ≡ 0 → ⊥) → length a ≡ 0 → P Before) →
-      ((length b ≡ 0 → ⊥) → (length a ≡ 0 → ⊥) → earlier_by order (take n b) (take n a) ≡ true → P Before) →
-      ((length b ≡ 0 → ⊥) → (length a ≡ 0 → ⊥) → earlier_by order (take n b) (take n a) ≡ false → earlier_by order (take n a) (take n b) ≡ true → P After) →
-      ((length b ≡ 0 → ⊥) → (length a ≡ 0 → ⊥) → earlier_by order (take n b) (take n a) ≡ false → earlier_by order (take n a) (take n b) ≡ false → P Same) → P w
+module _ (n : ℕ) (order a b : List ℕ) (d : Rests n order a b) (w : Ordering) (e : w ≡ stands n order a b) where
+  split : (P : Ordering → Type 0) → (length b ≡ 0 → P Greater) → ((length b ≡ 0 → ⊥) → length a ≡ 0 → P Less) →
+      ((length b ≡ 0 → ⊥) → (length a ≡ 0 → ⊥) → earlier_by order (take n b) (take n a) ≡ true → P Less) →
+      ((length b ≡ 0 → ⊥) → (length a ≡ 0 → ⊥) → earlier_by order (take n b) (take n a) ≡ false → earlier_by order (take n a) (take n b) ≡ true → P Greater) →
+      ((length b ≡ 0 → ⊥) → (length a ≡ 0 → ⊥) → earlier_by order (take n b) (take n a) ≡ false → earlier_by order (take n a) (take n b) ≡ false → P Equal) → P w
   unfolding stands
   split P none only later sooner equal =
       subst P (sym e) (go (eqb (length b) 0) refl (eqb (length a) 0) refl (earlier_by order (take n b) (take n a)) refl (earlier_by order (take n a) (take n b)) refl)
     where
       go : (t : Bool) → eqb (length b) 0 ≡ t → (u : Bool) → eqb (length a) 0 ≡ u → (p : Bool) → earlier_by order (take n b) (take n a) ≡ p → (q : Bool) → earlier_by order (take n a) (take n b) ≡ q
-          → P (elim t [ true ↦ After | false ↦ elim u [ true ↦ Before | false ↦ way_of p q ] ])
+          → P (elim t [ true ↦ Greater | false ↦ elim u [ true ↦ Less | false ↦ way_of p q ] ])
       go true f u g p i q j = none (eqb-true (length b) 0 f)
       go false f true g p i q j = only (eqb-false (length b) 0 f) (eqb-true (length a) 0 g)
       go false f false g true i q j = later (eqb-false (length b) 0 f) (eqb-false (length a) 0 g) i
@@ -64,7 +65,7 @@ module _ (n : ℕ) (order a b : List ℕ) (d : Rests n order a b) (w : Way) (e :
 
   chosen : of_first w ≡ from_first n order a b
   chosen =
-      split (λ (v : Way). of_first v ≡ from_first n order a b) (λ hb. sym (second_empty n order a b hb)) (λ hb ha. sym (first_empty n order a b hb ha))
+      split (λ (v : Ordering). of_first v ≡ from_first n order a b) (λ hb. sym (second_empty n order a b hb)) (λ hb ha. sym (first_empty n order a b hb ha))
       (λ hb ha q. sym (by_rows n order a b hb ha ∙ ap not q))
       (λ hb ha q z. sym (by_rows n order a b hb ha ∙ ap not q)) (λ hb ha q z. sym (by_rows n order a b hb ha ∙ ap not q))
 
@@ -77,7 +78,7 @@ module _ (n : ℕ) (order a b : List ℕ) (d : Rests n order a b) (w : Way) (e :
 
   pub fronts : Fronts n w a b
   fronts =
-      split (λ (v : Way). Fronts n v a b) (λ hb h. some_row n a d.first h) (λ hb ha. some_row n b d.second hb) (λ hb ha q. some_row n b d.second hb) (λ hb ha q z h. some_row n a d.first h)
+      split (λ (v : Ordering). Fronts n v a b) (λ hb h. some_row n a d.first h) (λ hb ha. some_row n b d.second hb) (λ hb ha q. some_row n b d.second hb) (λ hb ha q z h. some_row n a d.first h)
       (λ hb ha q z. (some_row n a d.first ha, some_row n b d.second hb))
 
   module _ (row : List ℕ) (k : row ≡ next_row n order a b) (full : length row ≡ 0 → ⊥) where
@@ -92,14 +93,14 @@ module _ (n : ℕ) (order a b : List ℕ) (d : Rests n order a b) (w : Way) (e :
 
     pub first_taken : taken_first n w ≡ taken n a row
     first_taken =
-        split (λ (v : Way). taken_first n v ≡ taken n a row) (λ hb. let q = is_first (second_empty n order a b hb) in taken_yes n a row (some_first q) q) (λ hb ha. taken_none n a row ha)
+        split (λ (v : Ordering). taken_first n v ≡ taken n a row) (λ hb. let q = is_first (second_empty n order a b hb) in taken_yes n a row (some_first q) q) (λ hb ha. taken_none n a row ha)
         (λ hb ha q. taken_no n a row ha (λ z. not_itself order (take n b) (take n a) q (is_second (by_rows n order a b hb ha ∙ ap not q) ∙ sym z)))
         (λ hb ha q v. taken_yes n a row ha (is_first (by_rows n order a b hb ha ∙ ap not q)))
         (λ hb ha q v. taken_yes n a row ha (is_first (by_rows n order a b hb ha ∙ ap not q)))
 
     pub second_taken : taken_second n w ≡ taken n b row
     second_taken =
-        split (λ (v : Way). taken_second n v ≡ taken n b row) (λ hb. taken_none n b row hb) (λ hb ha. taken_yes n b row hb (is_second (first_empty n order a b hb ha)))
+        split (λ (v : Ordering). taken_second n v ≡ taken n b row) (λ hb. taken_none n b row hb) (λ hb ha. taken_yes n b row hb (is_second (first_empty n order a b hb ha)))
         (λ hb ha q. taken_yes n b row hb (is_second (by_rows n order a b hb ha ∙ ap not q)))
         (λ hb ha q v. taken_no n b row hb (λ z. not_itself order (take n a) (take n b) v (is_first (by_rows n order a b hb ha ∙ ap not q) ∙ sym z)))
         (λ hb ha q v.
@@ -137,18 +138,18 @@ module _ (n : ℕ) (order a after : List ℕ) (some : 1 ≤ n) (e : length a % n
   pub shorter : length after < length a
   shorter = omega (arith, ap length q, length-drop n a)
 
-  module _ (w : Way) (f : w ≡ way_of (earlier_by order (take n a) (take n after)) (earlier_by order (take n after) (take n a))) where
-    pub goes_on_lem : w ≡ Before → ascends order (rows_in n a) ≡ ascends order (rows_in n after)
+  module _ (w : Ordering) (f : w ≡ way_of (earlier_by order (take n a) (take n after)) (earlier_by order (take n after) (take n a))) where
+    pub goes_on_lem : w ≡ Less → ascends order (rows_in n a) ≡ ascends order (rows_in n after)
     goes_on_lem z =
         ap (ascends order) two
         ∙ ascends_yes order (take n a) (take n after) (rows_in n (drop n after)) (before_way (earlier_by order (take n a) (take n after)) (earlier_by order (take n after) (take n a)) (sym z ∙ f))
         ∙ ap (ascends order) (sym one)
 
-    pub equal_rows : w ≡ Same → ascends order (rows_in n a) ≡ false
+    pub equal_rows : w ≡ Equal → ascends order (rows_in n a) ≡ false
     equal_rows z = ap (ascends order) two ∙ ascends_no order (take n a) (take n after) (rows_in n (drop n after))
         (same_way (earlier_by order (take n a) (take n after)) (earlier_by order (take n after) (take n a)) (sym z ∙ f)).0
 
-    pub falls : w ≡ After → ascends order (rows_in n a) ≡ false
+    pub falls : w ≡ Greater → ascends order (rows_in n a) ≡ false
     falls z = ap (ascends order) two ∙ ascends_no order (take n a) (take n after) (rows_in n (drop n after))
         (after_way (earlier_by order (take n a) (take n after)) (earlier_by order (take n after) (take n a)) (sym z ∙ f))
 

@@ -1,7 +1,7 @@
 -- What the answers mean.
-use Rattle.model.specs.Room.{Outcome, wrote, refusal}
-use Rattle.list_merge.specs.{declared.Answer.Answer, declared.Answer.TheVariants.Written, declared.Answer.TheVariants.Refused}
+use Rattle.std.specs.Prelude.{ℕ, Result}
+use Rattle.model.specs.{Room.Outcome, Refusals.reply_from_question}
+use Rattle.model.specs.declared.{refusals.Question.Question}
 
-abbrev pub means : Answer → Outcome
-means (Written bytes) = wrote bytes
-means (Refused number item) = refusal number item
+abbrev pub means : Result ℕ Question → Outcome
+means r = reply_from_question (λ bytes. bytes) r

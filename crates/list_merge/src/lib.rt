@@ -4,7 +4,7 @@
 ghost use Rattle.std.specs.Prelude.{◌≡◌, true, ℕ, ◌+◌, ◌≤◌, ◌<◌, ◌%◌, leb, ltb, length, take, drop, get_or};
 ghost use mathlib.Core.List.{Memᴰ};
 ghost use Rattle.model.specs.Lists.{choose, earlier};
-ghost use Rattle.model.specs.Room.{rows_in, refusal, outcome_of, room_after};
+ghost use Rattle.model.specs.Room.{rows_in, outcome_of, room_after};
 ghost use Rattle.model.specs.Written.{placed, Written};
 ghost use Rattle.order.specs.Reordered.{earlier_by};
 ghost use Rattle.list_merge.specs.Merge.{ascends, merged_by, from_first, next_row, whole_lists, ordered_verdict};
@@ -13,29 +13,9 @@ ghost use Rattle.list_merge.specs.Calls.{CallMerge};
 ghost use Rattle.list_merge.specs.Inner.Inner.{Places, Kind, way_of, Number, eight_of, word_of, Long, Decides, Rests, Sorts, stands, taken_first};
 ghost use Rattle.list_merge.specs.Inner.Inner.{taken_second, Walked};
 
+use model::refusals::Question;
 use model::wide;
-use wire::put;
-
-#[derive(Clone, Copy)]
-pub enum Answer {
-    Written(usize),
-    Refused { number: u8, item: usize },
-}
-
-// A refusal; its item is 0.
-fn refused(number: u8) -> Answer
-    ensures { means result ≡ refusal number 0 }
-{
-    Answer::Refused { number, item: 0 }
-}
-
-// How a row stands to another.
-#[derive(Clone, Copy)]
-enum Way {
-    Before,
-    Same,
-    After,
-}
+use std::cmp::Ordering;
 
 // A row's first eight bytes as one number, which is asked for equality alone.
 fn eight(row: &[u8]) -> usize
@@ -63,18 +43,6 @@ fn word(row: &[u8], at: usize) -> usize
         + wide(row[at + 3])
 }
 
-fn way_of(x: usize, y: usize) -> Way
-    ensures { result ≡ way_of (ltb x y) (ltb y x) }
-{
-    if x != y {
-        if x < y {
-            return Way::Before;
-        }
-        return Way::After;
-    }
-    Way::Same
-}
-
 // The place of the four bytes that decide between two rows of n.
 fn deciding(n: usize, a: &[u8], b: &[u8]) -> usize
     requires { Long n a.now b.now }
@@ -90,12 +58,12 @@ fn deciding(n: usize, a: &[u8], b: &[u8]) -> usize
 }
 
 // Compares two rows of n by place.
-fn by_words(n: usize, a: &[u8], b: &[u8]) -> Way
+fn by_words(n: usize, a: &[u8], b: &[u8]) -> Ordering
     requires { Long n a.now b.now }
     ensures { result ≡ way_of (earlier a.now b.now) (earlier b.now a.now) }
 {
     let at = deciding(n, a, b);
-    way_of(word(a, at), word(b, at))
+    word(a, at).cmp(&word(b, at))
 }
 
 // A row's byte at a place of the order.
@@ -108,7 +76,7 @@ fn at_place(order: &[u8], i: usize, row: &[u8]) -> usize
 }
 
 // Compares two rows in an order of their places, two places a turn.
-fn by_places(order: &[u8], a: &[u8], b: &[u8]) -> Way
+fn by_places(order: &[u8], a: &[u8], b: &[u8]) -> Ordering
     requires { (x : ℕ) → Memᴰ x order.now → (x < length a.now) × (x < length b.now) }
     ensures { result ≡ way_of (earlier_by order.now a.now b.now)
         (earlier_by order.now b.now a.now) }
@@ -118,19 +86,19 @@ fn by_places(order: &[u8], a: &[u8], b: &[u8]) -> Way
         let x = at_place(order, i, a);
         let y = at_place(order, i, b);
         if x != y {
-            return way_of(x, y);
+            return x.cmp(&y);
         }
         let z = at_place(order, i + 1, a);
         let w = at_place(order, i + 1, b);
         if z != w {
-            return way_of(z, w);
+            return z.cmp(&w);
         }
         i += 2;
     }
     if i < order.len() {
-        return way_of(at_place(order, i, a), at_place(order, i, b));
+        return at_place(order, i, a).cmp(&at_place(order, i, b));
     }
-    Way::Same
+    Ordering::Equal
 }
 
 // Whether rows in this order are compared by place, and long enough for words.
@@ -141,26 +109,24 @@ fn by_place(n: usize, order: &[u8]) -> bool
     if n < 8 {
         return false;
     }
-    let mut i = 0;
-    while i < order.len() {
+    for i in 0..order.len() {
         if order[i] as usize != i {
             return false;
         }
-        i += 1;
     }
     true
 }
 
 // How the second list's next row stands to the first's. A list at its end comes after the other.
-fn stand(n: usize, plain: bool, order: &[u8], first: &[u8], second: &[u8]) -> Way
+fn stand(n: usize, plain: bool, order: &[u8], first: &[u8], second: &[u8]) -> Ordering
     requires { Rests n order.now first.now second.now × Kind n order.now plain }
     ensures { result ≡ stands n order.now first.now second.now }
 {
     if second.len() == 0 {
-        return Way::After;
+        return Ordering::Greater;
     }
     if first.len() == 0 {
-        return Way::Before;
+        return Ordering::Less;
     }
     if plain {
         return by_words(n, &second[..n], &first[..n]);
@@ -170,15 +136,15 @@ fn stand(n: usize, plain: bool, order: &[u8], first: &[u8], second: &[u8]) -> Wa
 
 // The next row: the front of what is left of one of the two lists, and not a copy. For equal rows it is the first list's, and at the end
 // the first's empty rest. `way` is how the second's next row stands to the first's in the order.
-fn next<'a>(n: usize, order: &[u8], way: Way, first: &'a [u8], second: &'a [u8]) -> &'a [u8]
+fn next<'a>(n: usize, order: &[u8], way: Ordering, first: &'a [u8], second: &'a [u8]) -> &'a [u8]
     requires { Rests n order.now first.now second.now × (way ≡ stands n order.now first.now second.now) }
     ensures result_value { result.now ≡ next_row n order.now first.now second.now }
     ensures ref_ptr_value { result.ref_ptr ≡ choose (from_first n order.now first.now second.now) first.entry.ref_ptr second.entry.ref_ptr }
 {
     match way {
-        Way::Before => &second[..n],
-        Way::Same => &first[..n],
-        Way::After => {
+        Ordering::Less => &second[..n],
+        Ordering::Equal => &first[..n],
+        Ordering::Greater => {
             if first.len() == 0 {
                 return first;
             }
@@ -188,23 +154,23 @@ fn next<'a>(n: usize, order: &[u8], way: Way, first: &'a [u8], second: &'a [u8])
 }
 
 // How many bytes the next row takes of the first list, and of the second.
-fn past_first(n: usize, way: Way) -> usize
+fn past_first(n: usize, way: Ordering) -> usize
     ensures { result ≡ taken_first n way }
 {
     match way {
-        Way::Before => 0,
-        Way::Same => n,
-        Way::After => n,
+        Ordering::Less => 0,
+        Ordering::Equal => n,
+        Ordering::Greater => n,
     }
 }
 
-fn past_second(width: usize, way: Way) -> usize
+fn past_second(width: usize, way: Ordering) -> usize
     ensures { result ≡ taken_second width way }
 {
     match way {
-        Way::Before => width,
-        Way::Same => width,
-        Way::After => 0,
+        Ordering::Less => width,
+        Ordering::Equal => width,
+        Ordering::Greater => 0,
     }
 }
 
@@ -222,6 +188,17 @@ fn put_four(out: &mut [u8], to: usize, row: &[u8], from: usize)
     out[to + 3] = d;
 }
 
+// Byte by byte: with a copy of any length in it, as the library's, the walk takes twice as long for rows of 8 to 12.
+fn put_short(out: &mut [u8], at: usize, row: &[u8]) -> usize
+    requires { at + length row.now ≤ length out.old }
+    ensures { Written out.old at row.now out.new result }
+{
+    for (i, byte) in row.iter().enumerate() {
+        out[at + i] = *byte;
+    }
+    at + row.len()
+}
+
 // Writes a row, four bytes at a time: of a row of 8 to 12, the first four, the next four and the last four.
 fn put_row(out: &mut [u8], at: usize, row: &[u8]) -> usize
     requires { (at + length row.now ≤ length out.old) × (length row.now ≤ 12) }
@@ -229,7 +206,7 @@ fn put_row(out: &mut [u8], at: usize, row: &[u8]) -> usize
 {
     let n = row.len();
     if n < 8 {
-        return put(out, at, row);
+        return put_short(out, at, row);
     }
     put_four(out, at, row, 0);
     put_four(out, at + 4, row, 4);
@@ -246,7 +223,7 @@ fn walk<'a>(
     second: &'a [u8],
     out: &mut [u8],
     writes: bool,
-) -> Answer
+) -> Result<usize, Question>
     requires { Sorts n order.now first.now second.now × Kind n order.now plain ×
         (writes ≡ true → length (merged_by n order.now first.now second.now) ≤ length out.old) }
     ensures { Walked writes out.old (merged_by n order.now first.now second.now) out.new
@@ -259,13 +236,13 @@ fn walk<'a>(
         let way = stand(n, plain, order, a, b);
         let row = next(n, order, way, a, b);
         if row.len() == 0 {
-            return Answer::Written(at);
+            return Ok(at);
         }
         if writes {
             put_row(out, at, row);
         } else {
             if out.len() - at < n {
-                return refused(27);
+                return Err(Question::MergeRoom);
             }
         }
         let i = past_first(n, way);
@@ -280,10 +257,7 @@ fn walk<'a>(
 fn short(room: usize, first: usize, second: usize) -> bool
     ensures { result ≡ ltb room (first + second) }
 {
-    if room < first {
-        return true;
-    }
-    room - first < second
+    room < first || room - first < second
 }
 
 // Question 27: whether the merged list fits. It is counted only where the room might be short.
@@ -302,11 +276,7 @@ fn fits<'a>(
     if !short(room.len(), first.len(), second.len()) {
         return true;
     }
-    let r = walk(n, plain, order, first, second, room, false);
-    match r {
-        Answer::Written(_) => true,
-        Answer::Refused { .. } => false,
-    }
+    walk(n, plain, order, first, second, room, false).is_ok()
 }
 
 // Questions 25 and 26: whether the rows of a list ascend in the order.
@@ -317,16 +287,15 @@ fn ascend(n: usize, plain: bool, order: &[u8], list: &[u8]) -> bool
     let mut rest = list;
     while n < rest.len() {
         let after = &rest[n..];
-        let mut way = Way::Same;
-        if plain {
-            way = by_words(n, &rest[..n], &after[..n]);
+        let way = if plain {
+            by_words(n, &rest[..n], &after[..n])
         } else {
-            way = by_places(order, &rest[..n], &after[..n]);
-        }
+            by_places(order, &rest[..n], &after[..n])
+        };
         match way {
-            Way::Before => {}
-            Way::Same => return false,
-            Way::After => return false,
+            Ordering::Less => {}
+            Ordering::Equal => return false,
+            Ordering::Greater => return false,
         }
         rest = after;
     }
@@ -340,7 +309,7 @@ fn merge_by<'a>(
     first: &'a [u8],
     second: &'a [u8],
     room: &mut [u8],
-) -> Answer
+) -> Result<usize, Question>
     requires { Rests n order.now first.now second.now × (length order.now ≡ n) × (n ≤ 12) }
     ensures result_value { means result ≡ outcome_of (ordered_verdict n order.now first.now second.now (length room.old))
         (merged_by n order.now first.now second.now) }
@@ -349,13 +318,13 @@ fn merge_by<'a>(
 {
     let plain = by_place(n, order);
     if !ascend(n, plain, order, first) {
-        return refused(25);
+        return Err(Question::FirstAscends);
     }
     if !ascend(n, plain, order, second) {
-        return refused(26);
+        return Err(Question::SecondAscends);
     }
     if !fits(n, plain, order, first, second, room) {
-        return refused(27);
+        return Err(Question::MergeRoom);
     }
     walk(n, plain, order, first, second, room, true)
 }
@@ -364,13 +333,7 @@ fn merge_by<'a>(
 fn whole(n: usize, first: &[u8], second: &[u8]) -> bool
     ensures { result ≡ whole_lists n first.now second.now }
 {
-    if n < 1 {
-        return false;
-    }
-    if 12 < n {
-        return false;
-    }
-    if first.len() % n != 0 {
+    if n < 1 || 12 < n || first.len() % n != 0 {
         return false;
     }
     second.len() % n == 0
@@ -383,16 +346,13 @@ pub fn merge<'a>(
     first: &'a [u8],
     second: &'a [u8],
     room: &mut [u8],
-) -> Answer
+) -> Result<usize, Question>
     ensures { CallMerge n pairs.now first.now second.now room.old result room.new }
 {
     if !whole(n, first, second) {
-        return refused(24);
+        return Err(Question::TwoLists);
     }
     let mut order = [0u8; 16];
-    let number = order::settling_order(n, pairs, &mut order);
-    if number != 0 {
-        return refused(number);
-    }
+    order::settling_order(n, pairs, &mut order)?;
     merge_by(n, &order[..n], first, second, room)
 }

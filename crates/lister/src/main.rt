@@ -2,19 +2,13 @@
 // It ends with status 0 whatever happens: what fails is said on standard error.
 #![tactic(auto)]
 
-ghost use Rattle.std.specs.Prelude.{◌≡◌, ◌≤◌, ◌<◌, IsFalse, length, take};
+ghost use Rattle.std.specs.Prelude.{◌≡◌, ◌≤◌, ◌<◌, ℕ, IfOk, MatchResult, length, take};
 ghost use Rattle.std.specs.Io.KnownBytes.{Consumes, IsAtEnd};
 ghost use Rattle.report.specs.Inner.Text.{room};
 ghost use Rattle.export_report.specs.Report.{length_told};
 
+use std::io;
 use std::io::Read;
-
-// Standard input: how many bytes stand at the front of the buffer, and whether a read failed after them.
-#[derive(Clone, Copy)]
-struct Input {
-    count: usize,
-    failed: bool,
-}
 
 // Room for every report. The contract gives only the length, which lending a part of it needs.
 fn report_room() -> [u8; report::REPORT_ROOM]
@@ -34,34 +28,24 @@ fn length_told(answer: &[u8]) -> usize
         + 16777216 * answer[7] as usize
 }
 
-// Reads until the buffer is full, the input ends or a read fails.
-fn read_input<R: Read>(from: &mut R, sheet: &mut [u8]) -> Input
-    ensures inside { result.count ≤ length sheet.new }
-    ensures front { result.count ≡ length (take result.count sheet.new) }
-    ensures bytes { Consumes (R.remaining from.old) (R.remaining from.new) (take result.count sheet.new) }
-    ensures ended { IsFalse result.failed → result.count < length sheet.new → IsAtEnd (R.remaining from.new) }
+// Reads until the buffer is full, the input ends or a read fails; answers how many bytes stand at the front of the buffer.
+fn read_input<R: Read>(from: &mut R, sheet: &mut [u8]) -> io::Result<usize>
+    ensures inside { IfOk result (λ n. n ≤ length sheet.new) }
+    ensures front { IfOk result (λ n. n ≡ length (take n sheet.new)) }
+    ensures bytes { MatchResult result
+        (λ n. Consumes (R.remaining from.old) (R.remaining from.new) (take n sheet.new))
+        (λ e. (n : ℕ) × (n ≤ length sheet.new) × Consumes (R.remaining from.old) (R.remaining from.new) (take n sheet.new)) }
+    ensures ended { IfOk result (λ n. n < length sheet.new → IsAtEnd (R.remaining from.new)) }
 {
     let mut done = 0;
     while done < sheet.len() {
-        match from.read(&mut sheet[done..]) {
-            Err(_) => {
-                return Input {
-                    count: done,
-                    failed: true,
-                };
-            }
-            Ok(n) => {
-                if n == 0 {
-                    break;
-                }
-                done += n;
-            }
+        let n = from.read(&mut sheet[done..])?;
+        if n == 0 {
+            break;
         }
+        done += n;
     }
-    Input {
-        count: done,
-        failed: false,
-    }
+    Ok(done)
 }
 
 // What can't be said on standard error stays unsaid.
@@ -72,12 +56,10 @@ fn complain<E: Eprint>(rt: &E, text: &str) {
 // Of a longer input the first 65,536 bytes are the sheet. Where a read fails there is no report.
 fn main(rt: HostRuntime) {
     let mut sheet = [0u8; 65536];
-    let input = read_input(&mut rt.stdin(), &mut sheet);
-    if input.failed {
+    let Ok(n) = read_input(&mut rt.stdin(), &mut sheet) else {
         complain(&rt, "lister: standard input could not be read");
         return;
-    }
-    let n = input.count;
+    };
     let mut out = report_room();
     let mut answer = [0u8; 12];
     let code = export_report::write_report(&sheet[..n], &mut out, &mut answer);

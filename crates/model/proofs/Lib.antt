@@ -13,6 +13,7 @@ pub mod Assignments
 pub mod Filter
 pub mod Endings
 pub mod Accepted
+pub mod Numbering
 pub mod Prune
 pub mod Prunes
 pub mod Consistent

@@ -1,6 +1,8 @@
 -- The lowest member of a set, the set without a member, and with one more. Assumes nothing.
+use Rattle.std.specs.Prelude.{None, Some}
+use Rattle.model.specs.EachMember.{NextMember, comes, over}
 use Rattle.model.specs.Kit.{◌≡◌, refl, sym, ap, ◌∙◌, subst, Bool, true, false, not, ◌∷◌, Memᴰ, Memᴰ-head, Memᴰ-tail, Memᴰ-cast, ℕ, ◌-◌, ◌*◌, ◌%◌, ◌^◌, ◌≤◌, ◌<◌, arith, T, T_not}
-use Rattle.model.specs.Kit.{eqb, ltb, bit_or, and_le_l, pow-lt, eqb-true, eqb-false, eq-eqb, ltb-true, ltb-false, not-true, not-false}
+use Rattle.model.specs.Kit.{eqb, ltb, bit_or, and_le_l, pow-lt, eqb-true, eqb-false, eq-eqb, ltb-true, ltb-false}
 use Rattle.model.specs.ValueSets.{has, full_mask, without_mask, only_mask, union_mask, lowest_of, members}
 use Rattle.model.proofs.{Least.first_most, Lists.T_of, Lists.of_not, Lists.both_i, Lists.both_l, Lists.both_r, Lists.sorted_ext, Sets.has_lt, Sets.mask_i, Sets.mask_e, Sets.members_i}
 use Rattle.model.proofs.{Sets.members_e, Sets.members_sorted, Masks.least_below, Masks.lowest_op, Masks.union_op, Masks.without_op, Members.low_has, Members.one_op}
@@ -12,12 +14,6 @@ pub lowest_in : (s : ℕ) → s < 2 ^ 16 → (s ≡ 0 → ⊥) → T (has s (low
 lowest_in s h n = subst (λ (v : ℕ). T (has s v)) (lowest_op 16 s) (low_has 16 s (omega arith) h).0
 
 -- a loop over the members: its test
-pub some_left : (s : ℕ) (r : Bool) → r ≡ eqb s 0 → not r ≡ true → s ≡ 0 → ⊥
-some_left s r e t = eqb-false s 0 (sym e ∙ not-true r t)
-
-pub none_left : (s : ℕ) (r : Bool) → r ≡ eqb s 0 → not r ≡ false → s ≡ 0
-none_left s r e t = eqb-true s 0 (sym e ∙ not-false r t)
-
 -- ---- the set without a member
 pub without_i : (s u v : ℕ) → s < 2 ^ 16 → T (has s v) → (v ≡ u → ⊥) → T (has (without_mask s u) v)
 without_i s u v h t n = mask_i _ v (has_lt 16 s v h t) (both_i (has s v) (not (eqb v u)) t (other (eqb v u) refl))
@@ -36,6 +32,9 @@ without_less s u h t =
     let l : without_mask s u ≤ s = subst (λ (m : ℕ). m ≤ s) (without_op s u h (has_lt 16 s u h t)) (and_le_l s ((2 ^ 16 - 1) - 1 * 2 ^ u % 2 ^ 16)) in
     let n : without_mask s u ≡ s → ⊥ = λ e. (without_e s u u (subst (λ (m : ℕ). T (has m u)) (sym e) t)).1 refl in
     omega arith
+
+pub lowest_less : (s : ℕ) → s < 2 ^ 16 → (s ≡ 0 → ⊥) → without_mask s (lowest_of s) < s
+lowest_less s h n = without_less s (lowest_of s) h (lowest_in s h n)
 
 -- ---- the members in turn
 pub members_lowest : (s : ℕ) → s < 2 ^ 16 → (s ≡ 0 → ⊥) → members s ≡ lowest_of s ∷ members (without_mask s (lowest_of s))
@@ -64,3 +63,10 @@ members_lowest s h n =
 -- ---- one member more
 pub with_one : (s v : ℕ) → s < 2 ^ 16 → v < 16 → union_mask s (only_mask (full_mask 16) v) ≡ bit_or s (2 ^ v)
 with_one s v h l = ap (union_mask s) (one_op v l) ∙ sym (union_op s (2 ^ v) h (pow-lt l))
+
+-- ---- going over the members
+pub next_comes : {left v new : ℕ} → NextMember left (Some v) new → (left ≡ 0 → ⊥) × (v ≡ lowest_of left) × (new ≡ without_mask left (lowest_of left))
+next_comes (comes some) = (some, refl, refl)
+
+pub next_over : {left new : ℕ} → NextMember left None new → left ≡ 0
+next_over (over none) = none

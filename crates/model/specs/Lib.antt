@@ -4,8 +4,10 @@ pub mod Lists
 pub mod Bytes
 pub mod Written
 pub mod ValueSets
+pub mod EachMember
 pub mod Problem
 pub mod Verdict
+pub mod Refusals
 pub mod Sheet
 pub mod Nogood
 pub mod NogoodClaims

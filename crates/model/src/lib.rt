@@ -2,7 +2,11 @@
 #![tactic(auto)]
 
 ghost use Rattle.std.specs.Prelude.{◌≡◌, ◌<◌, eqb};
+ghost use Rattle.std.specs.Iterator.{at_most};
 ghost use Rattle.model.specs.ValueSets.{has, full_mask, without_mask, only_mask, union_mask, common_mask, lowest_of};
+ghost use Rattle.model.specs.EachMember.{NextMember};
+
+pub mod refusals; // refusals.rt: the questions, and a refusal
 
 // A byte as a number, and that it is one: as an index, and as an element of an array of numbers.
 pub fn wide(x: u8) -> usize
@@ -17,7 +21,7 @@ pub fn long(x: u8) -> u64
     x as u64
 }
 
-#[derive(Clone, Copy)]
+#[derive(Clone, Copy, Debug, PartialEq, Eq)]
 pub struct ValueSet {
     pub bits: u16,
 }
@@ -67,6 +71,13 @@ impl ValueSet {
         }
     }
 
+    // The members, ascending.
+    pub fn members(self) -> EachMember
+        ensures { result.left.bits ≡ self.bits }
+    {
+        EachMember { left: self }
+    }
+
     // All members but the lowest.
     pub fn without_lowest(self) -> Self
         ensures { result.bits ≡ without_mask self.bits (lowest_of self.bits) }
@@ -112,5 +123,28 @@ impl ValueSet {
         ensures { result ≡ eqb self.bits 0 }
     {
         self.bits == 0
+    }
+}
+
+// The members of a set that are still to come, ascending.
+#[derive(Clone, Copy, Debug)]
+pub struct EachMember {
+    pub left: ValueSet,
+}
+
+impl Iterator for EachMember {
+    type Item = u32;
+
+    ghost next_gives = { λ old member new. NextMember old.left.bits member new.left.bits };
+
+    ghost remaining = { λ here. at_most here.left.bits };
+
+    fn next(&mut self) -> Option<u32> {
+        if self.left.bits == 0 {
+            return None;
+        }
+        let lowest = self.left.lowest();
+        self.left = self.left.without_lowest();
+        Some(lowest)
     }
 }

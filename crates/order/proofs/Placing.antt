@@ -1,12 +1,18 @@
 -- Pairs by their index, and the order one place after another. Assumes nothing.
 use Rattle.model.specs.Kit.{◌≡◌, refl, sym, ap, ap₂, ◌∙◌, subst, Bool, true, false, ◌⊎◌, inl, inr, List, [], ◌∷◌, ◌++◌, Memᴰ, Memᴰ-head, Memᴰ-tail, Memᴰ-not_nil, ℕ, zero, suc, ◌+◌}
-use Rattle.model.specs.Kit.{◌-◌, ◌*◌, ◌/◌, ◌%◌, ◌^◌, ◌≤◌, ◌<◌, not-suc-le-zero, ℕ_discrete, arith, bit_or, or_lt, T, ltb, eqb, ltb→lt, lt→ltb, eqb_refl, length, take, drop, set, length-set}
+use Rattle.model.specs.Kit.{◌-◌, ◌*◌, ◌/◌, ◌%◌, ◌^◌, ◌≤◌, ◌<◌, not-suc-le-zero, ℕ_discrete, arith, bit_or, or_lt, T, leb, ltb, eqb, ltb→lt, lt→ltb, eqb_refl, length, take, drop, set, length-set}
 use Rattle.model.specs.Kit.{length-take, length-drop, get_or-drop, le-leb, lt-leb, eq-eqb, ne_eqb, eqb-true}
 use Rattle.model.specs.{Lists.all, Lists.any, Lists.at, Lists.both, Lists.either, ValueSets.has, ValueSets.least, Verdict.Verdict, Verdict.accepted, Verdict.ask, Verdict.is_accepted}
 use Rattle.order.specs.Order.{pairs_in, Before, can_follow, settled_first, settling_order, settles_all, order_verdict, Settling}
 use Rattle.order.specs.Inner.Settled.{SetOf, Befores, Settled, Ordered}
+use Rattle.std.proofs.Common.{◌&&◌, get_or}
+use Rattle.std.proofs.lemmas.List.{drop-drop}
+use Rattle.std.proofs.Common.{Result, Ok, Err, is_ok}
+use Rattle.std.specs.List.{list_all}
+use Rattle.model.specs.declared.{refusals.Question.Question}
+use Rattle.model.specs.declared.refusals.Question.TheVariants as question
 use Rattle.model.proofs.Lists.{T_of, of_T, not_of, of_not, all_i, all_e, any_cons, among_i, among_e, mem_at, at_mem, at_ext, at_take, at_set, at_set_other}
-use Rattle.model.proofs.{Masks.has_or, Sets.has_none, Sets.mask_ext, Members.or_i, Members.or_e}
+use Rattle.model.proofs.{Lists.both_false, Masks.has_or, Sets.has_none, Sets.mask_ext, Members.or_i, Members.or_e}
 use Rattle.order.proofs.Order.{follow_i, follow_e, first_length, first_at, order_length, order_passed}
 
 -- ---- pairs by their index
@@ -230,10 +236,10 @@ module _ (n : ℕ) (pairs : List ℕ) where
       small i m (yes q) = subst (λ (j : ℕ). next_of j < n) (sym q) (subst (λ (z : ℕ). z < n) e l)
       small i m (no q) = r.small i (omega arith)
 
-  pub placing_stuck : (k settled x : ℕ) (old new : List ℕ) → Placing k settled old new → k < n → x ≡ next_of k → n ≤ x → Settled n pairs old new false
+  pub placing_stuck : (k settled : ℕ) (old new : List ℕ) → Placing k settled old new → k < n → next_of k ≡ n → Settled n pairs old new false
   unfolding settles_all settling_order
-  placing_stuck k settled x old new r h e l = record {
-    answer = below_not (settled_first n pairs n) n k (omega (arith, first_length n pairs n)) (subst (λ (z : ℕ). n ≤ z) (e ∙ sym (first_at n pairs n k h)) l);
+  placing_stuck k settled old new r h e = record {
+    answer = below_not (settled_first n pairs n) n k (omega (arith, first_length n pairs n)) (subst (λ (z : ℕ). n ≤ z) (sym e ∙ sym (first_at n pairs n k h)) (omega arith));
     places = λ t i m. absurd t;
     others = λ t i m. absurd t;
     size = r.size;
@@ -250,60 +256,53 @@ module _ (n : ℕ) (pairs : List ℕ) where
 
 -- ---- the answers
 module _ (n : ℕ) (pairs old : List ℕ) where
-  pub many : 128 < length pairs → Ordered n pairs old old 28
+  pub not_whole : (128 < length pairs) ⊎ (length pairs % 2 ≡ 0 → ⊥) → Ordered n pairs old old (Err question.WholePairs)
   unfolding order_verdict
-  many h = record {
-    answer = λ later. ap (λ (b : Bool). ask (both b (eqb (length pairs % 2) 0)) 28 0 (ask (all (λ x. ltb x n) pairs) 29 0 (ask (settles_all n pairs) 30 0 later))) (lt-leb (length pairs) 128 h);
-    settled = λ e. absurd (omega arith);
-    rest = λ e. absurd (omega arith);
+  not_whole h = record {
+    answer = λ later. ap (λ (b : Bool). ask b 28 0 (ask (all (λ x. ltb x n) pairs) 29 0 (ask (settles_all n pairs) 30 0 later))) (no h);
+    settled = λ e. absurd (cc);
+    rest = λ e. absurd (cc);
     kept = λ e. refl;
     size = refl;
   }
+    where
+      no : (128 < length pairs) ⊎ (length pairs % 2 ≡ 0 → ⊥) → both (leb (length pairs) 128) (eqb (length pairs % 2) 0) ≡ false
+      no (inl long) = ap (λ (b : Bool). both b (eqb (length pairs % 2) 0)) (lt-leb (length pairs) 128 long)
+      no (inr odd) = ap (both (leb (length pairs) 128)) (ne_eqb (length pairs % 2) 0 odd) ∙ both_false (leb (length pairs) 128)
 
   module _ (few : length pairs ≤ 128) where
-    pub odd : (length pairs % 2 ≡ 0 → ⊥) → Ordered n pairs old old 28
-    unfolding order_verdict
-    odd h = record {
-      answer = λ later. ap₂ (λ (b c : Bool). ask (both b c) 28 0 (ask (all (λ x. ltb x n) pairs) 29 0 (ask (settles_all n pairs) 30 0 later))) (le-leb (length pairs) 128 few)
-          (ne_eqb (length pairs % 2) 0 h);
-      settled = λ e. absurd (omega arith);
-      rest = λ e. absurd (omega arith);
-      kept = λ e. refl;
-      size = refl;
-    }
-
     module _ (whole : length pairs % 2 ≡ 0) where
       first_asked : (later : Verdict) → order_verdict n pairs later ≡ ask (all (λ x. ltb x n) pairs) 29 0 (ask (settles_all n pairs) 30 0 later)
       unfolding order_verdict
       first_asked later = ap₂ (λ (b c : Bool). ask (both b c) 28 0 (ask (all (λ x. ltb x n) pairs) 29 0 (ask (settles_all n pairs) 30 0 later))) (le-leb (length pairs) 128 few)
           (eq-eqb (length pairs % 2) 0 whole)
 
-      pub outside : all (λ x. ltb x n) pairs ≡ false → Ordered n pairs old old 29
+      pub outside : all (λ x. ltb x n) pairs ≡ false → Ordered n pairs old old (Err question.PairPlaces)
       outside h = record {
         answer = λ later. first_asked later ∙ ap (λ (b : Bool). ask b 29 0 (ask (settles_all n pairs) 30 0 later)) h;
-        settled = λ e. absurd (omega arith);
-        rest = λ e. absurd (omega arith);
+        settled = λ e. absurd (cc);
+        rest = λ e. absurd (cc);
         kept = λ e. refl;
         size = refl;
       }
 
       module _ (inside : all (λ x. ltb x n) pairs ≡ true) where
-        pub circle : (mid new : List ℕ) (r : Bool) → Settled n pairs mid new r → r ≡ false → Ordered n pairs old old 30
+        pub circle : (mid new : List ℕ) (r : Bool) → Settled n pairs mid new r → r ≡ false → Ordered n pairs old old (Err question.NoCircle)
         circle mid new r s e = record {
           answer = λ later. first_asked later ∙ ap₂ (λ (b c : Bool). ask b 29 0 (ask c 30 0 later)) inside (sym s.answer ∙ e);
-          settled = λ z. absurd (omega arith);
-          rest = λ z. absurd (omega arith);
+          settled = λ z. absurd (cc);
+          rest = λ z. absurd (cc);
           kept = λ z. refl;
           size = refl;
         }
 
-        pub ordered : (new : List ℕ) (r : Bool) → n ≤ length old → Settled n pairs old new r → r ≡ true → Ordered n pairs old new 0
+        pub ordered : (new : List ℕ) (r : Bool) → n ≤ length old → Settled n pairs old new r → r ≡ true → Ordered n pairs old new (Ok tt)
         unfolding at
         ordered new r long s e = record {
           answer = λ later. first_asked later ∙ ap₂ (λ (b c : Bool). ask b 29 0 (ask c 30 0 later)) inside (sym s.answer ∙ e);
           settled = λ z. take_is;
           rest = λ z. drop_is;
-          kept = λ z. absurd (z refl);
+          kept = λ z. absurd (cc);
           size = s.size;
         }
           where
@@ -320,7 +319,69 @@ module _ (n : ℕ) (pairs old : List ℕ) where
                 (λ i h. get_or-drop n new i 0 ∙ s.others (T_of r e) (n + i) (omega arith) ∙ sym (get_or-drop n old i 0))
 
 -- ---- for callers: the bytes are the settling order in the paper's words
-pub settling_of : (n : ℕ) (pairs old new : List ℕ) (r : ℕ) → Ordered n pairs old new r → r ≡ 0 → Settling n pairs (take n new)
-settling_of n pairs old new r q e =
-    let a : order_verdict n pairs accepted ≡ accepted = q.answer accepted ∙ ap (λ (b : Bool). ask b r 0 accepted) (eq-eqb r 0 e) in
-    subst (λ (l : List ℕ). Settling n pairs l) (sym (q.settled e)) (order_passed n pairs accepted (subst (λ (v : Verdict). T (is_accepted v)) (sym a) tt)).0.settled
+pub settling_of : (n : ℕ) (pairs old new : List ℕ) (r : Result Unit Question) → Ordered n pairs old new r → is_ok r ≡ true → Settling n pairs (take n new)
+settling_of n pairs old new (Err asked) q e = absurd (cc)
+settling_of n pairs old new (Ok done) q e =
+    subst (λ (l : List ℕ). Settling n pairs l) (sym (q.settled e)) (order_passed n pairs accepted (subst (λ (v : Verdict). T (is_accepted v)) (sym (q.answer accepted)) tt)).0.settled
+
+-- ---- pairs one after another, two bytes each
+-- the chunk after i pairs, and what is left behind it
+pub record Taken (pairs pair behind : List ℕ) (i : ℕ) : Type 0 where
+  pub inside : 2 * i + 1 < length pairs
+  pub first : get_or pair 0 0 ≡ get_or pairs (2 * i) 0
+  pub second : get_or pair 1 0 ≡ get_or pairs (2 * i + 1) 0
+  pub onward : behind ≡ drop (2 * (i + 1)) pairs
+  pub first_small : get_or pair 0 0 < 16
+  pub second_small : get_or pair 1 0 < 16
+
+pub taken : (pairs pair rest behind : List ℕ) (i size : ℕ) → ((j : ℕ) → j < length pairs → at pairs j < 16) → size ≡ 2 → rest ≡ drop (2 * i) pairs → rest ≡ pair ++ behind →
+    length pair ≡ size → Taken pairs pair behind i
+unfolding at
+taken pairs [] rest behind i size small two e f h = absurd (omega arith)
+taken pairs (a ∷ []) rest behind i size small two e f h = absurd (omega arith)
+taken pairs (a ∷ b ∷ c ∷ l) rest behind i size small two e f h = absurd (omega arith)
+taken pairs (a ∷ b ∷ []) rest behind i size small two e f h = record {
+  inside = inside;
+  first = first;
+  second = second;
+  onward = ap (drop 2) (sym g) ∙ drop-drop 2 (2 * i) pairs ∙ ap (λ (k : ℕ). drop k pairs) one_more;
+  first_small = omega (arith, first, small (2 * i) (omega (arith, inside)));
+  second_small = omega (arith, second, small (2 * i + 1) inside);
+}
+  where
+    g : drop (2 * i) pairs ≡ a ∷ b ∷ behind
+    g = sym e ∙ f
+
+    inside : 2 * i + 1 < length pairs
+    inside = omega (arith, length-drop (2 * i) pairs, ap length g)
+
+    zero_more : 2 * i + 0 ≡ 2 * i
+    zero_more = omega arith
+
+    one_more : 2 * i + 2 ≡ 2 * (i + 1)
+    one_more = omega arith
+
+    first : a ≡ get_or pairs (2 * i) 0
+    first = ap (λ (l : List ℕ). get_or l 0 0) (sym g) ∙ get_or-drop (2 * i) pairs 0 0 ∙ ap (λ (k : ℕ). get_or pairs k 0) zero_more
+
+    second : b ≡ get_or pairs (2 * i + 1) 0
+    second = ap (λ (l : List ℕ). get_or l 1 0) (sym g) ∙ get_or-drop (2 * i) pairs 1 0
+
+-- the library's test of a list is the model's
+pub all_is : (p : ℕ → Bool) (l : List ℕ) → list_all p l ≡ all p l
+unfolding all
+all_is p [] = refl
+all_is p (x ∷ l) = go (p x) (all_is p l)
+  where
+    go : (b : Bool) → list_all p l ≡ all p l → (b && list_all p l) ≡ (elim b [ true ↦ all p l | false ↦ false ])
+    go true e = e
+    go false e = refl
+
+-- the forerunners after one more pair
+pub befores_taken : (pairs pair behind : List ℕ) (i n y one : ℕ) (befores : List ℕ) → Taken pairs pair behind i → n ≡ i + 1 → y ≡ get_or pair 1 0 → Befores pairs i befores →
+    one < 2 ^ 64 → ((z : ℕ) → has one z ≡ eqb z (get_or pair 0 0)) → Befores pairs n (set befores y (bit_or (at befores y) one))
+unfolding at
+befores_taken pairs pair behind i n y one befores t e s b f o =
+    subst (λ (k : ℕ). Befores pairs k (set befores y (bit_or (at befores y) one))) (sym e)
+    (subst (λ (z : ℕ). Befores pairs (i + 1) (set befores z (bit_or (at befores z) one))) (sym (s ∙ t.second))
+    (befores_turn pairs befores i one b (omega (arith, t.second, t.second_small)) f (λ z. o z ∙ ap (eqb z) t.first)))

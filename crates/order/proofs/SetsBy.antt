@@ -1,5 +1,5 @@
 -- The sets at a prefix of the reordered problem, written by place number, are the largest in paper 01's words (model's Largest). Assumes nothing.
-use Rattle.model.specs.Kit.{◌≡◌, refl, sym, ap, ap₂, ◌∙◌, subst, subst₂, Bool, true, false, not, ◌⊎◌, ⊎_elim, List, [], ◌∷◌, ◌++◌, map, Memᴰ, Memᴰ-head, Memᴰ-tail, Memᴰ-not_nil}
+use Rattle.model.specs.Kit.{◌≡◌, refl, sym, ap, ap₂, ◌∙◌, subst, subst₂, Bool, true, false, not, ⊎_elim, List, [], ◌∷◌, ◌++◌, map, Memᴰ, Memᴰ-head, Memᴰ-tail, Memᴰ-not_nil}
 use Rattle.model.specs.Kit.{Memᴰ-cases_cons, Memᴰ-map, Memᴰ-of_map, ℕ, ◌/◌, ◌%◌, ◌^◌, ◌≤◌, ◌<◌, arith, T, T_not, ltb, eqb, eqb→eq, length, replicate, length-replicate, ltb-true, ltb-false}
 use Rattle.model.specs.Kit.{eq-eqb}
 use Rattle.model.specs.{Lists.both, Lists.any, Lists.keep, Lists.flat, Lists.below, Lists.at, ValueSets.has, ValueSets.members, ValueSets.any_empty, Problem.Problem, Problem.Constraint, Problem.pair}

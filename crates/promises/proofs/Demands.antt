@@ -1,4 +1,7 @@
 -- The demands, of what `run`, `run_with` and `run_lent` answer, write and count: from their contracts and order's theorems about the definitions. Assumes nothing.
+use Rattle.model.specs.{Refusals.number_of, Refusals.IsRefusal, declared.refusals.Refusal.Refusal}
+use Rattle.model.proofs.Numbering.{refusal_is}
+use Rattle.std.specs.Prelude.{Result, Ok, Err}
 use Rattle.model.specs.Kit.{◌≡◌, refl, sym, ap, ◌∙◌, subst, subst₂, ◌↔◌, List, [], ◌∷◌, map, Memᴰ, ℕ, ◌*◌, T, length, take, drop}
 use Rattle.model.specs.{Lists.at, Lists.below, Lists.total, Lists.earlier, Lists.rows_ascend, Problem.Problem, Problem.is_solution, Problem.assignments, Verdict.accepted, Sheet.verdict_of}
 use Rattle.model.specs.{Sheet.problem_of, Run.ended, Run.refusal, Run.plans_in, Run.nodes_in, Run.listed_plans, Run.tally_at, Claims.Leader, Claims.is_leader, Claims.leaders, Claims.Chain}
@@ -13,19 +16,19 @@ use Rattle.run_input.specs.Lent.{lent_input}
 use Rattle.run_input.proofs.Lent.{demanded_lent, fewer_lent}
 use Rattle.run_state.specs.declared.Ending.TheVariants.{Finished, Spent, Full}
 use Rattle.run_state.specs.{Meaning.tally_in, Meaning.ending_of, declared.Tally.Tally, declared.Ending.Ending}
-use Rattle.run.specs.{Meaning.means, Calls.CallRun, declared.Answer.Answer, declared.Answer.TheVariants.Refused, declared.Answer.TheVariants.Ended}
+use Rattle.run.specs.{Meaning.means, Calls.CallRun}
 use Rattle.promises.specs.Demands.{of_sheet, AtEnd, AtFinish, Demands, Tallied, TallyHeld, MoreHeld, RunDemands, TallyDemands, MoreDemands}
 use Rattle.promises.specs.DemandsLent.{of_input, LentDemands, MoreDemandsLent}
 use Rattle.model.specs.Run as Run
 
 -- ---- an answer is known by what it means
-pub is_refused : (r : Answer) (number item : ℕ) → means r ≡ refusal number item → r ≡ Refused number item
-is_refused (Refused a b) number item e = cc
-is_refused (Ended x) number item e = never (cc)
+pub is_refused : (r : Result Ending Refusal) (number item : ℕ) → means r ≡ refusal number item → IsRefusal r number item
+is_refused (Ok x) number item e = never (cc)
+is_refused (Err by) number item e = refusal_is by number item (let n : number_of by.question ≡ number = cc in n) (let i : by.item ≡ item = cc in i)
 
-pub is_ended : (r : Answer) (x : Run.Ending) → means r ≡ ended x → (e : Ending) × (r ≡ Ended e)
-is_ended (Refused a b) x e = never (cc)
-is_ended (Ended y) x e = (y, refl)
+pub is_ended : (r : Result Ending Refusal) (x : Run.Ending) → means r ≡ ended x → (e : Ending) × (r ≡ Ok e)
+is_ended (Err by) x e = never (cc)
+is_ended (Ok y) x e = (y, refl)
 
 pub is_finished : (e : Ending) (plans nodes : ℕ) → ending_of e ≡ Run.finished plans nodes → e ≡ Finished plans nodes
 is_finished (Finished a b) plans nodes h = cc
@@ -38,14 +41,14 @@ tally_kept : (i : Input) (limit : ℕ) (out : List ℕ) (tally : Run.Tally) (num
 unfolding tallied_by
 tally_kept i limit out tally number item h = ap (λ (a : Run.Answer). Run.tally_for a (place_tally i.order i.problem) tally) h
 
-module _ (i : Input) (d : Demanded i) (limit : ℕ) (out : List ℕ) (r : Answer) (after : List ℕ) (answers : means r ≡ answer_by i limit out) (leaves : after ≡ list_by i limit out) where
-  said : (e : Ending) → r ≡ Ended e → answer_by i limit out ≡ ended (ending_of e)
+module _ (i : Input) (d : Demanded i) (limit : ℕ) (out : List ℕ) (r : Result Ending Refusal) (after : List ℕ) (answers : means r ≡ answer_by i limit out) (leaves : after ≡ list_by i limit out) where
+  said : (e : Ending) → r ≡ Ok e → answer_by i limit out ≡ ended (ending_of e)
   said e q = sym answers ∙ ap means q
 
   listed : (plans : ℕ) → listed_plans i.problem.variables plans (list_by i limit out) ≡ listed_plans i.problem.variables plans after
   listed plans = ap (listed_plans i.problem.variables plans) (sym leaves)
 
-  at_end : (e : Ending) → r ≡ Ended e → AtEnd (of_input i) limit out e after
+  at_end : (e : Ending) → r ≡ Ok e → AtEnd (of_input i) limit out e after
   at_end e q =
       let a = said e q in
       let n = d.counts limit out (ending_of e) a in
@@ -61,7 +64,7 @@ module _ (i : Input) (d : Demanded i) (limit : ℕ) (out : List ℕ) (r : Answer
         counts = n.1;
       }
 
-  at_finish : (plans nodes : ℕ) → r ≡ Ended (Finished plans nodes) → AtFinish (of_input i) plans after
+  at_finish : (plans nodes : ℕ) → r ≡ Ok (Finished plans nodes) → AtFinish (of_input i) plans after
   at_finish plans nodes q =
       let a = said (Finished plans nodes) q in
       record {
@@ -85,7 +88,7 @@ module _ (i : Input) (d : Demanded i) (limit : ℕ) (out : List ℕ) (r : Answer
   -- the lent tally goes by the answer
   tally_held : (tally tally' : Tally) → tally_in tally' ≡ tallied_by i limit out (tally_in tally) → TallyHeld (of_input i) tally r tally'
   tally_held tally tally' c = record {
-    kept = λ number item q. (let e = c ∙ kept_so number item q in (ap (λ (t : Run.Tally). t.nodes) e, ap (λ (t : Run.Tally). t.counts) e));
+    kept = λ by q. (let e = c ∙ kept_so by q in (ap (λ (t : Run.Tally). t.nodes) e, ap (λ (t : Run.Tally). t.counts) e));
     tallied = λ e q.
         let t = d.tallied limit out (tally_in tally) (ending_of e) (said e q) in
         let n = ap (λ (t : Run.Tally). t.nodes) c in
@@ -93,12 +96,12 @@ module _ (i : Input) (d : Demanded i) (limit : ℕ) (out : List ℕ) (r : Answer
         record { made = n ∙ t.made; counts = l ∙ t.counts; twelve = ap length l ∙ t.twelve; sum = ap total l ∙ t.sum; unused = λ x h. ap (λ (k : List ℕ). at k x) l ∙ t.unused x h };
   }
     where
-      kept_so : (number item : ℕ) → r ≡ Refused number item → tallied_by i limit out (tally_in tally) ≡ tally_in tally
-      kept_so number item q = tally_kept i limit out (tally_in tally) number item (sym answers ∙ ap means q)
+      kept_so : (by : Refusal) → r ≡ Err by → tallied_by i limit out (tally_in tally) ≡ tally_in tally
+      kept_so by q = tally_kept i limit out (tally_in tally) (number_of by.question) by.item (sym answers ∙ ap means q)
 
 -- two runs
-more_held : (i j : Input) → Fewer i j → (limit : ℕ) (out : List ℕ) (r : Answer) (after : List ℕ) → means r ≡ answer_by i limit out → after ≡ list_by i limit out →
-    (limit₂ : ℕ) (out₂ : List ℕ) (r₂ : Answer) (after₂ : List ℕ) → means r₂ ≡ answer_by j limit₂ out₂ → after₂ ≡ list_by j limit₂ out₂ →
+more_held : (i j : Input) → Fewer i j → (limit : ℕ) (out : List ℕ) (r : Result Ending Refusal) (after : List ℕ) → means r ≡ answer_by i limit out → after ≡ list_by i limit out →
+    (limit₂ : ℕ) (out₂ : List ℕ) (r₂ : Result Ending Refusal) (after₂ : List ℕ) → means r₂ ≡ answer_by j limit₂ out₂ → after₂ ≡ list_by j limit₂ out₂ →
     MoreHeld (of_input i) (of_input j) limit out r after limit₂ out₂ r₂ after₂
 more_held i j f limit out r after a l limit₂ out₂ r₂ after₂ a₂ l₂ = record {
   fewer = λ plans nodes plans₂ nodes₂ q q₂.
@@ -168,7 +171,7 @@ module _ (b : List ℕ) (good : verdict_of b ≡ accepted) where
     unused = x.unused;
   }
 
-module _ (b : List ℕ) (limit : ℕ) (out : List ℕ) (r : Answer) (after : List ℕ) (c : CallRun b limit out r after) where
+module _ (b : List ℕ) (limit : ℕ) (out : List ℕ) (r : Result Ending Refusal) (after : List ℕ) (c : CallRun b limit out r after) where
   abbrev i : Input
   i = sheet_input b
 
@@ -178,7 +181,7 @@ module _ (b : List ℕ) (limit : ℕ) (out : List ℕ) (r : Answer) (after : Lis
   leaves : after ≡ list_by (sheet_input b) limit out
   leaves = c.leaves ∙ sym ((sheet_run b).list limit out)
 
-  good_at : (e : Ending) → r ≡ Ended e → verdict_of b ≡ accepted
+  good_at : (e : Ending) → r ≡ Ok e → verdict_of b ≡ accepted
   good_at e q = (ran_by i limit out (ending_of e) (sym answers ∙ ap means q)).good
 
   of_sheet_lem : Demands (of_sheet b) limit out r after

@@ -1,4 +1,6 @@
 -- Two runs and the merge of their lists (specs/EitherCalls). Assumes nothing.
+use Rattle.model.specs.{Refusals.number_of, declared.refusals.Question.Question}
+use Rattle.std.specs.Prelude.{Result, Ok, Err}
 use Rattle.model.specs.Kit.{◌≡◌, refl, sym, ap, ap₂, ◌∙◌, subst, Bool, true, false, ◌⊎◌, inl, inr, ◌↔◌, List, Memᴰ, ℕ, ◌+◌, ◌*◌, ◌%◌, ◌≤◌, arith, T, leb, ltb, eqb, length, take, drop, le-leb}
 use Rattle.model.specs.Kit.{eq-eqb}
 use Rattle.model.specs.Room.{wrote, refusal, outcome_of, room_after, rows_in}
@@ -11,10 +13,10 @@ use Rattle.order.proofs.Demanded.{RanBy, ran_by}
 use Rattle.block.specs.Block.{block_lent}
 use Rattle.run_input.specs.Lent.{verdict_lent, problem_with, order_lent, lent_input}
 use Rattle.list_merge.specs.Merge.{ascends, merged_by, merged, whole_lists, ordered_verdict, merge_verdict}
-use Rattle.list_merge.specs.{Meaning.means, Calls.CallMerge, declared.Answer.Answer, declared.Answer.TheVariants.Written, declared.Answer.TheVariants.Refused}
+use Rattle.list_merge.specs.{Meaning.means, Calls.CallMerge}
 use Rattle.list_merge.proofs.{Asking.union_length, Claimed.holds_by, Claimed.ascends_by}
 use Rattle.run_state.specs.{declared.Tally.Tally, Meaning.ending_of, declared.Ending.Ending, declared.Ending.TheVariants.Finished}
-use Rattle.run.specs.{Calls.CallLent, declared.Answer.TheVariants.Ended}
+use Rattle.run.specs.{Calls.CallLent}
 use Rattle.promises.specs.{DemandsLent.plans_from, EitherCalls.plans_of, EitherCalls.plans_bytes, EitherCalls.InMerged, EitherCalls.EitherCalls}
 use Rattle.promises.proofs.Demands.{demands_lent}
 use Rattle.order.proofs.Demanded as D
@@ -45,7 +47,7 @@ order_other n pairs v w t =
     (of_T c30 q30.0)
 
 -- ---- a run that ended
-module _ (b pairs block : List ℕ) (limit : ℕ) (out : List ℕ) (tally : Tally) (e : Ending) (after : List ℕ) (tally' : Tally) (x : CallLent b pairs block limit out tally (Ended e) after tally') where
+module _ (b pairs block : List ℕ) (limit : ℕ) (out : List ℕ) (tally : Tally) (e : Ending) (after : List ℕ) (tally' : Tally) (x : CallLent b pairs block limit out tally (Ok e) after tally') where
   ran : RanBy (lent_input b pairs block) limit out (ending_of e)
   ran = ran_by (lent_input b pairs block) limit out (ending_of e) (sym x.answers)
 
@@ -97,21 +99,21 @@ module _ (b pairs block : List ℕ) (limit : ℕ) (out : List ℕ) (tally : Tall
     whole = ap (λ (l : List ℕ). length l % (problem_of b).variables) bytes_are ∙ ap (λ (k : ℕ). k % (problem_of b).variables) (sym long) ∙ mul-mod_left (plans_of e) (problem_of b).variables;
     rows_are = ap (rows_in (problem_of b).variables) bytes_are ∙ rows_back (problem_of b).variables rows some wide ∙ sym plans_are;
     count = length_listed (problem_of b).variables (plans_of e) after;
-    ascend = ((demands_lent b pairs block limit out tally (Ended e) after tally' x).0.at_end e refl).ascend;
+    ascend = ((demands_lent b pairs block limit out tally (Ok e) after tally' x).0.at_end e refl).ascend;
   }
 
   leaders : (plans nodes : ℕ) → e ≡ Finished plans nodes → (s : List ℕ) → Memᴰ s (plans_from b (plans_of e) after) ↔ Leader (earlier_by (order_lent b pairs)) (problem_with b block) s
   leaders plans nodes q s =
-      let f = ((demands_lent b pairs block limit out tally (Ended e) after tally' x).0.at_finish plans nodes (ap Ended q)).all_leaders in
+      let f = ((demands_lent b pairs block limit out tally (Ok e) after tally' x).0.at_finish plans nodes (ap Ok q)).all_leaders in
       let k : plans_of e ≡ plans = ap plans_of q in
       let a : plans_from b (plans_of e) after ≡ leaders_by (order_lent b pairs) (problem_with b block) = ap (λ (j : ℕ). plans_from b j after) k ∙ f in
       let l = ((L.demanded_lent b pairs block).leaders_ascend ran.good).1 s in
       (λ m. l.0 (subst (Memᴰ s) a m), λ m. subst (Memᴰ s) (sym a) (l.1 m))
 
 -- ---- the merge of two such lists
-is_wrote : (r : Answer) (k : ℕ) → means r ≡ wrote k → r ≡ Written k
-is_wrote (Written j) k h = cc
-is_wrote (Refused a b) k h = never (cc)
+is_wrote : (r : Result ℕ Question) (k : ℕ) → means r ≡ wrote k → r ≡ Ok k
+is_wrote (Ok j) k h = cc
+is_wrote (Err q) k h = never (cc)
 
 module _ (n : ℕ) (pairs a b : List ℕ) (xs ys : List (List ℕ)) (i j : ℕ) (some : 1 ≤ n) (few : n ≤ 12) (o : Ordering n (settling_order n pairs)) (passes : (w : Verdict) → order_verdict n pairs w ≡ w)
     (f : Front n pairs a xs i) (g : Front n pairs b ys j) where
@@ -156,24 +158,24 @@ module _ (n : ℕ) (pairs a b : List ℕ) (xs ys : List (List ℕ)) (i j : ℕ) 
       (subst (λ (l : List (List ℕ)). T (ascends order l)) (sym g.rows_are) g.ascend)
 
   -- a call
-  module _ (room : List ℕ) (r : Answer) (room' : List ℕ) (c : CallMerge n pairs a b room r room') where
+  module _ (room : List ℕ) (r : Result ℕ Question) (room' : List ℕ) (c : CallMerge n pairs a b room r room') where
     said : (t : Bool) → leb (length (merged n pairs a b)) (length room) ≡ t →
         (means r ≡ outcome_of (ask t 27 0 accepted) (merged n pairs a b)) × (room' ≡ room_after (ask t 27 0 accepted) (merged n pairs a b) room)
     said t q =
         let v = verdict (length room) ∙ ap (λ (u : Bool). ask u 27 0 accepted) q in
         (c.answers ∙ ap (λ (w : Verdict). outcome_of w text) v, c.leaves ∙ ap (λ (w : Verdict). room_after w text room) v)
 
-    only_27 : (number item : ℕ) → r ≡ Refused number item → (number ≡ 27) × (item ≡ 0) × (room' ≡ room)
-    only_27 number item e = go (leb (length text) (length room)) refl
+    only_27 : (q : Question) → r ≡ Err q → (number_of q ≡ 27) × (room' ≡ room)
+    only_27 q e = go (leb (length text) (length room)) refl
       where
-        go : (t : Bool) → leb (length (merged n pairs a b)) (length room) ≡ t → (number ≡ 27) × (item ≡ 0) × (room' ≡ room)
-        go true q = let s = (said true q).0 in let m = ap means e in never (cc)
-        go false q = let s = said false q in let h : refusal number item ≡ refusal 27 0 = sym (ap means e) ∙ s.0 in let x : number ≡ 27 = cc in let y : item ≡ 0 = cc in (x, y, s.1)
+        go : (t : Bool) → leb (length (merged n pairs a b)) (length room) ≡ t → (number_of q ≡ 27) × (room' ≡ room)
+        go true t = let s = (said true t).0 in let m = ap means e in never (cc)
+        go false t = let s = said false t in let h : refusal (number_of q) 0 ≡ refusal 27 0 = sym (ap means e) ∙ s.0 in let x : number_of q ≡ 27 = cc in (x, s.1)
 
-    roomy : i * n + j * n ≤ length room → (k : ℕ) × (r ≡ Written k)
+    roomy : i * n + j * n ≤ length room → (k : ℕ) × (r ≡ Ok k)
     roomy h = let s = said true (le-leb (length text) (length room) (let l = short in omega arith)) in (length text, is_wrote r (length text) s.0)
 
-    written_so : (k : ℕ) → r ≡ Written k → (take k room' ≡ merged n pairs a b) × (drop k room' ≡ drop k room)
+    written_so : (k : ℕ) → r ≡ Ok k → (take k room' ≡ merged n pairs a b) × (drop k room' ≡ drop k room)
     written_so k e = go (leb (length text) (length room)) refl
       where
         go : (t : Bool) → leb (length (merged n pairs a b)) (length room) ≡ t → (take k room' ≡ merged n pairs a b) × (drop k room' ≡ drop k room)
@@ -231,10 +233,10 @@ either_calls b c pairs block width limit out tally e after tally' x limit₂ out
     g : Front (problem_of b).variables pairs (plans_bytes c e₂ after₂) (plans_from c (plans_of e₂) after₂) (plans_of e₂)
     g = subst (λ (k : ℕ). Front k pairs (plans_bytes c e₂ after₂) (plans_from c (plans_of e₂) after₂) (plans_of e₂)) width (front c pairs block limit₂ out₂ tally₂ e₂ after₂ tally₂' y)
 
-    wrote_it : (k : ℕ) → r ≡ Written k → (take k room' ≡ merged (problem_of b).variables pairs (plans_bytes b e after) (plans_bytes c e₂ after₂)) × (drop k room' ≡ drop k room)
+    wrote_it : (k : ℕ) → r ≡ Ok k → (take k room' ≡ merged (problem_of b).variables pairs (plans_bytes b e after) (plans_bytes c e₂ after₂)) × (drop k room' ≡ drop k room)
     wrote_it = written_so n pairs fs gs xs ys (plans_of e) (plans_of e₂) s w o p f g room r room' m
 
-    inside : (k : ℕ) → r ≡ Written k → (t : List ℕ) → InMerged b k room' t ↔ (Memᴰ t (plans_from b (plans_of e) after) ⊎ Memᴰ t (plans_from c (plans_of e₂) after₂))
+    inside : (k : ℕ) → r ≡ Ok k → (t : List ℕ) → InMerged b k room' t ↔ (Memᴰ t (plans_from b (plans_of e) after) ⊎ Memᴰ t (plans_from c (plans_of e₂) after₂))
     inside k q t =
         let h = mem n pairs fs gs xs ys (plans_of e) (plans_of e₂) s w o p f g t in
         let l = (wrote_it k q).0 in

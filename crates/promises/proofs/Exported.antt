@@ -1,4 +1,5 @@
 -- What callers of planner_question and planner_run hold (specs/Exported), from the contracts and `demands`. Assumes nothing.
+use Rattle.std.specs.Prelude.{Ok}
 use Rattle.model.specs.Kit.{◌≡◌, refl, sym, ap, ◌∙◌, subst, Bool, true, false, not, List, [], ◌∷◌, ℕ, zero, suc, ◌+◌, ◌*◌, ◌^◌, ◌<◌, arith, leb, ltb, eqb, length, eq-eqb, eqb-true, eqb-false}
 use Rattle.model.specs.Sheet.{Header, word, header_of, problem_of, scope_at, rows_at, after_at, header_verdict, sets_verdict, constraint_verdict, constraints_verdict, permutes_pairs, offsets_fit}
 use Rattle.model.specs.Sheet.{tables_fit}
@@ -6,7 +7,7 @@ use Rattle.model.specs.Sheet.{form_verdict, symmetries_verdict, verdict_of}
 use Rattle.model.specs.{Lists.choose, Lists.both, Lists.all, Lists.at, Lists.below, Lists.ascending, Lists.rows_ascend, Bytes.four_bytes, Problem.Problem, Problem.respects, Verdict.Verdict}
 use Rattle.model.specs.{Verdict.accepted, Verdict.refused, Verdict.ask, Verdict.reply, Verdict.kept, Run.refusal, Run.ended, Run.finished, Run.spent, Run.full, Run.answer_of, Run.written, Run.list_of}
 use Rattle.run_state.specs.{Meaning.ending_of, declared.Ending.Ending, declared.Ending.TheVariants.Finished, declared.Ending.TheVariants.Spent, declared.Ending.TheVariants.Full}
-use Rattle.run.specs.{Calls.CallRun, declared.Answer.Answer, declared.Answer.TheVariants.Ended}
+use Rattle.run.specs.{Calls.CallRun}
 use Rattle.promises.proofs.Demands.{demands}
 use Rattle.wire.specs.Wire.{code_of, wrong_length, three_numbers, four_at}
 use Rattle.export_run.specs.{Run.question_code, Run.ending_bytes, Run.answer_code, Run.answer_bytes, Run.run_code, Run.run_list, Run.run_answer, Calls.CallExported}
@@ -182,7 +183,7 @@ module _ (b : List ℕ) (limit : ℕ) (list answer : List ℕ) (code : ℕ) (lis
           let n : 0 < number = subst Named e (verdict_named b) in
           absurd (omega arith)
 
-  called : code ≡ 0 → (e : Ending) × Tells answer' e × CallRun b limit list (Ended e) list'
+  called : code ≡ 0 → (e : Ending) × Tells answer' e × CallRun b limit list (Ok e) list'
   called z =
       let f = zero_so z in
       let r = (ran_so f.0 f.1).1 in (
@@ -198,7 +199,7 @@ exported b limit list answer code list' answer' c = record {
   ends = λ f. (ran_so b limit list answer code list' answer' c f.0 f.1).0;
   zero = zero_so b limit list answer code list' answer' c;
   called = called b limit list answer code list' answer' c;
-  at_end = λ z. let r = called b limit list answer code list' answer' c z in (r.0, r.1, (demands b limit list (Ended r.0) list' r.2).at_end r.0 refl);
+  at_end = λ z. let r = called b limit list answer code list' answer' c z in (r.0, r.1, (demands b limit list (Ok r.0) list' r.2).at_end r.0 refl);
   at_finish = λ z k. let r = called b limit list answer code list' answer' c z in let f = is_finish answer' r.0 r.1 k in
-      (demands b limit list (Ended r.0) list' r.2).at_finish (four_at answer' 4) f.0 (ap Ended f.1);
+      (demands b limit list (Ok r.0) list' r.2).at_finish (four_at answer' 4) f.0 (ap Ok f.1);
 }

@@ -1,5 +1,6 @@
 -- What callers of planner_run_lent, planner_at_least and planner_closed hold (specs/ExportedLent), from the contracts and the theorems about the calls inside.
 -- Assumes nothing.
+use Rattle.std.specs.Prelude.{Option, None, Some, Result, Ok, Err}
 use Rattle.model.specs.Kit.{◌≡◌, refl, sym, ap, ◌∙◌, subst, subst₂, Bool, true, false, List, [], ◌∷◌, ◌++◌, ℕ, zero, suc, ◌+◌, ◌*◌, ◌%◌, ◌<◌, not-suc-le-zero, arith, leb, ltb, eqb, length, eq-eqb}
 use Rattle.model.specs.Kit.{ne_eqb, eqb-true, eqb-false}
 use Rattle.model.specs.{Lists.choose, Lists.all, Lists.both, Lists.at, Bytes.four_bytes, Problem.Problem, Problem.respects, Verdict.Verdict, Verdict.accepted, Verdict.refused, Verdict.ask}
@@ -14,7 +15,7 @@ use Rattle.run_state.specs.{Meaning.tally_in, declared.Tally.Tally, declared.End
 use Rattle.run_enough.specs.{AtLeast.enough, AtLeast.too_few, AtLeast.unknown, Lent.EnoughAnswer, Lent.enough_lent}
 use Rattle.families_closed.specs.{Open.none, Open.two, Lent.Told, Lent.refusal, Lent.answered, Lent.closed_lent, Lent.means as closed_means}
 use Rattle.families_closed.proofs.Calls.{closed_calls}
-use Rattle.run.specs.{Meaning.said_enough, declared.Enough.Enough, Calls.CallLent, Calls.no_tally, declared.Answer.TheVariants.Ended}
+use Rattle.run.specs.{Meaning.said_enough, declared.Enough.Enough, Calls.CallLent, Calls.no_tally}
 use Rattle.promises.proofs.Exported.{question_code_lem, first_of, second_of, third_of, ending_as, ending_as_lem, is_finish}
 use Rattle.promises.proofs.{EnoughCalls.enough_calls, Demands.demands_lent}
 use Rattle.wire.specs.Wire.{code_of, wrong_length, three_numbers, four_at}
@@ -28,8 +29,9 @@ use Rattle.export_closed.specs.Closed.{told_code, told_bytes, closed_code, close
 use Rattle.export_lent.proofs.Lent.{wrong_answer}
 use Rattle.model.specs.Run as R
 use Rattle.run_enough.specs.Lent as E
-use Rattle.families_closed.specs.declared.Answer as CA
-use Rattle.families_closed.specs.declared.Answer.TheVariants as CV
+use Rattle.families_closed.specs.declared.Missing.{Missing}
+use Rattle.model.specs.{Refusals.number_of as papers_number, declared.refusals.Question.Question, declared.refusals.Refusal.Refusal}
+use Rattle.promises.proofs.Asked.{asked_lent, reply_asked}
 use Rattle.run.specs.declared.Enough.TheVariants as N
 use Rattle.promises.proofs.Exported as X
 
@@ -173,7 +175,7 @@ module _ (b pairs block : List ℕ) (limit : ℕ) (list answer : List ℕ) (code
       tally : Tally
       tally = record { nodes = nodes_in ran.0; counts = place_counts (order_lent b pairs) (problem_with b block) (nodes_in ran.0) }
 
-      call : CallLent b pairs block limit list no_tally (Ended e) list' tally
+      call : CallLent b pairs block limit list no_tally (Ok e) list' tally
       unfolding tallied_by tally
       call = record {
         answers = ap ended (ending_as_lem ran.0) ∙ sym ran.1;
@@ -189,7 +191,7 @@ module _ (b pairs block : List ℕ) (limit : ℕ) (list answer : List ℕ) (code
       tells = subst (λ (l : List ℕ). Tells l e) (sym bytes) (told_front ran.0 (numbers_of tally.counts))
 
       twelve : length tally.counts ≡ 12
-      twelve = ((demands_lent b pairs block limit list no_tally (Ended e) list' tally call).1.tallied e refl).twelve
+      twelve = ((demands_lent b pairs block limit list no_tally (Ok e) list' tally call).1.tallied e refl).twelve
 
       tells_counts : TellsCounts answer' tally
       tells_counts x h = ap (λ (l : List ℕ). four_at l (12 + 4 * x)) bytes ∙ shifted (ending_bytes ran.0) (numbers_of tally.counts) 12 (4 * x) (ending_long ran.0) ∙ number_of
@@ -219,41 +221,35 @@ module _ (b pairs block : List ℕ) (limit : ℕ) (list answer : List ℕ) (code
         tells s g,
         tells_counts s g,
         call s g,
-        (demands_lent b pairs block limit list no_tally (Ended (e s g)) list' (tally s g) (call s g)).0.at_end (e s g) refl,
-        (demands_lent b pairs block limit list no_tally (Ended (e s g)) list' (tally s g) (call s g)).1.tallied (e s g) refl,
+        (demands_lent b pairs block limit list no_tally (Ok (e s g)) list' (tally s g) (call s g)).0.at_end (e s g) refl,
+        (demands_lent b pairs block limit list no_tally (Ok (e s g)) list' (tally s g) (call s g)).1.tallied (e s g) refl,
       ),
     );
     at_finish = λ s g k.
         let f = is_finish answer' (e s g) (tells s g) k in
-        (demands_lent b pairs block limit list no_tally (Ended (e s g)) list' (tally s g) (call s g)).0.at_finish (four_at answer' 4) f.0 (ap Ended f.1);
+        (demands_lent b pairs block limit list no_tally (Ok (e s g)) list' (tally s g) (call s g)).0.at_finish (four_at answer' 4) f.0 (ap Ok f.1);
   }
 
 pub run_bytes_lem : RunBytes
 run_bytes_lem = held
 
 -- ---- planner_at_least
-said_as : EnoughAnswer → Enough
-said_as (E.refusal number item) = N.Refused number item
-said_as (E.answered (enough plans made)) = N.Yes plans made
-said_as (E.answered (too_few plans made)) = N.No plans made
-said_as (E.answered (unknown plans made)) = N.Spent plans made
+said_by : (a : EnoughAnswer) → ((number item : ℕ) → a ≡ E.refusal number item → (q : Question) × (papers_number q ≡ number)) → (r : Result Enough Refusal) × (said_enough r ≡ a)
+said_by (E.refusal number item) asked =
+    let q = asked number item refl in
+    (Err (record { question = q.0; item = item }), ap (λ (k : ℕ). E.refusal k item) q.1)
+said_by (E.answered (enough plans made)) asked = (Ok (N.Yes plans made), refl)
+said_by (E.answered (too_few plans made)) asked = (Ok (N.No plans made), refl)
+said_by (E.answered (unknown plans made)) asked = (Ok (N.Spent plans made), refl)
 
-said_as_lem : (a : EnoughAnswer) → said_enough (said_as a) ≡ a
-unfolding said_as
-said_as_lem (E.refusal number item) = refl
-said_as_lem (E.answered (enough plans made)) = refl
-said_as_lem (E.answered (too_few plans made)) = refl
-said_as_lem (E.answered (unknown plans made)) = refl
-
-said_told : (a : EnoughAnswer) (answer : List ℕ) → SaidTold (said_as a) answer (said_code a) (said_bytes a answer)
-unfolding said_as
-said_told (E.refusal number item) answer = (refl, refl)
-said_told (E.answered (enough plans made)) answer = (refl, first_of 1 plans made, second_of 1 plans made, third_of 1 plans made)
-said_told (E.answered (too_few plans made)) answer = (refl, first_of 2 plans made, second_of 2 plans made, third_of 2 plans made)
-said_told (E.answered (unknown plans made)) answer = (refl, first_of 3 plans made, second_of 3 plans made, third_of 3 plans made)
+said_told : (r : Result Enough Refusal) (answer : List ℕ) → SaidTold r answer (said_code (said_enough r)) (said_bytes (said_enough r) answer)
+said_told (Err by) answer = (refl, refl)
+said_told (Ok (N.Yes plans made)) answer = (refl, first_of 1 plans made, second_of 1 plans made, third_of 1 plans made)
+said_told (Ok (N.No plans made)) answer = (refl, first_of 2 plans made, second_of 2 plans made, third_of 2 plans made)
+said_told (Ok (N.Spent plans made)) answer = (refl, first_of 3 plans made, second_of 3 plans made, third_of 3 plans made)
 
 pub enough_bytes_lem : EnoughBytes
-unfolding enough_code enough_bytes
+unfolding enough_code enough_bytes enough_lent
 enough_bytes_lem b pairs block m limit answer code answer' c = record {
   unfit = λ n.
       let e = ne_eqb (length answer) 12 n in
@@ -262,32 +258,29 @@ enough_bytes_lem b pairs block m limit answer code answer' c = record {
       let e = eq-eqb (length answer) 12 l in
       let x : code ≡ said_code a = c.0 ∙ ap {B = ℕ} (λ (t : Bool). choose t (said_code a) wrong_length) e in
       let y : answer' ≡ said_bytes a answer = c.1 ∙ ap {B = List ℕ} (λ (t : Bool). choose t (said_bytes a answer) answer) e in
-      (said_as a, subst₂ (SaidTold (said_as a) answer) (sym x) (sym y) (said_told a answer), said_as_lem a, enough_calls b pairs block limit m (said_as a) (said_as_lem a));
+      let r = said_by a (reply_asked (verdict_lent b pairs block) _ (asked_lent b pairs block)) in
+      let told = subst (λ (k : EnoughAnswer). SaidTold r.0 answer (said_code k) (said_bytes k answer)) r.1 (said_told r.0 answer) in
+      (r.0, subst₂ (SaidTold r.0 answer) (sym x) (sym y) told, r.1, enough_calls b pairs block limit m r.0 r.1);
 }
   where
     a : EnoughAnswer
     a = enough_lent b pairs block limit m
 
 -- ---- planner_closed
-told_as : Told → CA.Answer
-told_as (refusal number item) = CV.Refused number item
-told_as (answered none) = CV.Closed
-told_as (answered (two first second)) = CV.Missing first second
+closed_by : (a : Told) → ((number item : ℕ) → a ≡ refusal number item → (q : Question) × (papers_number q ≡ number)) → (r : Result (Option Missing) Refusal) × (closed_means r ≡ a)
+closed_by (refusal number item) asked =
+    let q = asked number item refl in
+    (Err (record { question = q.0; item = item }), ap (λ (k : ℕ). refusal k item) q.1)
+closed_by (answered none) asked = (Ok None, refl)
+closed_by (answered (two first second)) asked = (Ok (Some (record { first = first; second = second })), refl)
 
-told_as_lem : (a : Told) → closed_means (told_as a) ≡ a
-unfolding told_as
-told_as_lem (refusal number item) = refl
-told_as_lem (answered none) = refl
-told_as_lem (answered (two first second)) = refl
-
-closed_told : (a : Told) (answer : List ℕ) → ClosedTold (told_as a) answer (told_code a) (told_bytes a answer)
-unfolding told_as
-closed_told (refusal number item) answer = (refl, refl)
-closed_told (answered none) answer = (refl, first_of 1 0 0)
-closed_told (answered (two first second)) answer = (refl, first_of 2 first second, second_of 2 first second, third_of 2 first second)
+closed_told : (r : Result (Option Missing) Refusal) (answer : List ℕ) → ClosedTold r answer (told_code (closed_means r)) (told_bytes (closed_means r) answer)
+closed_told (Err by) answer = (refl, refl)
+closed_told (Ok None) answer = (refl, first_of 1 0 0)
+closed_told (Ok (Some m)) answer = (refl, first_of 2 m.first m.second, second_of 2 m.first m.second, third_of 2 m.first m.second)
 
 pub closed_bytes : ClosedBytes
-unfolding closed_code closed_answer
+unfolding closed_code closed_answer closed_lent
 closed_bytes b pairs block answer code answer' c = record {
   unfit = λ n.
       let e = ne_eqb (length answer) 12 n in
@@ -296,7 +289,9 @@ closed_bytes b pairs block answer code answer' c = record {
       let e = eq-eqb (length answer) 12 l in
       let x : code ≡ told_code a = c.0 ∙ ap {B = ℕ} (λ (t : Bool). choose t (told_code a) wrong_length) e in
       let y : answer' ≡ told_bytes a answer = c.1 ∙ ap {B = List ℕ} (λ (t : Bool). choose t (told_bytes a answer) answer) e in
-      (told_as a, subst₂ (ClosedTold (told_as a) answer) (sym x) (sym y) (closed_told a answer), told_as_lem a, closed_calls b pairs block (told_as a) (told_as_lem a));
+      let r = closed_by a (reply_asked (verdict_lent b pairs block) _ (asked_lent b pairs block)) in
+      let told = subst (λ (k : Told). ClosedTold r.0 answer (told_code k) (told_bytes k answer)) r.1 (closed_told r.0 answer) in
+      (r.0, subst₂ (ClosedTold r.0 answer) (sym x) (sym y) told, r.1, closed_calls b pairs block r.0 r.1);
 }
   where
     a : Told

@@ -1,42 +1,42 @@
 -- What callers hold of families (specs/FamilyCalls). Assumes nothing.
+use Rattle.model.specs.{Refusals.IsRefusal, declared.refusals.Refusal.Refusal}
+use Rattle.model.proofs.Numbering.{is_refusal}
+use Rattle.std.specs.Prelude.{Option, None, Some, Result, Ok, Err}
 use Rattle.model.specs.Kit.{◌≡◌, refl, sym, ap, ◌∙◌, subst, inr, List, [], ℕ, ◌*◌, length}
 use Rattle.model.specs.{Verdict.Verdict, Verdict.accepted, Verdict.refused, Verdict.reply, Sheet.problem_of, Run.Ending, Run.finished, Run.spent, Run.full, Run.ended, Run.listed_plans}
 use Rattle.run_state.specs.{Meaning.ending_of, declared.Tally.Tally, declared.Ending.TheVariants.Finished as Done}
+use Rattle.run_state.specs.declared.Ending as S
 use Rattle.model.proofs.Lists.{never}
 use Rattle.run_input.specs.Lent.{verdict_lent, problem_with}
 use Rattle.families.specs.Families.{FamilyCount, families_of}
 use Rattle.families_figure.specs.Figure.{Figure, number, dash, figure_for, bare_sheet, families_lent}
 use Rattle.families_figure.specs.{Inner.FigureClaims.ran_with, Inner.FigureClaims.ran_bare, Inner.FigureClaims.Finished, FigureClaims.OneListedEach}
 use Rattle.families_figure.proofs.FamiliesLent.{families_lent_lem, bare_run, one_of_each_lent, block_alone_one_each}
-use Rattle.run.specs.{Calls.CallLent, declared.Answer.TheVariants.Ended}
+use Rattle.run.specs.{Calls.CallLent}
 use Rattle.promises.proofs.Demands.{is_ended, is_finished}
 use Rattle.families_count.specs.Told.{refusal, told, counted_lent, means}
-use Rattle.families_count.specs.{declared.Answer.Answer, declared.Answer.TheVariants.Number, declared.Answer.TheVariants.Dash, declared.Answer.TheVariants.Refused}
 use Rattle.promises.specs.FamilyCalls.{FamiliesCalls, OneOfEachCalls, BlockCalls}
 use Rattle.run.specs.Meaning as M
-use Rattle.run.specs.declared.Answer as SA
 
 -- ---- families
-dash_is : (r : Answer) → means r ≡ told dash → r ≡ Dash
-dash_is (Number k) e = never (cc)
-dash_is Dash e = refl
-dash_is (Refused n i) e = never (cc)
+dash_is : (r : Result (Option ℕ) Refusal) → means r ≡ told dash → r ≡ Ok None
+dash_is (Ok (Some k)) e = absurd (let f : number k ≡ dash = cc in never (cc))
+dash_is (Ok None) e = refl
+dash_is (Err by) e = never (cc)
 
-number_told : (r : Answer) (k : ℕ) → means r ≡ told (number k) → r ≡ Number k
-number_told (Number m) k e = let f : number m ≡ number k = cc in let g : m ≡ k = cc in cc
-number_told Dash k e = absurd (let f : dash ≡ number k = cc in never (cc))
-number_told (Refused n i) k e = never (cc)
+number_told : (r : Result (Option ℕ) Refusal) (k : ℕ) → means r ≡ told (number k) → r ≡ Ok (Some k)
+number_told (Ok (Some m)) k e = let f : number m ≡ number k = cc in let g : m ≡ k = cc in cc
+number_told (Ok None) k e = absurd (let f : dash ≡ number k = cc in never (cc))
+number_told (Err by) k e = never (cc)
 
 -- an ending that means finished
-ended_finished : (a : SA.Answer) (plans nodes : ℕ) → M.means a ≡ ended (finished plans nodes) → a ≡ Ended (Done plans nodes)
+ended_finished : (a : Result S.Ending Refusal) (plans nodes : ℕ) → M.means a ≡ ended (finished plans nodes) → a ≡ Ok (Done plans nodes)
 ended_finished a plans nodes h = let e = is_ended a (finished plans nodes) h in
-    e.1 ∙ ap Ended (is_finished e.0 plans nodes (let q : ended (ending_of e.0) ≡ ended (finished plans nodes) = sym (ap M.means e.1) ∙ h in let y : ending_of
+    e.1 ∙ ap Ok (is_finished e.0 plans nodes (let q : ended (ending_of e.0) ≡ ended (finished plans nodes) = sym (ap M.means e.1) ∙ h in let y : ending_of
     e.0 ≡ finished plans nodes = cc in y))
 
-refused_is : (r : Answer) (n i : ℕ) → means r ≡ refusal n i → r ≡ Refused n i
-refused_is (Number k) n i e = never (cc)
-refused_is Dash n i e = never (cc)
-refused_is (Refused m j) n i e = let f : m ≡ n = cc in let g : j ≡ i = cc in cc
+refused_is : (r : Result (Option ℕ) Refusal) (n i : ℕ) → means r ≡ refusal n i → IsRefusal r n i
+refused_is r n i e = is_refusal _ r n i e
 
 -- a number is that of the families
 number_is : (e f : Ending) (m k : ℕ) → figure_for e f m ≡ number k → k ≡ m
@@ -72,20 +72,21 @@ families_calls b pairs block limit r call = record {
     counts_so v d = let f = families_lent_lem b pairs block limit room v in f.counted (f.bare_enough d) d
 
     -- the run without exchanges, of what its caller holds
-    bare : verdict_lent b pairs block ≡ accepted → (out : List ℕ) (tally : Tally) (a : SA.Answer) (after : List ℕ) (tally' : Tally) → CallLent (bare_sheet b) pairs [] limit out tally a after tally' →
+    bare : verdict_lent b pairs block ≡ accepted → (out : List ℕ) (tally : Tally) (a : Result S.Ending Refusal) (after : List ℕ) (tally' : Tally) →
+        CallLent (bare_sheet b) pairs [] limit out tally a after tally' →
         length out ≡ room → M.means a ≡ ended (ran_bare b pairs limit room)
     bare v out tally a after tally' c l = c.answers ∙ (bare_run b pairs block limit out v).0 ∙ ap (λ (k : ℕ). ended (ran_bare b pairs limit k)) l
 
-    done : (v : verdict_lent b pairs block ≡ accepted) (out : List ℕ) (tally : Tally) (a : SA.Answer) (after : List ℕ) (tally' : Tally) → CallLent
+    done : (v : verdict_lent b pairs block ≡ accepted) (out : List ℕ) (tally : Tally) (a : Result S.Ending Refusal) (after : List ℕ) (tally' : Tally) → CallLent
         (bare_sheet b) pairs [] limit out tally a after tally' →
-        length out ≡ room → (plans nodes : ℕ) → a ≡ Ended (Done plans nodes) → Finished (ran_bare b pairs limit room)
+        length out ≡ room → (plans nodes : ℕ) → a ≡ Ok (Done plans nodes) → Finished (ran_bare b pairs limit room)
     done v out tally a after tally' c l plans nodes e =
         let z : ended (ran_bare b pairs limit room) ≡ ended (finished plans nodes) = sym (bare v out tally a after tally' c l) ∙ ap M.means e in
         (plans, nodes, let y : ran_bare b pairs limit room ≡ finished plans nodes = cc in y)
 
-    undone : (v : verdict_lent b pairs block ≡ accepted) (out : List ℕ) (tally : Tally) (a : SA.Answer) (after : List ℕ) (tally' : Tally) → CallLent
+    undone : (v : verdict_lent b pairs block ≡ accepted) (out : List ℕ) (tally : Tally) (a : Result S.Ending Refusal) (after : List ℕ) (tally' : Tally) → CallLent
         (bare_sheet b) pairs [] limit out tally a after tally' →
-        length out ≡ room → (d : Finished (ran_bare b pairs limit room)) → a ≡ Ended (Done d.0 d.1)
+        length out ≡ room → (d : Finished (ran_bare b pairs limit room)) → a ≡ Ok (Done d.0 d.1)
     undone v out tally a after tally' c l d = ended_finished a d.0 d.1 (bare v out tally a after tally' c l ∙ ap ended d.2)
 
     counted : (k : ℕ) → told (number k) ≡ counted_lent b pairs block limit → (v : Verdict) → verdict_lent b pairs block ≡ v → (k ≡ families_of (problem_with b block))

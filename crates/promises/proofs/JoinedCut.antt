@@ -7,7 +7,11 @@ use Rattle.run_cut.specs.{Parts.after, Parts.last_of, Between.Cuts}
 use Rattle.run_cut.proofs.Parts.{after_e, after_i, after_total}
 use Rattle.run_ranges.specs.Claims.{Part, Done}
 use Rattle.run_join.specs.Join.{from_at, reach_at, heads_in, join_verdict, stand_path, begin_or, stands, joined, nearest}
-use Rattle.run_join.specs.{Calls.answer_for, declared.Answer.TheVariants.Joined, declared.Answer.TheVariants.Missing}
+use Rattle.std.specs.Prelude.{Option, None, Some, Result, Ok, Err}
+use Rattle.model.specs.{Refusals.reply_from_question, declared.refusals.Question.Question}
+use Rattle.model.proofs.Lists.{never}
+use Rattle.run_join.specs.{Join.head_number, Calls.answer_for, Calls.CallJoin, Calls.told_by, declared.Missing.Missing, declared.Joining.Joining}
+use Rattle.promises.specs.JoinedClaims.{Joins}
 use Rattle.promises.specs.{JoinedHeads.HeadOf, JoinedHeads.part_at, JoinedClaims.MissingHeld, JoinedClaims.ranges_of, JoinedClaims.CutsJoined}
 use Rattle.promises.proofs.{JoinedHeads.many_held, JoinedHeads.heads_held, JoinedTaken.finished_reaches, JoinedStuck.missing_held, JoinedLays.laid}
 use Rattle.run_ranges.proofs.Joined.{done_goes}
@@ -65,7 +69,7 @@ done_is (refusal number item) d = absurd d
 
 pub cuts_joined : CutsJoined
 unfolding answer_for
-cuts_joined b pairs block cuts cs l h few order end cut r call = go (joined l) (call.answers ∙ ap (λ (v : Verdict). answer_for v l) ok)
+cuts_joined b pairs block cuts cs l h few order end cut r call = answered_by r call (call.answers ∙ ap (λ (v : Verdict). answer_for v l) ok)
   where
     ok : join_verdict l ≡ accepted
     ok = laid b pairs block cs l h few (λ c m. done_goes c.answer (cut.each c m).0)
@@ -98,15 +102,22 @@ cuts_joined b pairs block cuts cs l h few order end cut r call = go (joined l) (
                 let p = reaches k z c is i in
                 (k, z, p.0 ∙ ap (take 12) f ∙ e, subst (λ (x : List ℕ). T (after s x)) p.1 (subst (λ (x : List ℕ). T (after s (take 12 x))) (sym g) t))
 
-    never : (stand near : ℕ) → r.answer ≡ Missing stand near → ⊥
-    never stand near e = stuck (missing_held l r call stand near e)
+    none_missing : (j : Joining) → CallJoin l (Ok j) → (m : Missing) → j.missing ≡ Some m → ⊥
+    none_missing j call m e = stuck (missing_held l j call m e)
       where
-        stuck : MissingHeld l (stand_path l stand) (begin_or l near) → ⊥
-        stuck q = by (goes_on_lem [] cuts (stand_path l stand) order (stood stand (call.inside stand near e).0) (λ z. q.before (sym z ∙ ap (take 12) end)))
+        stand : ℕ
+        stand = head_number m.from
+
+        stuck : MissingHeld l (stand_path l stand) (begin_or l (head_number m.upto)) → ⊥
+        stuck q = by (goes_on_lem [] cuts (stand_path l stand) order (stood stand (call.inside j m refl e).0) (λ z. q.before (sym z ∙ ap (take 12) end)))
           where
             by : Next (ranges_of [] cuts) (stand_path l stand) → ⊥
             by (a, u, m, f, t) = let k = follow (stand_path l stand) a u m f t in q.stuck k.0 k.1 k.2 k.3
 
-    go : (d : Bool) → r.answer ≡ choose d Joined (Missing (stands l) (nearest l)) → r.answer ≡ Joined
-    go true e = e
-    go false e = absurd (never (stands l) (nearest l) e)
+    joins : (j : Joining) → CallJoin l (Ok j) → (o : Option Missing) → j.missing ≡ o → Joins (Ok j)
+    joins j call None e = (j, refl, e)
+    joins j call (Some m) e = absurd (none_missing j call m e)
+
+    answered_by : (r : Result Joining Question) → CallJoin l r → reply_from_question (λ (i : Joining). told_by i.missing) r ≡ answer_for accepted l → Joins r
+    answered_by (Ok j) call e = joins j call j.missing refl
+    answered_by (Err q) call e = never (cc)

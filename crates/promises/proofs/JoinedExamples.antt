@@ -12,9 +12,11 @@ use Rattle.wire.specs.Wire.{three_numbers}
 use Rattle.export_counts.specs.Tallied.{numbers_of}
 use Rattle.export_parts.specs.Head.{digest_from, digest, name_bytes, path_bytes, head_of}
 use Rattle.run_join.specs.Join.{path_at, whole_heads, path_shaped, head_shaped, alike, join_verdict, count_of, comes, may_take, best_of, step_of, taken_from, taken, stand_after, nearest_of}
-use Rattle.run_join.specs.{Calls.answer_for, Calls.figure_for, Calls.CallJoin, declared.Answer.TheVariants.Joined, declared.Joining.Joining}
+use Rattle.run_join.specs.{Calls.answer_for, Calls.figure_for, Calls.CallJoin, declared.Joining.Joining, declared.Missing.Missing}
+use Rattle.std.specs.Prelude.{None, Some, Result, Ok}
+use Rattle.model.specs.declared.refusals.Question.{Question}
 use Rattle.promises.specs.JoinedExamples.{part_a, cut_a, spent_a, cuts_a, heads_a, joining_a, tests_joined, HeldA}
-use Rattle.promises.specs.{JoinedHeads.taken_parts, JoinedHeads.part_at, JoinedClaims.JoinedHeld, JoinedClaims.ranges_of, JoinedClaims.CutHeld}
+use Rattle.promises.specs.{JoinedHeads.taken_parts, JoinedHeads.part_at, JoinedClaims.JoinedHeld, JoinedClaims.ranges_of, JoinedClaims.CutHeld, JoinedClaims.Joins}
 use Rattle.promises.proofs.{JoinedHeads.heads_held, JoinedHeld.joined_held, JoinedCut.cuts_joined}
 
 -- every definition of parts and heads that computes
@@ -105,18 +107,21 @@ own_all (d ∷ cs) h c (Memᴰ-tail m) = own_all cs h.1 c m
 counted : (l : List ℕ) → join_verdict l ≡ accepted → (x : ℕ) → x < 12 → at (tabulate 12 (count_of l)) x ≡ figure_for (join_verdict l) (count_of l x)
 counted l v x h = at_tabulate 12 (count_of l) x h ∙ sym (ap (λ (w : Verdict). figure_for w (count_of l x)) v)
 
+no_missing : (i j : Joining) (m : Missing) → i.missing ≡ None → ◌≡◌ {A = Result Joining Question} (Ok i) (Ok j) → j.missing ≡ Some m → ⊥
+no_missing i j m n q e = let k : i ≡ j = cc in let s : None ≡ Some m = sym n ∙ ap (λ (x : Joining). x.missing) k ∙ e in never (cc)
+
 pub cut_held : HeldA cut_a
 unfolding opened_parts
 cut_held = (
   record { lent = refl; calls = own_all cut_a (own (0 ∷ 2 ∷ []) (255 ∷ []) 1000000 18, (own [] (0 ∷ 2 ∷ []) 1000000 18, (own (0 ∷ 2 ∷ []) (255 ∷ []) 1000000 18, tt))); bytes = refl },
-  record { answers = refl; inside = λ s n q. never (cc); plans = refl; nodes = refl; counts = λ x h. counted (heads_a cut_a) refl x h },
+  record { answers = refl; inside = λ j m q n. absurd (no_missing (joining_a cut_a) j m refl q n); plans = refl; nodes = refl; counts = λ x h. counted (heads_a cut_a) refl x h },
 )
 
 pub spent_held : HeldA spent_a
 unfolding opened_parts
 spent_held = (
   record { lent = refl; calls = own_all spent_a (own (0 ∷ 1 ∷ []) (255 ∷ []) 1000000 18, (own [] (255 ∷ []) 2 18, tt)); bytes = refl },
-  record { answers = refl; inside = λ s n q. never (cc); plans = refl; nodes = refl; counts = λ x h. counted (heads_a spent_a) refl x h },
+  record { answers = refl; inside = λ j m q n. absurd (no_missing (joining_a spent_a) j m refl q n); plans = refl; nodes = refl; counts = λ x h. counted (heads_a spent_a) refl x h },
 )
 
 -- so the holder of these heads has the run
@@ -146,6 +151,6 @@ cut_all = record { each = each; all = every }
     every from upto (Memᴰ-tail (Memᴰ-head e)) = (second, Memᴰ-head refl, sym (ap (λ (x : List ℕ × List ℕ). x.0) e), sym (ap (λ (x : List ℕ × List ℕ). x.1) e))
     every from upto (Memᴰ-tail (Memᴰ-tail m)) = absurd (Memᴰ-not_nil m)
 
-pub cut_answers : (r : Joining) → CallJoin (heads_a cut_a) r → r.answer ≡ Joined
+pub cut_answers : (r : Result Joining Question) → CallJoin (heads_a cut_a) r → Joins r
 unfolding after last_of
 cut_answers = cuts_joined sheet_a [] [] cuts_a cut_a (heads_a cut_a) cut_held.0 (omega arith) (λ t. t, (λ t. t, tt)) refl cut_all

@@ -8,7 +8,10 @@ use Rattle.run_input.specs.Lent.{verdict_lent, problem_with, order_lent, problem
 use Rattle.run_input.proofs.Lent.{demanded_lent}
 use Rattle.run_ranges.specs.{Ranges.plans_said, Ranges.nodes_said, Claims.Part, Claims.Chain, Claims.all_plans, Claims.sum_plans, Claims.sum_nodes, Claims.sum_counts, Claims.Together}
 use Rattle.run_ranges.proofs.Joined.{joined_run}
-use Rattle.run_join.specs.{Join.four_at, Join.heads_in, Join.join_verdict, Join.taken, Join.joined, Join.plans_of, Join.nodes_of, Join.count_of, Calls.figure_for}
+use Rattle.run_join.specs.{Join.four_at, Join.heads_in, Join.join_verdict, Join.taken, Join.joined, Join.plans_of, Join.nodes_of, Join.count_of, Calls.figure_for, Calls.told_by}
+use Rattle.run_join.specs.{declared.Missing.Missing}
+use Rattle.std.specs.Prelude.{Option}
+use Rattle.model.specs.Verdict.{answered}
 use Rattle.promises.specs.JoinedHeads.{cut_twelve, taken_parts}
 use Rattle.promises.specs.JoinedClaims.{TwelveNodes, TwelveValues, HeadSays, HeadsSay, RunHeld, DemandsHeld, JoinedHeldClaim}
 use Rattle.promises.proofs.{JoinedTwelve.small_lent, JoinedTwelve.twelve_between, JoinedTwelve.call_twelve, JoinedHeads.own_head, JoinedHeads.length_bytes, JoinedHeads.heads_held}
@@ -67,13 +70,13 @@ module _ (b pairs block : List ℕ) (cs : List Part) (so : verdict_lent b pairs 
 
 pub joined_held : JoinedHeldClaim
 unfolding taken
-joined_held b pairs block l part held r call is = record { chain = chain; run = run; demands = demands }
+joined_held b pairs block l part held j call is = record { chain = chain; run = run; demands = demands }
   where
     cs : List Part
     cs = taken_parts l part
 
     ok : (join_verdict l ≡ accepted) × (joined l ≡ true)
-    ok = said_joined l (join_verdict l) (sym is ∙ call.answers)
+    ok = said_joined l (join_verdict l) (sym (ap (λ (k : Option Missing). answered (told_by k)) is) ∙ call.answers)
 
     chain : Chain b pairs block [] cs (255 ∷ [])
     chain = subst (Chain b pairs block [] cs) (joined_stands l ok.1) (taken_chain b pairs block l part held ok.0 (heads_in l) 0)
@@ -84,21 +87,21 @@ joined_held b pairs block l part held r call is = record { chain = chain; run = 
     accept : (x : ℕ) → figure_for (join_verdict l) x ≡ x
     accept x = ap (λ (v : Verdict). figure_for v x) ok.0
 
-    plans : r.plans ≡ sum_plans cs
+    plans : j.plans ≡ sum_plans cs
     plans = call.plans ∙ accept (plans_of l) ∙ same_total (λ k. four_at l (115 * k + 4)) (λ c. plans_said c.answer) (λ k. cut_twelve (part k)) (taken l) (λ k m. (held.heads k (inside k m)).plans)
 
-    nodes : r.nodes ≡ sum_nodes cs
+    nodes : j.nodes ≡ sum_nodes cs
     nodes = call.nodes ∙ accept (nodes_of l) ∙ same_total (λ k. four_at l (115 * k + 8)) (λ c. nodes_said c.answer) (λ k. cut_twelve (part k)) (taken l) (λ k m. (held.heads k (inside k m)).nodes)
 
-    counts : (x : ℕ) → x < 12 → at r.counts x ≡ sum_counts x cs
+    counts : (x : ℕ) → x < 12 → at j.counts x ≡ sum_counts x cs
     counts x h =
         call.counts x h ∙ accept (count_of l x)
         ∙ same_total (λ k. four_at l (115 * k + 12 + 4 * x)) (λ c. at c.tally.counts x) (λ k. cut_twelve (part k)) (taken l) (λ k m. (held.heads k (inside k m)).counts x h)
 
-    demands : DemandsHeld b pairs block (all_plans (problem_of b).variables cs) r.plans
+    demands : DemandsHeld b pairs block (all_plans (problem_of b).variables cs) j.plans
     demands = subst (DemandsHeld b pairs block (all_plans (problem_of b).variables cs)) (sym plans) (demands_held b pairs block cs held.lent chain)
 
-    run : (limit : ℕ) (out : List ℕ) (tally : Tally) → r.nodes ≤ limit → r.plans * (problem_of b).variables ≤ length out → RunHeld b pairs block cs r limit out tally
+    run : (limit : ℕ) (out : List ℕ) (tally : Tally) → j.nodes ≤ limit → j.plans * (problem_of b).variables ≤ length out → RunHeld b pairs block cs j limit out tally
     run limit out tally h i =
         let t = joined_run b pairs block cs held.lent chain limit out tally (subst (λ (x : ℕ). x ≤ limit) nodes h) (subst (λ (x : ℕ). x * (problem_of b).variables ≤ length out) plans i) in
         record {

@@ -8,7 +8,10 @@ use Rattle.run_cut.proofs.Parts.{after_trans, after_not}
 use Rattle.run_join.specs.Join.{from_at, reach_at, heads_in, join_verdict, goes_on, comes, leads, may_take, stand_path, reach_or, best_of, step_of, taken_from, taken, stand_after, stands, joined}
 use Rattle.run_join.specs.Join.{nearer}
 use Rattle.run_join.specs.Join.{nearest_of, begin_or, nearest}
-use Rattle.run_join.specs.{Calls.answer_for, declared.Answer.TheVariants.Joined, declared.Answer.TheVariants.Missing}
+use Rattle.std.specs.Prelude.{Option, None, Some, Result, Ok, Err}
+use Rattle.model.specs.{Verdict.answered, Refusals.reply_from_question, declared.refusals.Question.Question}
+use Rattle.run_join.specs.{Join.head_number, Calls.answer_for, Calls.Told, Calls.nothing_missing, Calls.missing, Calls.told_by, declared.Missing.Missing, declared.Joining.Joining}
+use Rattle.promises.specs.JoinedClaims.{Joins}
 use Rattle.run_join.proofs.{Fewer.further, Fewer.fewer, Fewer.further_few, Leads.Next, Leads.comes_end, Leads.comes_next, Leads.comes_all, Leads.comes_out}
 use Rattle.run_ranges.specs.Claims.{Chain}
 use Rattle.promises.specs.{JoinedHeads.taken_parts, JoinedClaims.HeadChain, JoinedClaims.JoinedExactly, JoinedClaims.MissingHeld, JoinedClaims.MissingHeldClaim, JoinedClaims.MissingChain}
@@ -160,29 +163,31 @@ module _ (l : List ℕ) where
               at_n d e (subst (λ (i : ℕ). T (after s (from_at l i))) y t) (subst (λ (i : ℕ). T (nearer l (choose d (suc n) (nearest_of l s n)) (from_at l i))) y u)
 
 -- ---- what the answer says
-pub said_joined : (l : List ℕ) (v : Verdict) → Joined ≡ answer_for v l → (v ≡ accepted) × (joined l ≡ true)
+pub said_joined : (l : List ℕ) (v : Verdict) → answered nothing_missing ≡ answer_for v l → (v ≡ accepted) × (joined l ≡ true)
 unfolding answer_for
-said_joined l accepted e = (refl, go (joined l) e)
+said_joined l accepted e = (refl, go (joined l) (let q : nothing_missing ≡ choose (joined l) nothing_missing (missing (stands l) (nearest l)) = cc in q))
   where
-    go : (d : Bool) → Joined ≡ choose d Joined (Missing (stands l) (nearest l)) → d ≡ true
+    go : (d : Bool) → nothing_missing ≡ choose d nothing_missing (missing (stands l) (nearest l)) → d ≡ true
     go true q = refl
     go false q = never (cc)
 said_joined l (refused number item) e = never (cc)
 
-said_missing : (l : List ℕ) (stand near : ℕ) (v : Verdict) → Missing stand near ≡ answer_for v l → (v ≡ accepted) × (joined l ≡ false) × (stand ≡ stands l) × (near ≡ nearest l)
+said_missing : (l : List ℕ) (stand near : ℕ) (v : Verdict) → answered (missing stand near) ≡ answer_for v l → (v ≡ accepted) × (joined l ≡ false) × (stand ≡ stands l) × (near ≡ nearest l)
 unfolding answer_for
-said_missing l stand near accepted e = go (joined l) refl e
+said_missing l stand near accepted e =
+    go (joined l) refl (let q : missing stand near ≡ choose (joined l) nothing_missing (missing (stands l) (nearest l)) = cc in q)
   where
-    go : (d : Bool) → joined l ≡ d → Missing stand near ≡ choose d Joined (Missing (stands l) (nearest l)) → (accepted ≡ accepted) × (joined l ≡ false) × (stand ≡ stands l) × (near ≡ nearest l)
+    go : (d : Bool) → joined l ≡ d → missing stand near ≡ choose d nothing_missing (missing (stands l) (nearest l)) → (accepted ≡ accepted) × (joined l ≡ false) × (stand ≡ stands l)
+        × (near ≡ nearest l)
     go true f q = never (cc)
     go false f q = (refl, f, cc, cc)
 said_missing l stand near (refused number item) e = never (cc)
 
 pub missing_held : MissingHeldClaim
 unfolding taken may_take
-missing_held l r call stand near is =
-    let q = said_missing l stand near (join_verdict l) (sym is ∙ call.answers) in
-    subst (λ (i : ℕ). MissingHeld l (stand_path l i) (begin_or l near)) (sym q.2)
+missing_held l j call m is =
+    let q = said_missing l (head_number m.from) (head_number m.upto) (join_verdict l) (sym (ap (λ (k : Option Missing). answered (told_by k)) is) ∙ call.answers) in
+    subst (λ (i : ℕ). MissingHeld l (stand_path l i) (begin_or l (head_number m.upto))) (sym q.2)
     (subst (λ (i : ℕ). MissingHeld l s (begin_or l i)) (sym q.3)
     (record {
       stuck = λ k h e t. none q.1 (step_none l (stands l) (still l)) k h e t;
@@ -206,16 +211,28 @@ missing_held l r call stand near is =
 
 pub missing_chain : MissingChain
 unfolding taken
-missing_chain b pairs block l part held r call stand near is =
-    let q = said_missing l stand near (join_verdict l) (sym is ∙ call.answers) in
+missing_chain b pairs block l part held j call m is =
+    let q = said_missing l (head_number m.from) (head_number m.upto) (join_verdict l) (sym (ap (λ (k : Option Missing). answered (told_by k)) is) ∙ call.answers) in
     subst (λ (i : ℕ). Chain b pairs block [] (taken_parts l part) (stand_path l i)) (sym q.2) (taken_chain b pairs block l part held q.0 (heads_in l) 0)
 
 -- ---- joined exactly
+told_none : (m : Option Missing) → told_by m ≡ nothing_missing → m ≡ None
+told_none None e = refl
+told_none (Some m) e = never (cc)
+
+pub joins_so : (r : Result Joining Question) → reply_from_question (λ (i : Joining). told_by i.missing) r ≡ answered nothing_missing → Joins r
+joins_so (Ok j) e = (j, refl, told_none j.missing (let q : told_by j.missing ≡ nothing_missing = cc in q))
+joins_so (Err q) e = never (cc)
+
 pub joined_exactly : JoinedExactly
 unfolding taken answer_for
-joined_exactly l v r call = (there, λ c. call.answers ∙ ap (λ (x : Verdict). answer_for x l) v ∙ ap (λ (b : Bool). choose b Joined (Missing (stands l) (nearest l))) (chain_joined l c.0 c.1))
+joined_exactly l v r call = (
+  λ e. there e.0 e.1 e.2,
+  λ c. joins_so r (call.answers ∙ ap (λ (x : Verdict). answer_for x l) v ∙ ap (λ (b : Bool). answered (choose b nothing_missing (missing (stands l) (nearest l)))) (chain_joined l c.0 c.1)),
+)
   where
-    there : r.answer ≡ Joined → (ks : List ℕ) × HeadChain l [] ks (255 ∷ [])
-    there e =
-        let j = said_joined l (join_verdict l) (sym e ∙ call.answers) in
-        (taken l, subst (HeadChain l [] (taken l)) (joined_stands l j.1) (taken_heads l (heads_in l) 0))
+    there : (j : Joining) → r ≡ Ok j → j.missing ≡ None → (ks : List ℕ) × HeadChain l [] ks (255 ∷ [])
+    there j e n =
+        let said = sym (ap (λ (k : Option Missing). answered (told_by k)) n) ∙ ap (reply_from_question (λ (i : Joining). told_by i.missing)) (sym e) ∙ call.answers in
+        let q = said_joined l (join_verdict l) said in
+        (taken l, subst (HeadChain l [] (taken l)) (joined_stands l q.1) (taken_heads l (heads_in l) 0))

@@ -1,4 +1,5 @@
 -- The proofs of what callers hold.
+pub mod Asked
 pub mod Demands
 pub mod RetypedCalls
 pub mod EnoughCalls

@@ -1,4 +1,5 @@
 -- A run stopped after k of its trials (specs/Moments). Assumes nothing.
+use Rattle.std.specs.Prelude.{Ok}
 use Rattle.model.specs.Kit.{◌≡◌, refl, sym, ap, ◌∙◌, subst, subst₂, Bool, true, false, List, [], ◌∷◌, ◌++◌, ℕ, suc, ◌+◌, ◌*◌, ◌≤◌, arith, eqb, leb, length, take, length-append, eqb-true, eqb-false}
 use Rattle.model.specs.{Lists.keep, Problem.Problem, Search.nodes, Search.is_plan, Run.Ending as Told, Run.spent, Run.full, Run.plans_in, Run.nodes_in, Run.Result, Run.search, Run.result_of}
 use lib.Seq.{take-take}
@@ -6,7 +7,7 @@ use Rattle.model.proofs.Runs.{turn, search_turn, walk}
 use Rattle.order.specs.{Reordered.reordered, RunBy.result_by, RunBy.place_counts, RunBy.leaders_by}
 use Rattle.order.proofs.Demanded.{RanBy, ran_by}
 use Rattle.run_input.specs.Lent.{problem_with, order_lent, lent_input}
-use Rattle.run.specs.{Meaning.means, declared.Answer.TheVariants.Ended}
+use Rattle.run.specs.{Meaning.means}
 use Rattle.run_state.specs.{Meaning.ending_of, declared.Ending.Ending}
 use Rattle.promises.specs.{Demands.Demands, Demands.Tallied, Demands.TallyHeld, DemandsLent.of_lent, Moments.EachMoment}
 use Rattle.promises.proofs.Demands.{demands_lent}
@@ -77,7 +78,7 @@ each_moment b pairs block limit out tally e after tally' x k h out₂ tally₂ r
   unused = t.unused;
   plans = λ d q. (second.0.at_end d q).plans
       ∙ sym (take-take (plans_in (ending_of d)) (plans_in (ending_of e)) (leaders_by (order_lent b pairs) (problem_with b block)) (made d q).1)
-      ∙ ap (take (plans_in (ending_of d))) (sym ((demands_lent b pairs block limit out tally (Ended e) after tally' x).0.at_end e refl).plans);
+      ∙ ap (take (plans_in (ending_of d))) (sym ((demands_lent b pairs block limit out tally (Ok e) after tally' x).0.at_end e refl).plans);
 }
   where
     second : Demands (of_lent b pairs block) k out₂ r₂ after₂ × TallyHeld (of_lent b pairs block) tally₂ r₂ tally₂'
@@ -89,11 +90,11 @@ each_moment b pairs block limit out tally e after tally' x k h out₂ tally₂ r
     ran : RanBy (lent_input b pairs block) limit out (ending_of e)
     ran = ran_by (lent_input b pairs block) limit out (ending_of e) (sym x.answers)
 
-    e₂ : (d : Ending) × (r₂ ≡ Ended d)
+    e₂ : (d : Ending) × (r₂ ≡ Ok d)
     e₂ = second.0.ends ran.good
 
     -- the stopped run, beside the whole one
-    made : (d : Ending) → r₂ ≡ Ended d → (nodes_in (ending_of d) ≡ k) × (plans_in (ending_of d) ≤ plans_in (ending_of e))
+    made : (d : Ending) → r₂ ≡ Ok d → (nodes_in (ending_of d) ≡ k) × (plans_in (ending_of d) ≤ plans_in (ending_of e))
     made d w =
         let a = (ran_by (lent_input b pairs block) k out₂ (ending_of d) (sym y.answers ∙ ap means w)).so in
         let z = stopped_so q limit k (length out) (subst (λ (v : Told). k ≤ nodes_in v) (sym ran.so) h) in

@@ -1,6 +1,6 @@
 -- Parts of a run, of what callers hold (specs/PartsCalls). Assumes nothing.
 use Rattle.model.specs.Kit.{◌≡◌, sym, ap, ◌∙◌, subst, List, ℕ, length, replicate}
-use Rattle.model.specs.{Verdict.Verdict, Verdict.reply, Sheet.problem_of, Run.Answer}
+use Rattle.model.specs.{Verdict.Verdict, Verdict.reply, Sheet.problem_of}
 use Rattle.order.specs.RunBy.{result_by, place_tally, answer_by, tallied_by}
 use Rattle.run_input.specs.Lent.{problem_with, order_lent, answer_lent, list_lent, tally_lent}
 use Rattle.run_state.specs.Meaning.{tally_in}
@@ -11,7 +11,7 @@ use Rattle.model.specs.Run as Run
 
 pub parts_calls : PartsCalls
 parts_calls b pairs block cs so chain limit out tally r after tally' c l m =
-    subst (λ (a : Answer). Together (problem_of b).variables cs out a after (tally_in tally')) (sym c.answers)
+    subst (λ (a : Run.Answer). Together (problem_of b).variables cs out a after (tally_in tally')) (sym c.answers)
     (subst (λ (list : List ℕ). Together (problem_of b).variables cs out (answer_lent b pairs block limit out) list (tally_in tally')) (sym c.leaves)
     (subst (λ (t : Run.Tally). Together (problem_of b).variables cs out (answer_lent b pairs block limit out) (list_lent b pairs block limit out) t) (sym c.counts)
     (joined_run b pairs block cs so chain limit out (tally_in tally) l m)))

@@ -1,4 +1,7 @@
 -- Two callers whose sheets differ only in the order of their exchanges hold the same (paper 02, #109). Assumes nothing.
+use Rattle.model.specs.{Refusals.number_of, declared.refusals.Refusal.Refusal}
+use Rattle.model.proofs.Numbering.{refusal_known}
+use Rattle.std.specs.Prelude.{Result, Ok, Err}
 use Rattle.model.specs.Kit.{◌≡◌, sym, ap, ◌∙◌, List, ℕ, length}
 use Rattle.model.specs.{Run.plans_in, Run.listed_plans, Run.ended, Run.Answer as Told, Run.Tally as Counts, Run.tally_for, Sheet.problem_of, Verdict.reply}
 use Rattle.order.specs.RunBy.{result_by, place_tally, answer_by, tallied_by}
@@ -6,7 +9,7 @@ use Rattle.run_input.specs.Lent.{verdict_lent, problem_with, order_lent, answer_
 use Rattle.run_input.proofs.Lent.{lent_passed}
 use Rattle.run_retyped.proofs.{Retyped.same_symmetries, LentRetyped.retyped_lent, LentRetyped.retyped_accepted_lent}
 use Rattle.run_state.specs.{Meaning.tally_in, Meaning.ending_of, declared.Ending.Ending, declared.Ending.TheVariants.Finished, declared.Ending.TheVariants.Spent, declared.Ending.TheVariants.Full}
-use Rattle.run.specs.{declared.Answer.Answer, declared.Answer.TheVariants.Refused, declared.Answer.TheVariants.Ended, Meaning.means, Calls.CallLent}
+use Rattle.run.specs.{Meaning.means, Calls.CallLent}
 use Rattle.promises.specs.RetypedCalls.{RetypedCalls}
 use Rattle.promises.proofs.Demands.{demands_lent}
 use Rattle.model.proofs.{Accepted.is_accepted_lem, Lists.never}
@@ -23,11 +26,11 @@ ending_known (Full a b) (Finished x y) h = never (cc)
 ending_known (Full a b) (Spent x y) h = never (cc)
 ending_known (Full a b) (Full x y) h = cc
 
-pub answer_known : (q r : Answer) → means q ≡ means r → q ≡ r
-answer_known (Refused a b) (Refused x y) h = cc
-answer_known (Refused a b) (Ended y) h = never (cc)
-answer_known (Ended d) (Refused x y) h = never (cc)
-answer_known (Ended d) (Ended e) h = let k : ending_of d ≡ ending_of e = cc in ap Ended (ending_known d e k)
+pub answer_known : (q r : Result Ending Refusal) → means q ≡ means r → q ≡ r
+answer_known (Err a) (Err b) h = refusal_known {A = Ending} a b (let n : number_of a.question ≡ number_of b.question = cc in n) (let i : a.item ≡ b.item = cc in i)
+answer_known (Err a) (Ok y) h = never (cc)
+answer_known (Ok d) (Err b) h = never (cc)
+answer_known (Ok d) (Ok e) h = let k : ending_of d ≡ ending_of e = cc in ap Ok (ending_known d e k)
 
 -- what a run answers depends on the list's length alone, and its tally on the answer, once it has ended
 room_alone : (b pairs block : List ℕ) (limit : ℕ) (out out₂ : List ℕ) → length out₂ ≡ length out → answer_lent b pairs block limit out₂ ≡ answer_lent b pairs block limit out

@@ -1,14 +1,15 @@
 -- What a caller of `run` or `run_with` may rely on (paper 01's demands, and the counts of paper 02, #107), in terms of what it holds: what it lent, the answer, and the list and
 -- the tally as they came and at the end. It is said once, of how a run reads: paper 01's reads a sheet's rows as they stand (`of_sheet`), and `DemandsLent` has the run that is
 -- lent pairs and a block besides. proofs/Demands has the theorems.
-use Rattle.std.specs.Prelude.{◌≡◌, ◌↔◌, Bool, List, map, ℕ, ◌*◌, ◌≤◌, length, take, drop, T}
+use Rattle.std.specs.Prelude.{◌≡◌, ◌↔◌, Bool, List, map, ℕ, ◌*◌, ◌≤◌, length, take, drop, T, Result, Ok, Err}
 use Rattle.model.specs.Kit.{Memᴰ}
 use Rattle.model.specs.Claims.{Leader, leaders, Chain, CountsAt, Largest, OneMore}
 use Rattle.model.specs.{Lists.at, Lists.total, Lists.earlier, Lists.rows_ascend, Problem.Problem, Problem.is_solution, Verdict.Verdict, Verdict.accepted, Verdict.refused, Sheet.verdict_of}
 use Rattle.model.specs.{Sheet.problem_of, Run.listed_plans, Run.plans_in, Run.nodes_in, Run.tally_at, Search.sets_at, Search.is_live}
 use mathlib.Core.List.{Sublistᴰ}
 use Rattle.run_state.specs.{Meaning.ending_of, declared.Tally.Tally, declared.Ending.Ending, declared.Ending.TheVariants.Finished}
-use Rattle.run.specs.{Calls.CallRun, Calls.CallWith, declared.Answer.Answer, declared.Answer.TheVariants.Refused, declared.Answer.TheVariants.Ended}
+use Rattle.run.specs.{Calls.CallRun, Calls.CallWith}
+use Rattle.model.specs.{Refusals.IsRefusal, declared.refusals.Refusal.Refusal}
 
 -- ---- how a run reads: the verdict of its questions, its problem, a row as it reads, the leaders in reading order; the problem whose tree it walks, and of the tree's first k
 -- nodes those that settle each of twelve variables; which variable a prefix gives its value j to, whether the prefix is live, and the sets there
@@ -62,17 +63,17 @@ pub record AtFinish (i : Reading) (plans : ℕ) (after : List ℕ) : Type 0 wher
   pub nothing : (plans ≡ 0) ↔ ((s : List ℕ) → T (is_solution i.problem s) → ⊥)
 
 -- a run that was given a limit and a list `out`, answered r and left `after`
-pub record Demands (i : Reading) (limit : ℕ) (out : List ℕ) (r : Answer) (after : List ℕ) : Type 0 where
+pub record Demands (i : Reading) (limit : ℕ) (out : List ℕ) (r : Result Ending Refusal) (after : List ℕ) : Type 0 where
   -- a refusal: the number and item of the first "no", and no byte written
-  pub refuses : (number item : ℕ) → i.verdict ≡ refused number item → (r ≡ Refused number item) × (after ≡ out)
+  pub refuses : (number item : ℕ) → i.verdict ≡ refused number item → IsRefusal r number item × (after ≡ out)
   -- else the run ends, whatever limit and list it is given
-  pub ends : i.verdict ≡ accepted → (e : Ending) × (r ≡ Ended e)
+  pub ends : i.verdict ≡ accepted → (e : Ending) × (r ≡ Ok e)
   -- `led` says what it should: it ascends strictly as it reads, and holds exactly the leaders
   pub leaders_are : i.verdict ≡ accepted → T (rows_ascend (map i.reads i.led)) × ((s : List ℕ) → Memᴰ s i.led ↔ Leader (earlier_in i) i.problem s)
   -- the sets at a prefix are the largest such sets
   pub sets_largest : i.verdict ≡ accepted → (prefix : List ℕ) → length prefix ≤ i.problem.variables → Largest i.named i.problem prefix (i.live prefix) (i.sets prefix)
-  pub at_end : (e : Ending) → r ≡ Ended e → AtEnd i limit out e after
-  pub at_finish : (plans nodes : ℕ) → r ≡ Ended (Finished plans nodes) → AtFinish i plans after
+  pub at_end : (e : Ending) → r ≡ Ok e → AtEnd i limit out e after
+  pub at_finish : (plans nodes : ℕ) → r ≡ Ok (Finished plans nodes) → AtFinish i plans after
 
 -- the tally of a run that ended: the nodes that the ending carries, and of these, the first of the tree, those that settle each of twelve variables; they add up to the nodes,
 -- and a variable that the problem has not has none
@@ -84,31 +85,31 @@ pub record Tallied (i : Reading) (e : Ending) (tally : Tally) : Type 0 where
   pub unused : (x : ℕ) → i.problem.variables ≤ x → at tally.counts x ≡ 0
 
 -- the lent tally: all thirteen numbers as they came after a refusal
-pub record TallyHeld (i : Reading) (tally : Tally) (r : Answer) (tally' : Tally) : Type 0 where
-  pub kept : (number item : ℕ) → r ≡ Refused number item → (tally'.nodes ≡ tally.nodes) × (tally'.counts ≡ tally.counts)
-  pub tallied : (e : Ending) → r ≡ Ended e → Tallied i e tally'
+pub record TallyHeld (i : Reading) (tally : Tally) (r : Result Ending Refusal) (tally' : Tally) : Type 0 where
+  pub kept : (by : Refusal) → r ≡ Err by → (tally'.nodes ≡ tally.nodes) × (tally'.counts ≡ tally.counts)
+  pub tallied : (e : Ending) → r ≡ Ok e → Tallied i e tally'
 
 -- two runs, of which the second was given one exchange more
-pub record MoreHeld (i j : Reading) (limit : ℕ) (out : List ℕ) (r : Answer) (after : List ℕ) (limit₂ : ℕ) (out₂ : List ℕ) (r₂ : Answer) (after₂ : List ℕ) : Type 0 where
+pub record MoreHeld (i j : Reading) (limit : ℕ) (out : List ℕ) (r : Result Ending Refusal) (after : List ℕ) (limit₂ : ℕ) (out₂ : List ℕ) (r₂ : Result Ending Refusal) (after₂ : List ℕ) : Type 0 where
   -- where both finish, the second lists no other plan and makes no more nodes ..
-  pub fewer : (plans nodes plans₂ nodes₂ : ℕ) → r ≡ Ended (Finished plans nodes) → r₂ ≡ Ended (Finished plans₂ nodes₂) →
+  pub fewer : (plans nodes plans₂ nodes₂ : ℕ) → r ≡ Ok (Finished plans nodes) → r₂ ≡ Ok (Finished plans₂ nodes₂) →
       Sublistᴰ (listed_plans j.problem.variables plans₂ after₂) (listed_plans i.problem.variables plans after) × (nodes₂ ≤ nodes)
   -- .. and under the first one's limit and room the second, if nothing is refused, finishes too
-  pub finishes_too : limit₂ ≡ limit → length out₂ ≡ length out → (plans nodes : ℕ) → r ≡ Ended (Finished plans nodes) → (e : Ending) → r₂ ≡ Ended e →
+  pub finishes_too : limit₂ ≡ limit → length out₂ ≡ length out → (plans nodes : ℕ) → r ≡ Ok (Finished plans nodes) → (e : Ending) → r₂ ≡ Ok e →
       (plans₂ : ℕ) × (nodes₂ : ℕ) × (e ≡ Finished plans₂ nodes₂)
 
 -- ---- of calls
 abbrev pub RunDemands : Type 0
-RunDemands = (b : List ℕ) (limit : ℕ) (out : List ℕ) (r : Answer) (after : List ℕ) → CallRun b limit out r after → Demands (of_sheet b) limit out r after
+RunDemands = (b : List ℕ) (limit : ℕ) (out : List ℕ) (r : Result Ending Refusal) (after : List ℕ) → CallRun b limit out r after → Demands (of_sheet b) limit out r after
 
 abbrev pub TallyDemands : Type 0
 TallyDemands =
-    (b : List ℕ) (limit : ℕ) (out : List ℕ) (tally : Tally) (r : Answer) (after : List ℕ) (tally' : Tally) → CallWith b limit out tally r after tally' →
+    (b : List ℕ) (limit : ℕ) (out : List ℕ) (tally : Tally) (r : Result Ending Refusal) (after : List ℕ) (tally' : Tally) → CallWith b limit out tally r after tally' →
     TallyHeld (of_sheet b) tally r tally'
 
 abbrev pub MoreDemands : Type 0
 MoreDemands =
     (b c t : List ℕ) (k : ℕ) → OneMore b c k t →
-    (limit : ℕ) (out : List ℕ) (r : Answer) (after : List ℕ) → CallRun b limit out r after →
-    (limit₂ : ℕ) (out₂ : List ℕ) (r₂ : Answer) (after₂ : List ℕ) → CallRun c limit₂ out₂ r₂ after₂ →
+    (limit : ℕ) (out : List ℕ) (r : Result Ending Refusal) (after : List ℕ) → CallRun b limit out r after →
+    (limit₂ : ℕ) (out₂ : List ℕ) (r₂ : Result Ending Refusal) (after₂ : List ℕ) → CallRun c limit₂ out₂ r₂ after₂ →
     MoreHeld (of_sheet b) (of_sheet c) limit out r after limit₂ out₂ r₂ after₂

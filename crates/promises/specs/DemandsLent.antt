@@ -1,11 +1,12 @@
 -- The same of a caller of `run_lent` (paper 02, #107, #108 and #111), which is lent a sheet, pairs and a block: "reads earlier" goes by the order of the run; rows and counts go
 -- by variable number. proofs/Demands has the theorems.
-use Rattle.std.specs.Prelude.{List, ℕ}
+use Rattle.std.specs.Prelude.{List, ℕ, Result}
 use Rattle.model.specs.{Lists.at, Sheet.problem_of, Run.listed_plans, Claims.OneMore}
 use Rattle.order.specs.{Reordered.read, Reordered.reordered, RunBy.Input, RunBy.place_counts, RunBy.leaders_by, RunBy.sets_by, RunBy.is_live_by}
 use Rattle.run_input.specs.Lent.{lent_input}
-use Rattle.run_state.specs.declared.Tally.{Tally}
-use Rattle.run.specs.{Calls.CallLent, declared.Answer.Answer}
+use Rattle.run_state.specs.{declared.Tally.Tally, declared.Ending.Ending}
+use Rattle.run.specs.{Calls.CallLent}
+use Rattle.model.specs.declared.refusals.Refusal.{Refusal}
 use Rattle.promises.specs.Demands.{Reading, Demands, TallyHeld, MoreHeld}
 
 -- the listed plans: as many rows of n bytes at the front of the list as the ending carries
@@ -32,13 +33,13 @@ of_lent b pairs block = of_input (lent_input b pairs block)
 
 abbrev pub LentDemands : Type 0
 LentDemands =
-    (b pairs block : List ℕ) (limit : ℕ) (out : List ℕ) (tally : Tally) (r : Answer) (after : List ℕ) (tally' : Tally) → CallLent b pairs block limit out tally r after tally' →
+    (b pairs block : List ℕ) (limit : ℕ) (out : List ℕ) (tally : Tally) (r : Result Ending Refusal) (after : List ℕ) (tally' : Tally) → CallLent b pairs block limit out tally r after tally' →
     Demands (of_lent b pairs block) limit out r after × TallyHeld (of_lent b pairs block) tally r tally'
 
 -- both runs lent the same pairs and block
 abbrev pub MoreDemandsLent : Type 0
 MoreDemandsLent =
     (b c t pairs block : List ℕ) (k : ℕ) → OneMore b c k t →
-    (limit : ℕ) (out : List ℕ) (tally : Tally) (r : Answer) (after : List ℕ) (tally' : Tally) → CallLent b pairs block limit out tally r after tally' →
-    (limit₂ : ℕ) (out₂ : List ℕ) (tally₂ : Tally) (r₂ : Answer) (after₂ : List ℕ) (tally₂' : Tally) → CallLent c pairs block limit₂ out₂ tally₂ r₂ after₂ tally₂' →
+    (limit : ℕ) (out : List ℕ) (tally : Tally) (r : Result Ending Refusal) (after : List ℕ) (tally' : Tally) → CallLent b pairs block limit out tally r after tally' →
+    (limit₂ : ℕ) (out₂ : List ℕ) (tally₂ : Tally) (r₂ : Result Ending Refusal) (after₂ : List ℕ) (tally₂' : Tally) → CallLent c pairs block limit₂ out₂ tally₂ r₂ after₂ tally₂' →
     MoreHeld (of_lent b pairs block) (of_lent c pairs block) limit out r after limit₂ out₂ r₂ after₂

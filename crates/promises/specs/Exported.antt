@@ -1,9 +1,9 @@
 -- What callers of planner_question and planner_run hold: the code that comes back, the list and the twelve bytes of the answer, as they came and at the
 -- end. proofs/Exported has the theorems.
-use Rattle.std.specs.Prelude.{◌≡◌, ◌↔◌, List, ℕ, ◌+◌, ◌*◌, length}
+use Rattle.std.specs.Prelude.{◌≡◌, ◌↔◌, List, ℕ, ◌+◌, ◌*◌, length, Ok}
 use Rattle.model.specs.{Verdict.accepted, Verdict.refused, Sheet.verdict_of}
 use Rattle.export_run.specs.Calls.{CallCode, CallExported}
-use Rattle.run.specs.{Calls.CallRun, declared.Answer.TheVariants.Ended}
+use Rattle.run.specs.{Calls.CallRun}
 use Rattle.promises.specs.Demands.{of_sheet, AtEnd, AtFinish}
 use Rattle.run_state.specs.{declared.Ending.Ending, declared.Ending.TheVariants.Finished, declared.Ending.TheVariants.Spent, declared.Ending.TheVariants.Full}
 use Rattle.wire.specs.Wire.{wrong_length, four_at}
@@ -30,7 +30,7 @@ pub record ExportedHeld (b : List ℕ) (limit : ℕ) (list answer : List ℕ) (c
   pub ends : (length answer ≡ 12) × (verdict_of b ≡ accepted) → code ≡ 0
   pub zero : code ≡ 0 → (length answer ≡ 12) × (verdict_of b ≡ accepted)
   -- code 0: the bytes tell an ending of a call of `run` with this list, so that all of `Demands` holds of it ..
-  pub called : code ≡ 0 → (e : Ending) × Tells answer' e × CallRun b limit list (Ended e) list'
+  pub called : code ≡ 0 → (e : Ending) × Tells answer' e × CallRun b limit list (Ok e) list'
   -- .. demand 2 for every ending, and demands 2 and 3 where the first number is 1: the second number of plans stands at the front of the list
   pub at_end : code ≡ 0 → (e : Ending) × Tells answer' e × AtEnd (of_sheet b) limit list e list'
   pub at_finish : code ≡ 0 → four_at answer' 0 ≡ 1 → AtFinish (of_sheet b) (four_at answer' 4) list'

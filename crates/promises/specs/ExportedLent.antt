@@ -1,10 +1,10 @@
 -- What callers of planner_run_lent, planner_at_least and planner_closed hold: the code that comes back, the list and the bytes of the answer, as they came
 -- and at the end. proofs/ExportedLent has the theorems.
-use Rattle.std.specs.Prelude.{◌≡◌, List, ℕ, ◌+◌, ◌*◌, ◌<◌, length}
+use Rattle.std.specs.Prelude.{◌≡◌, List, ℕ, ◌+◌, ◌*◌, ◌<◌, length, Result, Ok, Err, Option, None, Some}
 use Rattle.model.specs.{Lists.at, Verdict.accepted, Verdict.refused}
 use Rattle.run_input.specs.Lent.{verdict_lent}
 use Rattle.run_state.specs.{declared.Tally.Tally, declared.Ending.Ending}
-use Rattle.run.specs.{Calls.CallLent, Calls.no_tally, Calls.CallEnough, declared.Enough.Enough, declared.Answer.TheVariants.Ended}
+use Rattle.run.specs.{Calls.CallLent, Calls.no_tally, Calls.CallEnough, declared.Enough.Enough}
 use Rattle.promises.specs.{Demands.AtEnd, Demands.AtFinish, Demands.Tallied, DemandsLent.of_lent, EnoughCalls.EnoughHeld, Exported.Tells}
 use Rattle.families_closed.specs.Calls.{CallClosed, ClosedHeld}
 use Rattle.wire.specs.Wire.{wrong_length, four_at}
@@ -12,8 +12,8 @@ use Rattle.export_lent.specs.Calls.{CallRunBytes}
 use Rattle.export_enough.specs.Calls.{CallEnoughBytes}
 use Rattle.export_closed.specs.Calls.{CallClosedBytes}
 use Rattle.run.specs.declared.Enough.TheVariants as N
-use Rattle.families_closed.specs.declared.Answer as CA
-use Rattle.families_closed.specs.declared.Answer.TheVariants as CV
+use Rattle.families_closed.specs.declared.Missing.{Missing}
+use Rattle.model.specs.{Refusals.number_of, declared.refusals.Refusal.Refusal}
 
 -- the bytes from 12 on tell twelve counts, four bytes each
 abbrev pub TellsCounts : List ℕ → Tally → Type 0
@@ -28,7 +28,7 @@ pub record RunBytesHeld (b pairs block : List ℕ) (limit : ℕ) (list answer : 
   -- then the bytes tell the ending and the counts of a call of `run_lent` with this list and a tally of nothing, so that all of
   -- `Demands` holds of it: demand 2 and the counts of every ending, demands 2 and 3 of a finished one
   pub ends : length answer ≡ 60 → verdict_lent b pairs block ≡ accepted →
-      (code ≡ 0) × ((e : Ending) × (tally : Tally) × Tells answer' e × TellsCounts answer' tally × CallLent b pairs block limit list no_tally (Ended e) list' tally
+      (code ≡ 0) × ((e : Ending) × (tally : Tally) × Tells answer' e × TellsCounts answer' tally × CallLent b pairs block limit list no_tally (Ok e) list' tally
       × AtEnd (of_lent b pairs block) limit list e list' × Tallied (of_lent b pairs block) e tally)
   -- the first number 1: demands 2 and 3; the second number of plans stands at the front of the list
   pub at_finish : length answer ≡ 60 → verdict_lent b pairs block ≡ accepted → four_at answer' 0 ≡ 1 → AtFinish (of_lent b pairs block) (four_at answer' 4) list'
@@ -39,17 +39,17 @@ RunBytes =
     CallRunBytes b pairs block limit list answer code list' answer' → RunBytesHeld b pairs block limit list answer code list' answer'
 
 -- ---- planner_at_least: what was said, as a code and three numbers
-abbrev pub SaidTold : Enough → List ℕ → ℕ → List ℕ → Type 0
-SaidTold (N.Refused number item) answer code answer' = (code ≡ number * 256 + item) × (answer' ≡ answer)
-SaidTold (N.Yes plans made) answer code answer' = (code ≡ 0) × (four_at answer' 0 ≡ 1) × (four_at answer' 4 ≡ plans) × (four_at answer' 8 ≡ made)
-SaidTold (N.No plans made) answer code answer' = (code ≡ 0) × (four_at answer' 0 ≡ 2) × (four_at answer' 4 ≡ plans) × (four_at answer' 8 ≡ made)
-SaidTold (N.Spent plans made) answer code answer' = (code ≡ 0) × (four_at answer' 0 ≡ 3) × (four_at answer' 4 ≡ plans) × (four_at answer' 8 ≡ made)
+abbrev pub SaidTold : Result Enough Refusal → List ℕ → ℕ → List ℕ → Type 0
+SaidTold (Err by) answer code answer' = (code ≡ number_of by.question * 256 + by.item) × (answer' ≡ answer)
+SaidTold (Ok (N.Yes plans made)) answer code answer' = (code ≡ 0) × (four_at answer' 0 ≡ 1) × (four_at answer' 4 ≡ plans) × (four_at answer' 8 ≡ made)
+SaidTold (Ok (N.No plans made)) answer code answer' = (code ≡ 0) × (four_at answer' 0 ≡ 2) × (four_at answer' 4 ≡ plans) × (four_at answer' 8 ≡ made)
+SaidTold (Ok (N.Spent plans made)) answer code answer' = (code ≡ 0) × (four_at answer' 0 ≡ 3) × (four_at answer' 4 ≡ plans) × (four_at answer' 8 ≡ made)
 
 pub record EnoughBytesHeld (b pairs block : List ℕ) (m limit : ℕ) (answer : List ℕ) (code : ℕ) (answer' : List ℕ) : Type 0 where
   -- an answer that has not twelve bytes: the code, and every byte as it came
   pub unfit : (length answer ≡ 12 → ⊥) → (code ≡ wrong_length) × (answer' ≡ answer)
   -- else code and bytes tell what a call of `at_least` says, so that all of `EnoughHeld` holds of it
-  pub called : length answer ≡ 12 → (r : Enough) × SaidTold r answer code answer' × CallEnough b pairs block limit m r × EnoughHeld b pairs block limit m r
+  pub called : length answer ≡ 12 → (r : Result Enough Refusal) × SaidTold r answer code answer' × CallEnough b pairs block limit m r × EnoughHeld b pairs block limit m r
 
 abbrev pub EnoughBytes : Type 0
 EnoughBytes =
@@ -57,14 +57,14 @@ EnoughBytes =
     EnoughBytesHeld b pairs block m limit answer code answer'
 
 -- ---- planner_closed
-abbrev pub ClosedTold : CA.Answer → List ℕ → ℕ → List ℕ → Type 0
-ClosedTold (CV.Refused number item) answer code answer' = (code ≡ number * 256 + item) × (answer' ≡ answer)
-ClosedTold CV.Closed answer code answer' = (code ≡ 0) × (four_at answer' 0 ≡ 1)
-ClosedTold (CV.Missing first second) answer code answer' = (code ≡ 0) × (four_at answer' 0 ≡ 2) × (four_at answer' 4 ≡ first) × (four_at answer' 8 ≡ second)
+abbrev pub ClosedTold : Result (Option Missing) Refusal → List ℕ → ℕ → List ℕ → Type 0
+ClosedTold (Err by) answer code answer' = (code ≡ number_of by.question * 256 + by.item) × (answer' ≡ answer)
+ClosedTold (Ok None) answer code answer' = (code ≡ 0) × (four_at answer' 0 ≡ 1)
+ClosedTold (Ok (Some m)) answer code answer' = (code ≡ 0) × (four_at answer' 0 ≡ 2) × (four_at answer' 4 ≡ m.first) × (four_at answer' 8 ≡ m.second)
 
 pub record ClosedBytesHeld (b pairs block answer : List ℕ) (code : ℕ) (answer' : List ℕ) : Type 0 where
   pub unfit : (length answer ≡ 12 → ⊥) → (code ≡ wrong_length) × (answer' ≡ answer)
-  pub called : length answer ≡ 12 → (r : CA.Answer) × ClosedTold r answer code answer' × CallClosed b pairs block r × ClosedHeld b pairs block r
+  pub called : length answer ≡ 12 → (r : Result (Option Missing) Refusal) × ClosedTold r answer code answer' × CallClosed b pairs block r × ClosedHeld b pairs block r
 
 abbrev pub ClosedBytes : Type 0
 ClosedBytes = (b pairs block answer : List ℕ) (code : ℕ) (answer' : List ℕ) → CallClosedBytes b pairs block answer code answer' → ClosedBytesHeld b pairs block answer code answer'

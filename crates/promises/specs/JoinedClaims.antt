@@ -1,14 +1,15 @@
 -- What the holder of all parts of a run has, by what `join` answered to their heads; the statements can be read without the proofs. That the heads are of calls
 -- of one sheet, one list of pairs and one block is supposed (HeldHeads): heads whose names differ are refused, and who has the bytes can compare them.
-use Rattle.std.specs.Prelude.{◌≡◌, ◌↔◌, List, [], ◌∷◌, map, ℕ, suc, ◌*◌, ◌≤◌, ◌<◌, T, length, take}
+use Rattle.std.specs.Prelude.{◌≡◌, ◌↔◌, List, [], ◌∷◌, map, ℕ, suc, ◌*◌, ◌≤◌, ◌<◌, T, length, take, None, Some, Result, Ok}
 use Rattle.model.specs.Kit.{Memᴰ}
 use Rattle.model.specs.{Lists.at, Lists.rows_ascend, Problem.is_solution, Sheet.problem_of, Verdict.accepted, Run.finished, Run.spent, Run.full, Run.ended, Run.written, Run.Tally, Claims.Leader}
 use Rattle.order.specs.Reordered.{read, earlier_by}
 use Rattle.run_input.specs.Lent.{verdict_lent, problem_with, order_lent, problem_lent, answer_lent, list_lent, tally_lent}
 use Rattle.run_ranges.specs.{Ranges.nodes_said, Claims.Part, Claims.CallRange, Claims.plans_held, Claims.Goes, Claims.Done, Claims.Chain, Claims.all_plans}
 use Rattle.run_cut.specs.{Parts.after, Parts.last_of, Between.nodes_between, Between.Cuts}
-use Rattle.run_join.specs.Join.{from_at, reach_at, heads_in, join_verdict, stand_path, begin_or}
-use Rattle.run_join.specs.{Calls.CallJoin, declared.Answer.TheVariants.Joined, declared.Answer.TheVariants.Missing, declared.Joining.Joining}
+use Rattle.run_join.specs.Join.{from_at, reach_at, heads_in, head_number, join_verdict, stand_path, begin_or}
+use Rattle.model.specs.declared.refusals.Question.{Question}
+use Rattle.run_join.specs.{Calls.CallJoin, declared.Missing.Missing, declared.Joining.Joining}
 use Rattle.promises.specs.JoinedHeads.{HeadOf, cut_twelve, HeldHeads, taken_parts, head_bytes, HeldBytes, part_at}
 use Rattle.model.specs.Claims as Reads
 
@@ -60,8 +61,8 @@ pub record JoinedHeld (b pairs block : List ℕ) (cs : List Part) (r : Joining) 
 
 abbrev pub JoinedHeldClaim : Type 0
 JoinedHeldClaim =
-    (b pairs block l : List ℕ) (part : ℕ → Part) → HeldHeads b pairs block l part → (r : Joining) → CallJoin l r → r.answer ≡ Joined →
-    JoinedHeld b pairs block (taken_parts l part) r
+    (b pairs block l : List ℕ) (part : ℕ → Part) → HeldHeads b pairs block l part → (j : Joining) → CallJoin l (Ok j) → j.missing ≡ None →
+    JoinedHeld b pairs block (taken_parts l part) j
 
 -- ---- joined exactly
 -- heads that are lent, one behind the other from a path to another: each begins where the one before it reaches, and goes on
@@ -69,9 +70,13 @@ abbrev pub HeadChain : List ℕ → List ℕ → List ℕ → List ℕ → Type 
 HeadChain l from [] upto = from ≡ upto
 HeadChain l from (k ∷ ks) upto = (k < heads_in l) × (from_at l k ≡ from) × T (after from (reach_at l k)) × HeadChain l (reach_at l k) ks upto
 
--- the answer is joined exactly when there are such heads from the first to the last path
+-- nothing is missing
+abbrev pub Joins : Result Joining Question → Type 0
+Joins r = (j : Joining) × (r ≡ Ok j) × (j.missing ≡ None)
+
+-- the answer is so exactly when there are such heads from the first to the last path
 abbrev pub JoinedExactly : Type 0
-JoinedExactly = (l : List ℕ) → join_verdict l ≡ accepted → (r : Joining) → CallJoin l r → (r.answer ≡ Joined) ↔ ((ks : List ℕ) × HeadChain l [] ks (255 ∷ []))
+JoinedExactly = (l : List ℕ) → join_verdict l ≡ accepted → (r : Result Joining Question) → CallJoin l r → Joins r ↔ ((ks : List ℕ) × HeadChain l [] ks (255 ∷ []))
 
 -- ---- missing
 -- from where one stands no head goes on: none begins there and reaches anything after it; and none begins after it and before the end of the missing range
@@ -81,13 +86,14 @@ pub record MissingHeld (l from upto : List ℕ) : Type 0 where
   pub before : from ≡ 255 ∷ [] → ⊥
 
 abbrev pub MissingHeldClaim : Type 0
-MissingHeldClaim = (l : List ℕ) (r : Joining) → CallJoin l r → (stand near : ℕ) → r.answer ≡ Missing stand near → MissingHeld l (stand_path l stand) (begin_or l near)
+MissingHeldClaim =
+    (l : List ℕ) (j : Joining) → CallJoin l (Ok j) → (m : Missing) → j.missing ≡ Some m → MissingHeld l (stand_path l (head_number m.from)) (begin_or l (head_number m.upto))
 
 -- up to there the heads taken are parts one behind the other
 abbrev pub MissingChain : Type 0
 MissingChain =
-    (b pairs block l : List ℕ) (part : ℕ → Part) → HeldHeads b pairs block l part → (r : Joining) → CallJoin l r → (stand near : ℕ) → r.answer ≡ Missing stand near →
-    Chain b pairs block [] (taken_parts l part) (stand_path l stand)
+    (b pairs block l : List ℕ) (part : ℕ → Part) → HeldHeads b pairs block l part → (j : Joining) → CallJoin l (Ok j) → (m : Missing) → j.missing ≡ Some m →
+    Chain b pairs block [] (taken_parts l part) (stand_path l (head_number m.from))
 
 -- ---- a spent part and a full part
 -- a spent part is a finished part of the range up to its last node: a call of that range, with limit and room enough, is finished with what the part holds
@@ -132,4 +138,4 @@ pub record CutHeld (cuts : List (List ℕ)) (cs : List Part) : Type 0 where
 abbrev pub CutsJoined : Type 0
 CutsJoined =
     (b pairs block : List ℕ) (cuts : List (List ℕ)) (cs : List Part) (l : List ℕ) → HeldBytes b pairs block cs l → length cs ≤ 65536 → Cuts [] cuts → last_of [] cuts ≡ 255 ∷ [] →
-    CutHeld cuts cs → (r : Joining) → CallJoin l r → r.answer ≡ Joined
+    CutHeld cuts cs → (r : Result Joining Question) → CallJoin l r → Joins r

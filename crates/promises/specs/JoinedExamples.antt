@@ -1,11 +1,11 @@
 -- Parts of a run of sheet A and their heads, as one list of statements about the definitions. One theorem says that each holds (proofs/JoinedExamples).
 -- A's tree has six nodes: 0; 0 1, a plan; 0 2, a plan; 1; 1 2, a plan; 2.
-use Rattle.std.specs.Prelude.{◌≡◌, true, false, List, [], ◌∷◌, map, ℕ, length, replicate}
+use Rattle.std.specs.Prelude.{◌≡◌, true, false, List, [], ◌∷◌, map, ℕ, length, replicate, None, Ok}
 use Rattle.model.specs.{Lists.flat, Lists.tabulate, Run.finished, Run.spent, Run.full, Run.ended, Verdict.accepted, Verdict.refused, Examples.sheet_a}
 use Rattle.run_ranges.specs.Claims.{Part, all_plans}
 use Rattle.export_parts.specs.Parts.{part_of}
 use Rattle.run_join.specs.Join.{join_verdict, taken, joined, plans_of, nodes_of, count_of, missing_from, missing_upto}
-use Rattle.run_join.specs.{Calls.CallJoin, declared.Answer.TheVariants.Joined, declared.Joining.Joining}
+use Rattle.run_join.specs.{Calls.CallJoin, declared.Joining.Joining}
 use Rattle.promises.specs.JoinedHeads.{head_bytes, HeldBytes, taken_parts, part_at}
 
 abbrev many : ℕ
@@ -32,7 +32,7 @@ heads_a cs = flat (map (head_bytes sheet_a [] []) cs)
 
 -- what `join` answers to heads that join
 abbrev pub joining_a : List Part → Joining
-joining_a cs = record { answer = Joined; plans = 3; nodes = 6; counts = tabulate 12 (count_of (heads_a cs)) }
+joining_a cs = record { missing = None; plans = 3; nodes = 6; counts = tabulate 12 (count_of (heads_a cs)) }
 
 abbrev pub tests_joined : List (Type 0)
 tests_joined =
@@ -83,4 +83,4 @@ cuts_a = (0 ∷ 2 ∷ []) ∷ (255 ∷ []) ∷ []
 
 -- ---- nothing that is supposed of joined heads is impossible: calls, their heads, and a call of `join` that answers joined
 abbrev pub HeldA : List Part → Type 0
-HeldA cs = HeldBytes sheet_a [] [] cs (heads_a cs) × CallJoin (heads_a cs) (joining_a cs)
+HeldA cs = HeldBytes sheet_a [] [] cs (heads_a cs) × CallJoin (heads_a cs) (Ok (joining_a cs))

@@ -4,13 +4,13 @@ use Rattle.model.specs.Kit.{eqb, ltb, bit_and, bit_or, and_le_l, count_trailing_
 use Rattle.model.specs.{Lists.both, Lists.at, ValueSets.has, ValueSets.mask_of, ValueSets.full_mask, ValueSets.one_if, Inner.Pruning.Sets}
 use lib.Pow.{pow_pos}
 use Rattle.model.proofs.Lists.{both_l, both_r, T_of, of_T, of_not, not_of, at_ext, at_out, at_set, at_set_other, at_tabulate, length_tabulate, both_true}
-use Rattle.model.proofs.{Sets.has_none, Sets.pow2, Sets.has_mask, Sets.mask_lt, Sets.mask_ext, Masks.contains_op, Masks.has_and, Masks.has_not, Masks.has_one, Masks.has_ones, Masks.has_one_if}
+use Rattle.model.proofs.{Sets.has_none, Sets.pow2, Sets.has_mask, Sets.mask_lt, Sets.mask_ext, Masks.contains_op, Masks.has_and, Masks.has_not, Masks.has_ones, Masks.has_one_if}
 use Rattle.model.proofs.{Masks.is_mask, Members.Rest, Members.rest_begin, Members.rest_low, Members.rest_turn, Members.rest_has, Members.rest_i, Members.or_e, Firsts.take_at, Firsts.take_length}
-use Rattle.arrays.specs.Inner.Places.{DEAD}
+use Rattle.std.specs.Prelude.{Option, None, Some}
 use Rattle.prune_constraints.proofs.Stores.{Moves, moves_more}
 use Rattle.block.specs.Inner.BlockSets.{cut_after}
 use Rattle.block.proofs.BlockSets.{cut_sets}
-use Rattle.prune.specs.Inner.Steps.{Differ, cut_below, CutOr}
+use Rattle.prune.specs.Inner.Steps.{Differ, cut_below, CutEmpty, CutTo, CutOr}
 
 -- ---- one set
 pub not_below : (s v : ℕ) → s < 2 ^ 16 → bit_and s ((2 ^ 16 - 1) - full_mask v) ≡ mask_of (λ u. both (has s u) (not (ltb u v)))
@@ -48,9 +48,6 @@ differs sets sets' changed e e' m = record { few = few; differ = λ x l. m x }
         go false q =
             let l = ltb-false x 16 q in
             absurd (of_not (has changed x) (m x ∙ ap not (eq-eqb (at sets' x) (at sets x) (at_out sets' x (omega arith) ∙ sym (at_out sets x (omega arith))))) t)
-
-not_dead : (sets sets' : List ℕ) (changed : ℕ) → Differ sets sets' changed → changed ≡ DEAD → ⊥
-not_dead sets sets' changed d e = let l = d.few 16 (T_of (has changed 16) (ap (λ (n : ℕ). has n 16) e ∙ has_one 16 16)) in omega arith
 
 -- ---- the loop
 pub record Cutting (some v : ℕ) (sets₀ sets : List ℕ) (left changed : ℕ) : Type 0 where
@@ -91,14 +88,8 @@ module _ (some v : ℕ) (sets₀ : List ℕ) (s₀ : Sets 16 sets₀) (inside : 
       kept_is : at (cut_below some v sets₀) low ≡ kept
       kept_is = below_cut some v sets₀ s₀ low low_16 low_in.0 ∙ ap (λ (d : ℕ). mask_of (λ u. both (has d u) (not (ltb u v)))) (sym (c.due low low_left)) ∙ sym k
 
-      pub cutting_dead : kept ≡ 0 → (sets' : List ℕ) → CutOr sets₀ (cut_below some v sets₀) sets' some DEAD
-      cutting_dead e sets' = record {
-        dead = λ q. (low, (low_in.0, kept_is ∙ e));
-        cut_to = λ q. absurd (q refl);
-        full = λ q. absurd (q refl);
-        differ = λ q. absurd (q refl);
-        few = λ q. absurd (q refl);
-      }
+      pub cutting_dead : kept ≡ 0 → CutEmpty (cut_below some v sets₀) some
+      cutting_dead e = (low, (low_in.0, kept_is ∙ e))
 
       pub cutting_turn : (kept ≡ 0 → ⊥) → (moved : ℕ) → moved ≡ one_if (not (eqb kept (at sets low))) low → Cutting some v sets₀ (set sets low kept) (bit_and left (left - 1)) (bit_or changed moved)
       cutting_turn z moved m = record {
@@ -144,20 +135,16 @@ module _ (some v : ℕ) (sets₀ : List ℕ) (s₀ : Sets 16 sets₀) (inside : 
               (both_r (not (eqb kept (at sets low))) (eqb x low) (subst T (ap (λ (d : ℕ). has d x) m ∙ has_one_if (not (eqb kept (at sets low))) low x) q))))) low_in.0)
               (or_e changed moved x t)
 
-  pub cutting_end : {sets : List ℕ} {left changed : ℕ} → Cutting some v sets₀ sets left changed → left ≡ 0 → CutOr sets₀ (cut_below some v sets₀) sets some changed
+  pub cutting_end : {sets : List ℕ} {left changed : ℕ} → Cutting some v sets₀ sets left changed → left ≡ 0 → CutTo sets₀ (cut_below some v sets₀) sets some changed
   cutting_end {sets} {left} {changed} c e = record {
-    dead = λ q. absurd (not_dead sets₀ sets changed d q);
-    cut_to = λ q. at_ext sets (cut_below some v sets₀) (c.sixteen.0 ∙ sym (length_below some v sets₀ s₀)) (λ x l. c.done x (omega (arith, c.sixteen.0)) (none x));
-    full = λ q y t. c.full y t (none y);
-    differ = λ q. d;
-    few = λ q. c.few;
+    cut_to = at_ext sets (cut_below some v sets₀) (c.sixteen.0 ∙ sym (length_below some v sets₀ s₀)) (λ x l. c.done x (omega (arith, c.sixteen.0)) (none x));
+    full = λ y t. c.full y t (none y);
+    differ = differs sets₀ sets changed s₀.0 c.sixteen.0 c.moves;
+    few = c.few;
   }
     where
       none : (y : ℕ) → has left y ≡ false
       none y = ap (λ (m : ℕ). has m y) e ∙ has_none y
-
-      d : Differ sets₀ sets changed
-      d = differs sets₀ sets changed s₀.0 c.sixteen.0 c.moves
 
 -- ---- the block's later variables
 pub bit_out : (s k : ℕ) → (bit_and (s / 2 ^ k) 1 ≡ 1 → ⊥) → has s k ≡ false
@@ -193,13 +180,12 @@ module _ (block k v : ℕ) (sets : List ℕ) (s : Sets 16 sets) where
       cut_16 = cut_sets (has block) k v sets 16 s.0
 
   -- k is none of the block's
-  pub after_none : has block k ≡ false → CutOr sets (cut_after (has block) k v sets) sets block 0
+  pub after_none : has block k ≡ false → CutTo sets (cut_after (has block) k v sets) sets block 0
   after_none e = record {
-    dead = λ q. absurd (omega arith);
-    cut_to = λ q. sym same;
-    full = λ q y t f. f;
-    differ = λ q. differs sets sets 0 s.0 s.0 (λ i. has_none i ∙ sym (ap not (eq-eqb (at sets i) (at sets i) refl)));
-    few = λ q x t. absurd (of_not (has 0 x) (has_none x) t);
+    cut_to = sym same;
+    full = λ y t f. f;
+    differ = differs sets sets 0 s.0 s.0 (λ i. has_none i ∙ sym (ap not (eq-eqb (at sets i) (at sets i) refl)));
+    few = λ x t. absurd (of_not (has 0 x) (has_none x) t);
   }
     where
       same : cut_after (has block) k v sets ≡ sets
@@ -253,15 +239,15 @@ module _ (block k v : ℕ) (sets : List ℕ) (s : Sets 16 sets) where
             ap (λ (b : Bool). both b (ltb u v)) (has_later y h) ∙ assoc (has block y) (ltb k y) (ltb u v)
             ∙ ap (λ (b : Bool). both (both b (has block y)) (both (ltb k y) (ltb u v))) (sym (of_T (has block k) t))
 
-    pub after_some : {sets' : List ℕ} {r : ℕ} → CutOr sets (cut_below later v sets) sets' later r → CutOr sets (cut_after (has block) k v sets) sets' block r
-    after_some {sets'} {r} c = record {
-      dead = λ q. let d = c.dead q in (d.0, (in_block_lem d.0 d.1.0, ap (λ (l : List ℕ). at l d.0) (sym same) ∙ d.1.1));
-      cut_to = λ q. c.cut_to q ∙ same;
-      full = λ q y b z. full q y b z (has later y) refl;
+    pub after_some : (sets' : List ℕ) (r : Option ℕ) → CutOr sets (cut_below later v sets) sets' later r → CutOr sets (cut_after (has block) k v sets) sets' block r
+    after_some sets' None c = (c.0, (in_block_lem c.0 c.1.0, ap (λ (l : List ℕ). at l c.0) (sym same) ∙ c.1.1))
+    after_some sets' (Some r) c = record {
+      cut_to = c.cut_to ∙ same;
+      full = λ y b z. full y b z (has later y) refl;
       differ = c.differ;
-      few = λ q x h. in_block_lem x (c.few q x h);
+      few = λ x h. in_block_lem x (c.few x h);
     }
       where
-        full : (r ≡ DEAD → ⊥) → (y : ℕ) → T (has block y) → at sets' y ≡ 0 → (b : Bool) → has later y ≡ b → at sets y ≡ 0
-        full q y b z true f = c.full q y (T_of (has later y) f) z
-        full q y b z false f = sym (below_same later v sets s y (small y b) f) ∙ ap (λ (l : List ℕ). at l y) (sym (c.cut_to q)) ∙ z
+        full : (y : ℕ) → T (has block y) → at sets' y ≡ 0 → (b : Bool) → has later y ≡ b → at sets y ≡ 0
+        full y b z true f = c.full y (T_of (has later y) f) z
+        full y b z false f = sym (below_same later v sets s y (small y b) f) ∙ ap (λ (l : List ℕ). at l y) (sym c.cut_to) ∙ z

@@ -3,18 +3,18 @@ use Rattle.model.specs.Kit.{◌≡◌, refl, sym, ap, ◌∙◌, subst, Bool, tr
 use Rattle.model.specs.{Lists.either, Lists.at, ValueSets.has, ValueSets.Inside, Problem.Problem, Problem.with_symmetries, Inner.Pruning.Sets, Inner.Pruning.Way}
 use Rattle.model.proofs.Lists.{T_of, TExt, of_not, not_of, both_l, either_l, either_r, either_e}
 use Rattle.model.proofs.{Sets.empty_i, Sets.mask_ext, Masks.has_and, Masks.has_or, Firsts.take_at, Firsts.take_sets, Firsts.take_length, Firsts.take_full, Firsts.full_take, Tree.well_sized}
-use Rattle.arrays.specs.{Inner.Places.BLOCK, Inner.Places.LINKED, Inner.Places.MARKS, Inner.Places.DEAD, Inner.Pruning.Given, Inner.Pruning.sets_of}
+use Rattle.arrays.specs.{Inner.Places.BLOCK, Inner.Places.LINKED, Inner.Places.MARKS, Inner.Pruning.Given, Inner.Pruning.sets_of}
 use Rattle.prune_constraints.specs.Inner.Steps.{Touched}
 use Rattle.prune_symmetries.proofs.Marks.{mark_mono}
 use Rattle.block.specs.{Inner.Claims.Ascends, Inner.BlockSets.cut_after}
 use Rattle.block.proofs.BlockSets.{cut_sets, cut_e, cut_i}
 use Rattle.prune.specs.{Inner.Node.block_of, Inner.Steps.ArraysHold, Inner.Steps.Blocked, Inner.Steps.LiveSets, Inner.Steps.Startable, Inner.Steps.BeforeFixpoint}
-use Rattle.prune.specs.Inner.Steps.{LastSettled, AfterFixpoint, CutOr}
+use Rattle.prune.specs.Inner.Steps.{LastSettled, AfterFixpoint, CutEmpty, CutTo}
 use Rattle.prune.proofs.Pending.{take_less, still_fixed, touched_known, still_arc}
 use Rattle.prune.proofs.{FilterLoop.kept_none, FixpointLoop.not_live, FixpointLoop.dead, FixpointLoop.same_at, BlockCut.after_take}
 
 module _ {p : Problem} {gs : List (List ℕ)} {supports tables numbers : List ℕ} (st : ArraysHold p supports tables numbers) (bl : Blocked p gs numbers) {ds : List ℕ}
-    (b : LiveSets p ds) (k v : ℕ) {cut : List ℕ} {changed : ℕ} (c : CutOr ds (cut_after (block_of numbers) k v ds) cut (at numbers BLOCK) changed) where
+    (b : LiveSets p ds) (k v : ℕ) where
   n_16 : p.variables ≤ 16
   n_16 = omega (arith, st.well_formed.few)
 
@@ -28,17 +28,17 @@ module _ {p : Problem} {gs : List (List ℕ)} {supports tables numbers : List �
   whole_is = after_take (at numbers BLOCK) k v ds b.sixteen p.variables n_16
 
   -- a set is empty: the prefix is dead
-  pub cut_dead : {work : List ℕ} {j : ℕ} → changed ≡ DEAD → Way (with_symmetries p gs) (take j work) (sets_of p whole) → (sets : List ℕ) → AfterFixpoint p gs j work work sets true
-  cut_dead {work} {j} e w sets =
-      let d = c.dead e in
+  pub cut_dead : {work : List ℕ} {j : ℕ} → CutEmpty (cut_after (block_of numbers) k v ds) (at numbers BLOCK) → Way (with_symmetries p gs) (take j work) (sets_of p whole)
+      → (sets : List ℕ) → AfterFixpoint p gs j work work sets true
+  cut_dead {work} {j} d w sets =
       let h = bl.few d.0 d.1.0 in
       dead p gs j work work sets (kept_none work j)
       (not_live (with_symmetries p gs) (take j work) (sets_of p whole) w (well_sized p st.well_formed)
       (empty_i (sets_of p whole) d.0 (subst (λ (n : ℕ). d.0 < n) (sym (take_length p.variables whole whole_16 n_16)) h) (take_at p.variables whole whole_16 n_16 d.0 h ∙ d.1.1)))
 
-  module _ (alive : changed ≡ DEAD → ⊥) where
+  module _ {cut : List ℕ} {changed : ℕ} (c : CutTo ds (cut_after (block_of numbers) k v ds) cut (at numbers BLOCK) changed) where
     cut_is : cut ≡ whole
-    cut_is = c.cut_to alive
+    cut_is = c.cut_to
 
     pub cut_sets_are : sets_of p cut ≡ cut_after (block_of numbers) k v (sets_of p ds)
     cut_sets_are = ap (sets_of p) cut_is ∙ whole_is
@@ -50,15 +50,15 @@ module _ {p : Problem} {gs : List (List ℕ)} {supports tables numbers : List �
     less x u t = (cut_e (block_of numbers) k v ds x u (subst (λ (l : List ℕ). T (has (at l x) u)) cut_is t)).0
 
     same : (x : ℕ) → x < 16 → has changed x ≡ false → at cut x ≡ at ds x
-    same = same_at ds cut b.sixteen cut_16 changed (c.differ alive)
+    same = same_at ds cut b.sixteen cut_16 changed c.differ
 
     -- outside of the block nothing changes
     outside : (x : ℕ) → has (at numbers BLOCK) x ≡ false → has changed x ≡ false
-    outside x e = not_of (has changed x) (λ t. of_not (has (at numbers BLOCK) x) e (c.few alive x t))
+    outside x e = not_of (has changed x) (λ t. of_not (has (at numbers BLOCK) x) e (c.few x t))
 
     -- nor up to k
     early : (x : ℕ) → x ≤ k → has changed x ≡ false
-    early x h = not_of (has changed x) (λ t. of_not (has changed x) ((c.differ alive).differ x ((c.differ alive).few x t) ∙ ap not (eq-eqb (at cut x) (at ds x) kept)) t)
+    early x h = not_of (has changed x) (λ t. of_not (has changed x) (c.differ.differ x (c.differ.few x t) ∙ ap not (eq-eqb (at cut x) (at ds x) kept)) t)
       where
         kept : at cut x ≡ at ds x
         kept =
@@ -70,7 +70,7 @@ module _ {p : Problem} {gs : List (List ℕ)} {supports tables numbers : List �
     some x h e = full_take p.variables ds b.sixteen n_16 b.full x h (go (has (at numbers BLOCK) x) refl)
       where
         go : (d : Bool) → has (at numbers BLOCK) x ≡ d → at ds x ≡ 0
-        go true q = c.full alive x (T_of (has (at numbers BLOCK) x) q) e
+        go true q = c.full x (T_of (has (at numbers BLOCK) x) q) e
         go false q = sym (same x (omega (arith, n_16)) (outside x q)) ∙ e
 
     pub cut_live : LiveSets p cut
@@ -106,13 +106,13 @@ module _ {p : Problem} {gs : List (List ℕ)} {supports tables numbers : List �
         live = cut_live;
         pending = record {
           given = given;
-          known = λ i q. ⊎_elim {C = i < length p.constraints} (s.pending.known i) (touched_known st changed left u (c.differ alive).few i)
+          known = λ i q. ⊎_elim {C = i < length p.constraints} (s.pending.known i) (touched_known st changed left u c.differ.few i)
               (either_e (has todo i) (has left i) (subst T (has_todo i) q));
           others = λ i h f r.
               let n = neither (has todo i) (has left i) (has todo' i) (has_todo i) f in
               still_fixed st ds cut changed left b.sixteen cut_16 same_x u i h n.1 r (s.pending.others i h n.0 r);
           inner = λ x q. ⊎_elim {C = x < p.variables} (s.pending.inner x) (λ m. bl.few x
-              (c.few alive x (both_l (has changed x) (has (at numbers LINKED) x) (subst T (has_and changed (at numbers LINKED) x) m))))
+              (c.few x (both_l (has changed x) (has (at numbers LINKED) x) (subst T (has_and changed (at numbers LINKED) x) m))))
               (either_e (has dirty x) (has (bit_and changed (at numbers LINKED)) x) (subst T (has_dirty x) q));
           arcs = λ x h f.
               let n = neither (has dirty x) (has (bit_and changed (at numbers LINKED)) x) (has dirty' x) (has_dirty x) f in

@@ -1,13 +1,13 @@
 -- The loop over the symmetries: what their filters have left before each turn, one turn, and both ends. Assumes nothing.
 use Rattle.model.specs.Kit.{◌≡◌, refl, sym, ap, ◌∙◌, subst, Bool, true, false, List, [], ℕ, ◌+◌, ◌*◌, ◌%◌, ◌≤◌, ◌<◌, arith, ℕ_discrete, T, ltb, length, set, take, length-set, length-take-le, ltb-true}
-use Rattle.model.specs.Kit.{ltb-false, ne_eqb, eq-eqb}
+use Rattle.model.specs.Kit.{ltb-false}
 use Rattle.model.specs.{Lists.at, ValueSets.has, ValueSets.any_empty, ValueSets.Inside, Problem.Problem, Problem.symmetry_at, Nogood.filtered, Search.nogoods_of, Inner.Pruning.Sets}
 use Rattle.model.specs.Inner.Pruning.{Prunes}
 use Rattle.model.proofs.{Lists.T_of, Lists.at_ext, Lists.at_set, Lists.at_set_other, Lists.at_take, Lists.mem_get_d, Lists.place_of, Sets.inside_antisym, Sets.has_at_lt, Firsts.take_sets}
 use Rattle.model.proofs.{Firsts.take_e, Firsts.take_i, Firsts.full_take, Filter.filtered_inside, Prune.filter_removal, Prunes.prunes_none, Prunes.prunes_then, Prunes.removal_prunes}
-use Rattle.arrays.specs.{Inner.Places.ENTAILED, Inner.Places.FAILED, Inner.Places.MARKS, Inner.Places.SYMMETRIES, Inner.Places.WORK, Inner.Pruning.sets_of}
+use Rattle.arrays.specs.{Inner.Places.ENTAILED, Inner.Places.MARKS, Inner.Places.SYMMETRIES, Inner.Places.WORK, Inner.Pruning.sets_of}
 use Rattle.filter.specs.Marks.{Vacuous}
-use Rattle.prune_symmetries.specs.Inner.Levels.{Mark, Resumes, FilterRequires, FilterEnsures, leaves}
+use Rattle.prune_symmetries.specs.Inner.Levels.{Mark, Resumes, FilterRequires, FilterFailed, FilterMade, leaves}
 use Rattle.prune_symmetries.proofs.Marks.{mark_mono, mark_skips, mark_resumes}
 use Rattle.prune.specs.{Inner.Node.MarksRight, Inner.Steps.ArraysHold, Inner.Steps.PrefixHeld, Inner.Steps.LiveSets, Inner.Steps.AllFiltered, Inner.Steps.AllFilteredOr}
 use Rattle.prune.specs.Inner.Steps.{OnlyMarks}
@@ -152,64 +152,63 @@ module _ {p : Problem} {supports tables numbers : List ℕ} (st : ArraysHold p s
           (removal_prunes p (take k work₀) (sets_of p es) (filtered (sets_of p es) (nogoods_of p (symmetry_at p e) (take k work₀)))
           (filter_removal p (take k work₀) (sets_of p es) es_sets (symmetry_at p e) (mem_get_d p.symmetries e [] e_lt)))
 
-      module _ {fs : List ℕ} {r : ℕ} (f : FilterEnsures p es work e k fs r) where
-        pub filtered_dead : r ≡ FAILED → AllFilteredOr p k work₀ ds work fs true
-        filtered_dead q = record {
-          ended = λ _. (
-            filtered (sets_of p es) (nogoods_of p (symmetry_at p e) (take k work₀)),
-            (left_way, T_of (any_empty (filtered (sets_of p es) (nogoods_of p (symmetry_at p e) (take k work₀)))) (ap any_empty (sym leaves_is) ∙ sym f.answers ∙ eq-eqb r FAILED q)),
-          );
-          all_filtered = λ z. absurd (subst T z tt);
-          marking = λ z. absurd (subst T z tt);
-          kept = s.kept;
+      pub filtered_dead : {fs : List ℕ} → FilterFailed p es work e k fs → AllFilteredOr p k work₀ ds work fs true
+      filtered_dead f = record {
+        ended = λ _. (
+          filtered (sets_of p es) (nogoods_of p (symmetry_at p e) (take k work₀)),
+          (left_way, T_of (any_empty (filtered (sets_of p es) (nogoods_of p (symmetry_at p e) (take k work₀)))) (ap any_empty (sym leaves_is) ∙ f.empty)),
+        );
+        all_filtered = λ z. absurd (subst T z tt);
+        marking = λ z. absurd (subst T z tt);
+        kept = s.kept;
+      }
+
+      module _ {fs : List ℕ} {r : ℕ} (f : FilterMade p es work e k fs r) where
+        here : sets_of p fs ≡ filtered (sets_of p es) (nogoods_of p (symmetry_at p e) (take k work₀))
+        here = f.left ∙ leaves_is
+
+        sixteen : Sets 16 fs
+        sixteen = (f.sixteen, f.live.small)
+
+        turn_live : LiveSets p fs
+        turn_live = record { sixteen = sixteen; full = ap any_empty (f.left) ∙ f.full; unused = f.unused }
+
+        turn_less : Inside fs es
+        turn_less x v t = go (ltb x p.variables) refl
+          where
+            go : (b : Bool) → ltb x p.variables ≡ b → T (has (at es x) v)
+            go true q =
+                let i = take_i p.variables fs sixteen n_few x v (ltb-true x p.variables q) t in
+                (take_e p.variables es s.live.sixteen n_few x v (filtered_inside (sets_of p es) (nogoods_of p (symmetry_at p e) (take k work₀)) x v
+                (subst (λ (l : List ℕ). T (has (at l x) v)) here i))).1
+            go false q =
+                let o = ltb-false x p.variables q in
+                let i : x < 16 = subst (λ (z : ℕ). x < z) f.sixteen (has_at_lt fs x v t) in
+                subst (λ (z : ℕ). T (has z v)) (f.unused x o i ∙ sym (s.live.unused x o i)) t
+
+        take_less : Inside (sets_of p fs) (sets_of p es)
+        take_less x v t = let q = take_e p.variables fs sixteen n_few x v t in take_i p.variables es s.live.sixteen n_few x v q.0 (turn_less x v q.1)
+
+        marking_turn : MarksRight p (sets_of p fs) (take k work₀) (set work (16 * k + MARKS + e) r) k
+        marking_turn i l = go (ℕ_discrete i e)
+          where
+            slot : 16 * k + MARKS + e < length work
+            slot = omega (arith, e_few, k_few, s.kept.size, g.work_length)
+
+            go : Dec (i ≡ e) → Mark p (sets_of p fs) (take k work₀) i (at (set work (16 * k + MARKS + e) r) (16 * k + MARKS + i))
+            go (yes q) =
+                subst (λ (z : ℕ). Mark p (sets_of p fs) (take k work₀) z (at (set work (16 * k + MARKS + e) r) (16 * k + MARKS + z))) (sym q)
+                (subst (Mark p (sets_of p fs) (take k work₀) e) (sym (at_set work (16 * k + MARKS + e) r slot)) (subst (λ (z : List ℕ). Mark p (sets_of p fs) z e r) prefix_is f.mark))
+            go (no q) =
+                subst (Mark p (sets_of p fs) (take k work₀) i) (sym (at_set_other work (16 * k + MARKS + e) r (16 * k + MARKS + i) (λ z. q (omega arith))))
+                (mark_mono p (sets_of p es) (sets_of p fs) (take k work₀) i (at work (16 * k + MARKS + i)) ((take_sets p.variables fs sixteen n_few).0 ∙ sym es_sets.0) take_less (s.marking i l))
+
+        pub filtered_turn : FilteredSoFar p k work₀ ds (set work (16 * k + MARKS + e) r) fs (e + 1)
+        filtered_turn = record {
+          live = turn_live;
+          less = λ x v t. s.less x v (turn_less x v t);
+          way = subst (Prunes p (take k work₀) (sets_of p ds)) (sym here) left_way;
+          fixed = fixed_turn fs sixteen turn_less here;
+          marking = marking_turn;
+          kept = kept_set work₀ work k e r e_few s.kept;
         }
-
-        module _ (live : r ≡ FAILED → ⊥) where
-          here : sets_of p fs ≡ filtered (sets_of p es) (nogoods_of p (symmetry_at p e) (take k work₀))
-          here = f.left live ∙ leaves_is
-
-          sixteen : Sets 16 fs
-          sixteen = (f.sixteen, (f.live live).small)
-
-          turn_live : LiveSets p fs
-          turn_live = record { sixteen = sixteen; full = ap any_empty (f.left live) ∙ sym f.answers ∙ ne_eqb r FAILED live; unused = f.unused live }
-
-          turn_less : Inside fs es
-          turn_less x v t = go (ltb x p.variables) refl
-            where
-              go : (b : Bool) → ltb x p.variables ≡ b → T (has (at es x) v)
-              go true q =
-                  let i = take_i p.variables fs sixteen n_few x v (ltb-true x p.variables q) t in
-                  (take_e p.variables es s.live.sixteen n_few x v (filtered_inside (sets_of p es) (nogoods_of p (symmetry_at p e) (take k work₀)) x v
-                  (subst (λ (l : List ℕ). T (has (at l x) v)) here i))).1
-              go false q =
-                  let o = ltb-false x p.variables q in
-                  let i : x < 16 = subst (λ (z : ℕ). x < z) f.sixteen (has_at_lt fs x v t) in
-                  subst (λ (z : ℕ). T (has z v)) (f.unused live x o i ∙ sym (s.live.unused x o i)) t
-
-          take_less : Inside (sets_of p fs) (sets_of p es)
-          take_less x v t = let q = take_e p.variables fs sixteen n_few x v t in take_i p.variables es s.live.sixteen n_few x v q.0 (turn_less x v q.1)
-
-          marking_turn : MarksRight p (sets_of p fs) (take k work₀) (set work (16 * k + MARKS + e) r) k
-          marking_turn i l = go (ℕ_discrete i e)
-            where
-              slot : 16 * k + MARKS + e < length work
-              slot = omega (arith, e_few, k_few, s.kept.size, g.work_length)
-
-              go : Dec (i ≡ e) → Mark p (sets_of p fs) (take k work₀) i (at (set work (16 * k + MARKS + e) r) (16 * k + MARKS + i))
-              go (yes q) =
-                  subst (λ (z : ℕ). Mark p (sets_of p fs) (take k work₀) z (at (set work (16 * k + MARKS + e) r) (16 * k + MARKS + z))) (sym q)
-                  (subst (Mark p (sets_of p fs) (take k work₀) e) (sym (at_set work (16 * k + MARKS + e) r slot)) (subst (λ (z : List ℕ). Mark p (sets_of p fs) z e r) prefix_is (f.mark live)))
-              go (no q) =
-                  subst (Mark p (sets_of p fs) (take k work₀) i) (sym (at_set_other work (16 * k + MARKS + e) r (16 * k + MARKS + i) (λ z. q (omega arith))))
-                  (mark_mono p (sets_of p es) (sets_of p fs) (take k work₀) i (at work (16 * k + MARKS + i)) ((take_sets p.variables fs sixteen n_few).0 ∙ sym es_sets.0) take_less (s.marking i l))
-
-          pub filtered_turn : FilteredSoFar p k work₀ ds (set work (16 * k + MARKS + e) r) fs (e + 1)
-          filtered_turn = record {
-            live = turn_live;
-            less = λ x v t. s.less x v (turn_less x v t);
-            way = subst (Prunes p (take k work₀) (sets_of p ds)) (sym here) left_way;
-            fixed = fixed_turn fs sixteen turn_less here;
-            marking = marking_turn;
-            kept = kept_set work₀ work k e r e_few s.kept;
-          }

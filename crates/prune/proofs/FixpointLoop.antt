@@ -8,12 +8,12 @@ use Rattle.model.proofs.Lists.{T_of, of_T, not_of, of_not, at_ext, at_take, both
 use Rattle.model.proofs.Sets.{has_none, mask_ext, member, empty_inside, inside_antisym, size, size_inside, size_strict}
 use Rattle.model.proofs.Prune.{narrowed_e, Sized, Kept, fixed_i, largest, live_is, way_live, way_end}
 use Rattle.model.proofs.{Masks.has_and, Members.has_0, Members.or_e, Members.and_e, Firsts.take_sets, Firsts.take_i, Firsts.full_take, Tree.well_sized}
-use Rattle.arrays.specs.{Inner.Places.DEAD, Inner.Places.LINKED, Inner.Places.LOOKS, Inner.Places.MARKS, Inner.Places.SYMMETRIES, Inner.Places.WORK, Inner.Tables.LooksUp}
+use Rattle.arrays.specs.{Inner.Places.LINKED, Inner.Places.LOOKS, Inner.Places.MARKS, Inner.Places.SYMMETRIES, Inner.Places.WORK, Inner.Tables.LooksUp}
 use Rattle.arrays.specs.Inner.Pruning.{Given, Ended, sets_of}
 use Rattle.arrays.proofs.Links.{good}
-use Rattle.prune_pairs.specs.Inner.Links.{Settled, ArcsMade}
+use Rattle.prune_pairs.specs.Inner.Links.{Settled, ArcsLeft}
 use Rattle.prune_pairs.proofs.Settled.{settled_stays}
-use Rattle.prune_constraints.specs.{Inner.Steps.Touched, Inner.LookUps.Alone, Inner.LookUps.LookUp, Inner.LookUps.LookUpsPending, Inner.LookUps.LookedUp}
+use Rattle.prune_constraints.specs.{Inner.Steps.Touched, Inner.LookUps.Alone, Inner.LookUps.LookUp, Inner.LookUps.LookUpsPending, Inner.LookUps.LookedLeft}
 use Rattle.prune_constraints.proofs.Touching.{touched_of, touched_of_lem, touched_parts}
 use Rattle.prune_symmetries.proofs.Marks.{mark_mono}
 use Rattle.block.specs.Inner.Claims.{Ascends}
@@ -112,9 +112,9 @@ module _ {p : Problem} {gs : List (List ℕ)} {supports tables numbers : List �
     pruned_start w = record { startable = record { prefix_held = n.startable.prefix_held; live = live_1; pending = w; marking = marking_1 }; way = way_1; ascends = ascends_1 }
 
   -- the look-ups are done
-  pub looks_done : {fs : List ℕ} {looks looked : ℕ} → LookedUp p numbers supports ds fs todo looks looked → (looked ≡ DEAD → ⊥) →
+  pub looks_done : {fs : List ℕ} {looks looked : ℕ} → LookedLeft p numbers supports ds fs todo looks looked →
       BeforeFixpoint p gs work numbers fs k (bit_or (bit_and todo ((2 ^ 64 - 1) - looks)) (touched_of numbers looked)) (bit_or dirty (bit_and looked (at numbers LINKED)))
-  looks_done {fs = fs} {looked = looked} l live = let w = looks_turn st n.startable.pending l live in pruned_start (pruned_more p ds ds fs looked (pruned_none p ds) (l.lessened live))
+  looks_done {fs = fs} {looked = looked} l = let w = looks_turn st n.startable.pending l in pruned_start (pruned_more p ds ds fs looked (pruned_none p ds) l.lessened)
       w.given w
 
   -- a settled variable has one value, that of the prefix
@@ -135,20 +135,20 @@ module _ {p : Problem} {gs : List (List ℕ)} {supports tables numbers : List �
           ∙ at_take k work x h
 
   -- the look-ups leave the variables that were settled before as they are
-  pub looks_settled : {fs : List ℕ} {v looks looked : ℕ} → LastSettled work k v dirty → LookedUp p numbers supports ds fs todo looks looked → (looked ≡ DEAD → ⊥) → Settled fs
+  pub looks_settled : {fs : List ℕ} {v looks looked : ℕ} → LastSettled work k v dirty → LookedLeft p numbers supports ds fs todo looks looked → Settled fs
       (bit_or dirty (bit_and looked (at numbers LINKED))) (k - 1)
-  looks_settled {fs = fs} {looked = looked} a l live = record {
+  looks_settled {fs = fs} {looked = looked} a l = record {
     clean = λ y h. not_of (has (bit_or dirty (bit_and looked (at numbers LINKED))) y)
         (λ q. ⊎_elim (of_not (has dirty y) (a.clean y h))
-        (λ i. of_not (has looked y) (settled_stays p ds n_few n.startable.live.sixteen y (settled y (omega arith)).0.only (l.lessened live) (l.changed live))
+        (λ i. of_not (has looked y) (settled_stays p ds n_few n.startable.live.sixteen y (settled y (omega arith)).0.only l.lessened l.changed)
         (and_e looked (at numbers LINKED) y i).0)
         (or_e dirty (bit_and looked (at numbers LINKED)) y q));
-    single = λ y h u v s t. (settled y (omega arith)).0.only u v (l.less y u s) (l.less y v t);
+    single = λ y h u v s t. (settled y (omega arith)).0.only u v (l.lessened.less y u s) (l.lessened.less y v t);
   }
 
   -- the constraints by variable are done
-  arcs_done : {es : List ℕ} {cut touched due : ℕ} → ArcsMade p ds es cut → (cut ≡ DEAD → ⊥) → Touched numbers cut touched → due ≡ bit_or todo touched → BeforeFixpoint p gs work numbers es k due 0
-  arcs_done l live u d = let w = arcs_turn st n.startable.pending l live u d in pruned_start (arcs_pruned st n.startable.pending l live ds (pruned_none p ds)) w.given w
+  arcs_done : {es : List ℕ} {cut touched due : ℕ} → ArcsLeft p ds es cut → Touched numbers cut touched → due ≡ bit_or todo touched → BeforeFixpoint p gs work numbers es k due 0
+  arcs_done l u d = let w = arcs_turn st n.startable.pending l u d in pruned_start (arcs_pruned st n.startable.pending l ds (pruned_none p ds)) w.given w
 
   -- no constraint takes anything more: nothing is due
   pub constrained_done : {es : List ℕ} → AllConstrained p ds es → BeforeFixpoint p gs work numbers es k 0 0
@@ -312,12 +312,12 @@ module _ {p : Problem} {gs : List (List ℕ)} {supports tables numbers : List �
               (Memᴰ-head refl)
 
   -- both are done: the rest that is due may be done from there
-  pub cuts_done : {fs hs : List ℕ} {looked cut t : ℕ} → LookedUp p numbers supports ds fs todo (bit_and todo (at numbers (LOOKS + k))) looked → (looked ≡ DEAD → ⊥) → ArcsMade p fs hs cut →
-      (cut ≡ DEAD → ⊥) → t < 2 ^ 64 → Touched numbers (bit_or looked cut) t →
+  pub cuts_done : {fs hs : List ℕ} {looked cut t : ℕ} → LookedLeft p numbers supports ds fs todo (bit_and todo (at numbers (LOOKS + k))) looked → ArcsLeft p fs hs cut →
+      t < 2 ^ 64 → Touched numbers (bit_or looked cut) t →
       BeforeFixpoint p gs work numbers hs k (bit_or (bit_and todo ((2 ^ 64 - 1) - bit_and todo (at numbers (LOOKS + k)))) t) 0
-  cuts_done {looked = looked} {cut = cut} {t = t} l live a alive h u =
-      arcs_done st bl (looks_done st bl n l live) a alive (touched_of_lem st.indexed.linked st.well_formed.most cut few)
-      (touched_parts st.indexed.linked st.well_formed.most looked cut t _ (looked_few st n.startable.pending l live) few (lt_of_le_of_lt (and_le_l todo _) wide) h u)
+  cuts_done {looked = looked} {cut = cut} {t = t} l a h u =
+      arcs_done st bl (looks_done st bl n l) a (touched_of_lem st.indexed.linked st.well_formed.most cut few)
+      (touched_parts st.indexed.linked st.well_formed.most looked cut t _ (looked_few st n.startable.pending l) few (lt_of_le_of_lt (and_le_l todo _) wide) h u)
     where
       few : (x : ℕ) → T (has cut x) → x < 16
-      few x q = let i = (a.lessened alive).few x q in omega (arith, st.well_formed.few)
+      few x q = let i = a.lessened.few x q in omega (arith, st.well_formed.few)

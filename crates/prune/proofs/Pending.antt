@@ -5,10 +5,10 @@ use Rattle.model.specs.{Lists.both, Lists.either, Lists.any, Lists.at, ValueSets
 use Rattle.model.proofs.Lists.{T_of, of_T, not_of, of_not, both_i, both_l, either_l, either_r, either_e, among_i}
 use Rattle.model.proofs.{Sets.has_none, Sets.has_lt, Sets.member, Sets.size, Sets.size_inside, Masks.has_or, Masks.has_and, Members.low_has, Members.or_i, Members.or_e, Members.and_e, Firsts.take_at}
 use Rattle.model.proofs.{Firsts.take_e, Firsts.take_i, Firsts.full_take, Prunes.prunes_none, Prunes.prunes_then}
-use Rattle.arrays.specs.{Inner.Places.DEAD, Inner.Places.LINKED, Inner.Places.OTHERS, Inner.Tables.is_by_rows, Inner.Pruning.Given, Inner.Pruning.Lessened, Inner.Pruning.Ended}
+use Rattle.arrays.specs.{Inner.Places.LINKED, Inner.Places.OTHERS, Inner.Tables.is_by_rows, Inner.Pruning.Given, Inner.Pruning.Lessened, Inner.Pruning.Ended}
 use Rattle.arrays.specs.Inner.Pruning.{Fixed, Arc, sets_of}
 use Rattle.arrays.proofs.Links.{good}
-use Rattle.prune_constraints.specs.{Inner.Steps.Touched, Inner.LookUps.LookedUp}
+use Rattle.prune_constraints.specs.{Inner.Steps.Touched, Inner.LookUps.LookedLeft}
 use Rattle.prune_constraints.proofs.{Rows.fixed_kept, Touching.touched_of, Touching.touched_of_lem}
 use Rattle.prune.specs.Inner.Steps.{ArraysHold, Pending, PrunedSoFar, AllConstrained, AllConstrainedOr}
 use Rattle.prune.proofs.Arcs.{arc_kept, arc_free, arcs_fixed}
@@ -119,12 +119,12 @@ module _ {p : Problem} {supports tables numbers : List ℕ} (s : ArraysHold p su
     }
 
     -- ---- look-ups leave fs of es
-    module _ {fs : List ℕ} {looks looked : ℕ} (l : LookedUp p numbers supports es fs left looks looked) (live : looked ≡ DEAD → ⊥) where
+    module _ {fs : List ℕ} {looks looked : ℕ} (l : LookedLeft p numbers supports es fs left looks looked) where
       pub looked_few : (x : ℕ) → T (has looked x) → x < 16
-      looked_few x t = let i = (l.lessened live).few x t in omega (arith, n_few)
+      looked_few x t = let i = l.lessened.few x t in omega (arith, n_few)
 
       after : revised.ConstraintsPending p numbers supports fs (bit_or (bit_and left ((2 ^ 64 - 1) - looks)) (touched_of numbers looked))
-      after = l.pending live (touched_of numbers looked) (touched_of_lem s.indexed.linked s.well_formed.most looked looked_few)
+      after = l.pending (touched_of numbers looked) (touched_of_lem s.indexed.linked s.well_formed.most looked looked_few)
 
       -- the variables that changed are dirty too
       pub looks_turn : Pending p numbers fs (bit_or (bit_and left ((2 ^ 64 - 1) - looks)) (touched_of numbers looked)) (bit_or moved (bit_and looked (at numbers LINKED)))
@@ -132,9 +132,9 @@ module _ {p : Problem} {supports tables numbers : List ℕ} (s : ArraysHold p su
         given = after.given;
         known = after.known;
         others = after.others;
-        inner = λ x t. ⊎_elim (w.inner x) (λ q. (l.lessened live).few x (and_e looked (at numbers LINKED) x q).0) (or_e moved (bit_and looked (at numbers LINKED)) x t);
+        inner = λ x t. ⊎_elim (w.inner x) (λ q. l.lessened.few x (and_e looked (at numbers LINKED) x q).0) (or_e moved (bit_and looked (at numbers LINKED)) x t);
         arcs = λ x h f.
-            still_arc es fs looked (bit_and looked (at numbers LINKED)) w.given after.given (l.lessened live).less (λ y i e. (l.lessened live).kept y e) refl x h
+            still_arc es fs looked (bit_and looked (at numbers LINKED)) w.given after.given l.lessened.less (λ y i e. l.lessened.kept y e) refl x h
             (not_of (has (bit_and looked (at numbers LINKED)) x)
             (λ t. of_not (has (bit_or moved (bit_and looked (at numbers LINKED))) x) f (or_i moved (bit_and looked (at numbers LINKED)) x (inr t))))
             (w.arcs x h (not_of (has moved x) (λ t. of_not (has (bit_or moved (bit_and looked (at numbers LINKED))) x) f (or_i moved (bit_and looked (at numbers LINKED)) x (inl t)))));
@@ -151,12 +151,12 @@ module _ {p : Problem} {supports tables numbers : List ℕ} (s : ArraysHold p su
       arcs = w.arcs;
     }
 
-    module _ {fs : List ℕ} {cut : ℕ} (l : links.ArcsMade p es fs cut) (live : cut ≡ DEAD → ⊥) where
+    module _ {fs : List ℕ} {cut : ℕ} (l : links.ArcsLeft p es fs cut) where
       pub arcs_pruned : (ds : List ℕ) → PrunedSoFar p ds es → PrunedSoFar p ds fs
-      arcs_pruned ds r = pruned_more p ds es fs cut r (l.lessened live)
+      arcs_pruned ds r = pruned_more p ds es fs cut r l.lessened
 
       pub arcs_size : size fs ≤ size es
-      arcs_size = size_inside fs es (l.sixteen.0 ∙ sym w.given.sixteen.0) l.less
+      arcs_size = size_inside fs es (l.lessened.sixteen.0 ∙ sym w.given.sixteen.0) l.lessened.less
 
       module _ {touched due : ℕ} (u : Touched numbers cut touched) (d : due ≡ bit_or left touched) where
         has_due : (k : ℕ) → has due k ≡ either (has left k) (has touched k)
@@ -165,37 +165,37 @@ module _ {p : Problem} {supports tables numbers : List ℕ} (s : ArraysHold p su
         -- no variable is dirty, and the constraints of those that changed are due too
         pub arcs_turn : Pending p numbers fs due 0
         arcs_turn = record {
-          given = given_more es fs cut w.given (l.lessened live);
-          known = λ k t. ⊎_elim (λ a. w.known k a) (λ a. touched_known cut touched u (λ x b. let i = (l.lessened live).few x b in omega (arith, n_few)) k a)
+          given = given_more es fs cut w.given l.lessened;
+          known = λ k t. ⊎_elim (λ a. w.known k a) (λ a. touched_known cut touched u (λ x b. let i = l.lessened.few x b in omega (arith, n_few)) k a)
               (either_e (has left k) (has touched k) (subst T (has_due k) t));
           others = λ k h f r.
-              still_fixed es fs cut touched w.given.sixteen (l.lessened live).sixteen (λ x i e. (l.lessened live).kept x e) u k h
+              still_fixed es fs cut touched w.given.sixteen l.lessened.sixteen (λ x i e. l.lessened.kept x e) u k h
               (not_of (has touched k) (λ t. of_not (has due k) f (subst T (sym (has_due k)) (either_r (has left k) (has touched k) t)))) r
               (w.others k h (not_of (has left k) (λ t. of_not (has due k) f (subst T (sym (has_due k)) (either_l (has left k) (has touched k) t)))) r);
           inner = λ x t. absurd (of_not (has 0 x) (has_none x) t);
-          arcs = λ x h f. l.arcs live x h;
+          arcs = λ x h f. l.arcs x h;
         }
 
   -- ---- the second half: the other constraints leave gs of fs
   module _ {fs : List ℕ} {due : ℕ} (w : Pending p numbers fs due 0) where
-    module _ {gs : List ℕ} {pruned : ℕ} (c : revised.Constrained p fs gs pruned) (alive : pruned ≡ DEAD → ⊥) {next : ℕ} (q : next ≡ bit_and pruned (at numbers LINKED)) where
+    module _ {gs : List ℕ} {pruned : ℕ} (c : revised.ConstraintsLeft p fs gs pruned) {next : ℕ} (q : next ≡ bit_and pruned (at numbers LINKED)) where
       given_2 : Given p gs
-      given_2 = given_more fs gs pruned w.given (c.lessened alive)
+      given_2 = given_more fs gs pruned w.given c.lessened
 
       pub pending_turn : Pending p numbers gs 0 next
       pending_turn = record {
         given = given_2;
         known = λ k t. absurd (of_not (has 0 k) (has_none k) t);
-        others = λ k h f r. c.fixed alive k h r;
-        inner = λ x t. (c.lessened alive).few x (both_l (has pruned x) (has (at numbers LINKED) x) (subst T (ap (λ (n : ℕ). has n x) q ∙ has_and pruned (at numbers LINKED) x) t));
-        arcs = λ x h f. still_arc fs gs pruned next w.given given_2 (c.lessened alive).less (λ y i e. (c.lessened alive).kept y e) q x h f (w.arcs x h (has_none x));
+        others = λ k h f r. c.fixed k h r;
+        inner = λ x t. c.lessened.few x (both_l (has pruned x) (has (at numbers LINKED) x) (subst T (ap (λ (n : ℕ). has n x) q ∙ has_and pruned (at numbers LINKED) x) t));
+        arcs = λ x h f. still_arc fs gs pruned next w.given given_2 c.lessened.less (λ y i e. c.lessened.kept y e) q x h f (w.arcs x h (has_none x));
       }
 
       pub pruned_turn : (ds : List ℕ) → PrunedSoFar p ds fs → PrunedSoFar p ds gs
-      pruned_turn ds r = pruned_more p ds fs gs pruned r (c.lessened alive)
+      pruned_turn ds r = pruned_more p ds fs gs pruned r c.lessened
 
       pub pending_less : pruned < 2 ^ 64 → (next ≡ 0 → ⊥) → size gs < size fs
       pending_less h n =
           let m = (low_has 64 next (omega arith) (subst (λ (z : ℕ). z < 2 ^ 64) (sym q) (lt_of_le_of_lt (and_le_l pruned (at numbers LINKED)) h))).0 in
-          c.smaller alive (count_trailing_zeros 64 next) (both_l (has pruned (count_trailing_zeros 64 next)) (has (at numbers LINKED) (count_trailing_zeros 64 next))
+          c.smaller (count_trailing_zeros 64 next) (both_l (has pruned (count_trailing_zeros 64 next)) (has (at numbers LINKED) (count_trailing_zeros 64 next))
           (subst T (ap (λ (z : ℕ). has z (count_trailing_zeros 64 next)) q ∙ has_and pruned (at numbers LINKED) (count_trailing_zeros 64 next)) m))

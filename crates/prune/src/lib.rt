@@ -14,8 +14,8 @@ ghost use Rattle.prune.specs.Inner.Steps.{ArraysHold, Blocked, Pending, AllConst
 ghost use Rattle.prune.specs.Inner.Steps.{LastSettled, Unpruned, AfterFixpoint, Differ, cut_below, CutOr, Loaded, Stored, MarksCopied};
 
 use arrays::{
-    BLOCK, DEAD, FAILED, INITIAL, LINKED, LOOKS, MARKS, Numbers, OTHERS, SYMMETRIES, Stack,
-    Supports, Tables, VARIABLES, Work,
+    BLOCK, INITIAL, LINKED, LOOKS, MARKS, Numbers, OTHERS, SYMMETRIES, Stack, Supports, Tables,
+    VARIABLES, Work,
 };
 use model::ValueSet;
 
@@ -36,16 +36,15 @@ fn constrain(
     let mut left = todo;
     let mut moved = dirty;
     loop {
-        let cut = prune_pairs::arcs(sets, tables, numbers, moved, 0);
-        if cut == DEAD {
+        let Some(cut) = prune_pairs::arcs(sets, tables, numbers, moved, 0) else {
             return true;
-        }
-        left = left | prune_constraints::touched(numbers, cut);
+        };
+        left |= prune_constraints::touched(numbers, cut);
         let pruned = prune_constraints::constrain(sets, numbers, supports, left, settled);
-        if pruned == DEAD {
+        let Some(changed) = pruned else {
             return true;
-        }
-        moved = pruned & numbers[LINKED];
+        };
+        moved = changed & numbers[LINKED];
         if moved == 0 {
             return false;
         }
@@ -68,17 +67,14 @@ fn filters(
         work.old k → AllFilteredOr p k work.old sets.old work.new sets.new result }
 {
     let g = numbers[SYMMETRIES] as usize;
-    let mut e = 0;
-    while e < g {
+    for e in 0..g {
         let start = work[16 * k + MARKS + e];
         if prune_symmetries::due(start, k) {
-            let mark = prune_symmetries::filter(sets, work, tables, e, k, start);
-            if mark == FAILED {
+            let Some(mark) = prune_symmetries::filter(sets, work, tables, e, k, start) else {
                 return true;
-            }
+            };
             work[16 * k + MARKS + e] = mark;
         }
-        e += 1;
     }
     false
 }
@@ -88,11 +84,9 @@ fn difference(old: &[u16; 16], new: &[u16; 16]) -> u64
     ensures { Differ old.now new.now result }
 {
     let mut all = 0u64;
-    let mut i = 0;
-    while i < 16 {
+    for i in 0..16 {
         all = all
             | prune_constraints::moved(ValueSet { bits: old[i] }, ValueSet { bits: new[i] }, i);
-        i += 1;
     }
     all
 }
@@ -157,15 +151,13 @@ fn fixpoint(
         work.old work.new sets.new result }
 {
     let looks = todo & numbers[LOOKS + k];
-    let looked = prune_constraints::look_ups(sets, work, numbers, supports, looks, v);
-    if looked == DEAD {
+    let Some(looked) = prune_constraints::look_ups(sets, work, numbers, supports, looks, v) else {
         return true;
-    }
+    };
     let moved = dirty | (looked & numbers[LINKED]);
-    let cut = prune_pairs::arcs(sets, tables, numbers, moved, k - 1);
-    if cut == DEAD {
+    let Some(cut) = prune_pairs::arcs(sets, tables, numbers, moved, k - 1) else {
         return true;
-    }
+    };
     let left = (todo & !looks) | prune_constraints::touched(numbers, looked | cut);
     if left != 0 {
         if constrain(sets, supports, tables, numbers, left, 0, (1u64 << k) - 1) {
@@ -182,10 +174,8 @@ fn load(stack: &Stack, k: usize, sets: &mut [u16; 16])
     requires { (k < 13) × (length sets.old ≡ 16) }
     ensures { Loaded stack.now k sets.new }
 {
-    let mut i = 0;
-    while i < 16 {
+    for i in 0..16 {
         sets[i] = stack[16 * k + i];
-        i += 1;
     }
 }
 
@@ -193,10 +183,8 @@ fn store(stack: &mut Stack, k: usize, sets: &[u16; 16])
     requires { (k < 13) × (length stack.old ≡ STACK) }
     ensures { Stored stack.old k (at sets.now) stack.new }
 {
-    let mut i = 0;
-    while i < 16 {
+    for i in 0..16 {
         stack[16 * k + i] = sets[i];
-        i += 1;
     }
 }
 
@@ -205,10 +193,8 @@ fn initial(numbers: &Numbers, sets: &mut [u16; 16])
     requires { length sets.old ≡ 16 }
     ensures { (length sets.new ≡ 16) × ((x : ℕ) → x < 16 → at sets.new x ≡ at numbers.now (INITIAL + x) % 65536) }
 {
-    let mut i = 0;
-    while i < 16 {
+    for i in 0..16 {
         sets[i] = (numbers[INITIAL + i] % 65536) as u16;
-        i += 1;
     }
 }
 
@@ -229,8 +215,8 @@ fn not_below(set: ValueSet, v: u16) -> ValueSet
     }
 }
 
-// Takes the values below v from the sets of some variables.
-fn cut(sets: &mut [u16; 16], some: u64, v: u16) -> u64
+// Takes the values below v from the sets of some variables: the variables whose sets changed, or None where one would be empty.
+fn cut(sets: &mut [u16; 16], some: u64, v: u16) -> Option<u64>
     requires { Sets 16 sets.old × (v < 16) × ((y : ℕ) → T (has some y) → y < 16) }
     ensures { CutOr sets.old (cut_below some v sets.old) sets.new some result }
 {
@@ -241,24 +227,24 @@ fn cut(sets: &mut [u16; 16], some: u64, v: u16) -> u64
         let old = ValueSet { bits: sets[y] };
         let kept = not_below(old, v);
         if kept.is_empty() {
-            return DEAD;
+            return None;
         }
         sets[y] = kept.bits;
-        changed = changed | prune_constraints::moved(old, kept, y);
-        left = left & (left - 1);
+        changed |= prune_constraints::moved(old, kept, y);
+        left &= left - 1;
     }
-    changed
+    Some(changed)
 }
 
 // Variable k has been settled to v: where it is one of the block, the block's later variables lose the values below v (paper 02, #111).
-fn cut_later(sets: &mut [u16; 16], block: u64, k: usize, v: u16) -> u64
+fn cut_later(sets: &mut [u16; 16], block: u64, k: usize, v: u16) -> Option<u64>
     requires { Sets 16 sets.old × (k < 12) × (v < 16) × ((y : ℕ) → T (has block y) → y < 16) }
     ensures { CutOr sets.old (cut_after (has block) k v sets.old) sets.new block result }
 {
     if (block >> k) & 1 == 1 {
         return cut(sets, block & !((2u64 << k) - 1), v);
     }
-    0
+    Some(0)
 }
 
 // The marks of depth k: nothing is known yet.
@@ -266,10 +252,8 @@ fn clear_marks(work: &mut Work, k: usize)
     requires { (k < 13) × (length work.old ≡ WORK) }
     ensures { Stored work.old (k + 1) (λ e. 0) work.new }
 {
-    let mut e = 0;
-    while e < 16 {
+    for e in 0..16 {
         work[16 * k + MARKS + e] = 0;
-        e += 1;
     }
 }
 
@@ -281,12 +265,10 @@ fn copy_marks(work: &mut Work, numbers: &Numbers, k: usize)
     if numbers[SYMMETRIES] == 0 {
         return;
     }
-    let mut e = 0;
-    while e < 16 {
+    for e in 0..16 {
         let here = 16 * k + MARKS + e;
         let next = 16 * (k + 1) + MARKS + e;
         work[next] = work[here];
-        e += 1;
     }
 }
 
@@ -361,10 +343,9 @@ pub fn child(
     let todo = due(old, one, numbers[OTHERS + k]);
     let dirty = due(old, one, numbers[LINKED] & (1u64 << k));
     sets[k] = one.bits;
-    let changed = cut_later(&mut sets, numbers[BLOCK], k, v);
-    if changed == DEAD {
+    let Some(changed) = cut_later(&mut sets, numbers[BLOCK], k, v) else {
         return true;
-    }
+    };
     let dead = fixpoint(
         &mut sets,
         work,
@@ -403,7 +384,7 @@ pub fn descend(
     let v = (work[k] % 16) as u16;
     let one = old.only(v);
     sets[k] = one.bits;
-    if cut_later(&mut sets, numbers[BLOCK], k, v) == DEAD {
+    if cut_later(&mut sets, numbers[BLOCK], k, v).is_none() {
         return true;
     }
     prune_all(stack, work, &mut sets, supports, tables, numbers, k + 1)

@@ -1,44 +1,44 @@
 -- The loops of `constrain8` and `constrain16`: what holds before each turn, one turn, and both ends, whichever constraints a round takes. Assumes nothing.
 use Rattle.model.specs.Kit.{◌≡◌, refl, sym, ap, ◌∙◌, subst, Bool, true, false, not, ◌⊎◌, inl, inr, ⊎_elim, List, Memᴰ, ℕ, ◌+◌, ◌-◌, ◌*◌, ◌^◌, ◌≤◌, ◌<◌, lt_of_le_of_lt, arith, ℕ_discrete, T, eqb}
-use Rattle.model.specs.Kit.{ltb, eqb_refl, length, bit_and, bit_or, and_le_l, or_lt, count_trailing_zeros, ltb-true, ltb-false, eqb-true, eq-eqb}
+use Rattle.model.specs.Kit.{ltb, length, bit_and, bit_or, and_le_l, or_lt, count_trailing_zeros, ltb-true, ltb-false, eqb-true, eq-eqb}
 use Rattle.model.specs.{Lists.both, Lists.any, Lists.at, ValueSets.has, ValueSets.Inside, Problem.Problem, Problem.Constraint, Problem.constraint_at, Inner.Pruning.Sets, Inner.Pruning.Prunes}
 use Rattle.model.specs.{Inner.WellFormed.GoodConstraint}
 use lib.Bits.{or_zero_r, or_disjoint}
 use lib.Pow.{pow_mono}
 use Rattle.model.proofs.{Lists.T_of, Lists.of_T, Lists.TExt, Lists.not_of, Lists.of_not, Lists.both_i, Lists.both_r, Lists.among_i, Lists.among_e, Lists.ascending_sorted, Sets.has_none, Sets.has_lt}
-use Rattle.model.proofs.{Sets.mask_ext, Sets.inside_antisym, Sets.size, Sets.size_inside, Sets.size_strict, Masks.has_one, Members.low_has, Members.rest_e, Members.rest_i, Members.rest_less}
+use Rattle.model.proofs.{Sets.mask_ext, Sets.inside_antisym, Sets.size, Sets.size_inside, Sets.size_strict, Members.low_has, Members.rest_e, Members.rest_i, Members.rest_less}
 use Rattle.model.proofs.{Members.has_0, Members.or_i, Members.or_e, Members.and_e, Firsts.take_i, Firsts.take_full, Firsts.take_empty, Firsts.full_take, Prunes.prunes_none, Prunes.prunes_then}
-use Rattle.arrays.specs.{Inner.Places.VALUES, Inner.Places.OTHERS, Inner.Places.DEAD, Inner.Tables.Linked, Inner.Tables.is_by_rows, Inner.Pruning.Fixed, Inner.Pruning.sets_of}
+use Rattle.arrays.specs.{Inner.Places.VALUES, Inner.Places.OTHERS, Inner.Tables.Linked, Inner.Tables.is_by_rows, Inner.Pruning.Fixed, Inner.Pruning.sets_of}
 use Rattle.arrays.proofs.Links.{is_one, good}
-use Rattle.prune_constraints.specs.{Inner.Revised.revised, Inner.Revised.Revision, Inner.Revised.ConstraintsPending, Inner.Revised.Constrained, Inner.Steps.ConstraintsHeld}
-use Rattle.prune_constraints.specs.Inner.Steps.{Nonempty, Narrow, Waiting, Round}
+use Rattle.prune_constraints.specs.Inner.Revised.{revised, Emptied, Pruned, ConstraintsPending, Dead, ConstraintsLeft}
+use Rattle.prune_constraints.specs.Inner.Steps.{ConstraintsHeld, Nonempty, Narrow, Waiting, Round}
 use Rattle.prune_constraints.proofs.Rows.{revised_sets, revised_inside, revised_fixed, revised_out, fixed_kept}
 use Rattle.prune_constraints.proofs.{Bits.without_has, Bits.inside_le, Removal.fixed_take, Removal.fixed_all, Removal.revised_prunes}
 
 -- ---- what a revision changed
-module _ (c : Constraint) (ds es : List ℕ) (changed : ℕ) (s : Sets 16 ds) (r : Revision c ds es changed) (l : changed ≡ DEAD → ⊥) where
+module _ (c : Constraint) (ds es : List ℕ) (changed : ℕ) (s : Sets 16 ds) (r : Pruned c ds es changed) where
   still : (x : ℕ) → has changed x ≡ false → at es x ≡ at ds x
   still x e = go (eqb (at es x) (at ds x)) refl
     where
       go : (b : Bool) → eqb (at es x) (at ds x) ≡ b → at es x ≡ at ds x
       go true q = eqb-true (at es x) (at ds x) q
-      go false q = absurd (of_not (has changed x) e (T_of (has changed x) (r.moved l x ∙ ap not q)))
+      go false q = absurd (of_not (has changed x) e (T_of (has changed x) (r.moved x ∙ ap not q)))
 
   differs : (x : ℕ) → T (has changed x) → at es x ≡ at ds x → ⊥
-  differs x t e = subst T (r.moved l x ∙ ap not (eq-eqb (at es x) (at ds x) e)) t
+  differs x t e = subst T (r.moved x ∙ ap not (eq-eqb (at es x) (at ds x) e)) t
 
   in_scope_if : (x : ℕ) → T (has changed x) → Memᴰ x c.scope
   in_scope_if x t = go (any (eqb x) c.scope) refl
     where
       go : (b : Bool) → any (eqb x) c.scope ≡ b → Memᴰ x c.scope
       go true e = among_e x c.scope (T_of (any (eqb x) c.scope) e)
-      go false e = absurd (differs x t (ap (λ (l : List ℕ). at l x) (r.sets l) ∙ revised_out ds c s.1 x (λ m. of_not (any (eqb x) c.scope) e (among_i x c.scope m))))
+      go false e = absurd (differs x t (ap (λ (l : List ℕ). at l x) r.sets ∙ revised_out ds c s.1 x (λ m. of_not (any (eqb x) c.scope) e (among_i x c.scope m))))
 
   after : Sets 16 es
-  after = subst (Sets 16) (sym (r.sets l)) (revised_sets ds c 16 s.0)
+  after = subst (Sets 16) (sym r.sets) (revised_sets ds c 16 s.0)
 
   inside : Inside es ds
-  inside = subst (λ (l : List ℕ). Inside l ds) (sym (r.sets l)) (revised_inside ds c)
+  inside = subst (λ (l : List ℕ). Inside l ds) (sym r.sets) (revised_inside ds c)
 
   -- the sets have no more values, and fewer where one changed
   fewer : size es ≤ size ds
@@ -186,10 +186,9 @@ module _ (p : Problem) (numbers supports ds : List ℕ) where
   constrained_on es left next all l m (inr q) t =
       subst (λ (i : ℕ). ConstrainedSoFar p numbers supports ds es i m all) (sym q.1) (subst (λ (i : ℕ). ConstrainedSoFar p numbers supports ds es left i all) (sym q.2) t)
 
-  pub constrained_end : (es : List ℕ) (left next all : ℕ) → left ≡ 0 → next ≡ 0 → ConstrainedSoFar p numbers supports ds es left next all → Constrained p ds es all
+  pub constrained_end : (es : List ℕ) (left next all : ℕ) → left ≡ 0 → next ≡ 0 → ConstrainedSoFar p numbers supports ds es left next all → ConstraintsLeft p ds es all
   constrained_end es left next all e f t = record {
-    ended = λ q. let h : 16 < p.variables = t.few 16 (subst (λ (n : ℕ). T (has n 16)) (sym q) (subst T (sym (has_one 16 16)) (eqb_refl 16))) in absurd (omega (arith, t.held.well_formed.few));
-    lessened = λ n. record {
+    lessened = record {
       ways = t.ways;
       sixteen = t.sixteen;
       full = take_full p.variables es t.sixteen (omega (arith, t.held.well_formed.few))
@@ -198,12 +197,10 @@ module _ (p : Problem) (numbers supports ds : List ℕ) where
       kept = t.kept;
       few = t.few;
     };
-    smaller = λ n. t.shrunk;
-    fixed = λ n k l b.
+    smaller = t.shrunk;
+    fixed = λ k l b.
         fixed_take p.variables es t.sixteen (omega (arith, t.held.well_formed.few)) (constraint_at p k) (good t.held.well_formed k l).inside
         (t.others k l (ap (λ (n : ℕ). has n k) e ∙ has_none k) (ap (λ (n : ℕ). has n k) f ∙ has_none k) b);
-    sixteen = t.sixteen;
-    less = t.less;
   }
 
 -- ---- one turn: constraint k has pruned
@@ -252,109 +249,105 @@ module _ {p : Problem} {numbers supports ds es : List ℕ} {left₀ next₀ left
   others_i : (j : ℕ) → T (has left j) → T (has others j) ⊎ (j ≡ k)
   others_i = rest_i 64 left (let n = some in omega arith) t.wide
 
-  module _ {fs : List ℕ} {changed : ℕ} (r : Revision (constraint_at p (count_trailing_zeros 64 left)) es fs changed) where
-    way : (prefix : List ℕ) → Prunes p prefix (sets_of p ds) (sets_of p (revised es (constraint_at p (count_trailing_zeros 64 left))))
-    way prefix = prunes_then p prefix (sets_of p ds) (sets_of p es) (sets_of p (revised es c)) (t.ways prefix) (revised_prunes p t.held.well_formed c (is_one p k k_lt) es t.sixteen prefix)
+  way : (prefix : List ℕ) → Prunes p prefix (sets_of p ds) (sets_of p (revised es (constraint_at p (count_trailing_zeros 64 left))))
+  way prefix = prunes_then p prefix (sets_of p ds) (sets_of p es) (sets_of p (revised es c)) (t.ways prefix) (revised_prunes p t.held.well_formed c (is_one p k k_lt) es t.sixteen prefix)
 
-    -- a set would be empty
-    pub constrained_dead : changed ≡ DEAD → Constrained p ds fs DEAD
-    constrained_dead e = record {
-      ended = λ q. let z = r.ended e in (
-        sets_of p (revised es c),
-        (
-          way,
-          take_empty p.variables (revised es c) (revised_sets es c 16 t.sixteen.0) (omega (arith, t.held.well_formed.few)) z.0
-              (c_good.inside z.0 z.1) z.2,
-        ),
-      );
-      lessened = λ m. absurd (m refl);
-      smaller = λ m. absurd (m refl);
-      fixed = λ m. absurd (m refl);
-      sixteen = subst (Sets 16) (sym (r.kept e)) t.sixteen;
-      less = subst (λ (l : List ℕ). Inside l ds) (sym (r.kept e)) t.less;
-    }
+  -- a set would be empty
+  pub constrained_dead : {fs : List ℕ} → Emptied (constraint_at p (count_trailing_zeros 64 left)) es fs → Dead p ds fs
+  constrained_dead r = record {
+    ended = let z = r.ended in (
+      sets_of p (revised es c),
+      (
+        way,
+        take_empty p.variables (revised es c) (revised_sets es c 16 t.sixteen.0) (omega (arith, t.held.well_formed.few)) z.0
+            (c_good.inside z.0 z.1) z.2,
+      ),
+    );
+    sixteen = subst (Sets 16) (sym r.kept) t.sixteen;
+    less = subst (λ (l : List ℕ). Inside l ds) (sym r.kept) t.less;
+  }
 
-    module _ (l : changed ≡ DEAD → ⊥) where
-      pub changed_lt : (x : ℕ) → T (has changed x) → x < 16
-      changed_lt x q = let i = c_good.inside x (in_scope_if c es fs changed t.sixteen r l x q) in omega (arith, t.held.well_formed.few)
+  module _ {fs : List ℕ} {changed : ℕ} (r : Pruned (constraint_at p (count_trailing_zeros 64 left)) es fs changed) where
+    pub changed_lt : (x : ℕ) → T (has changed x) → x < 16
+    changed_lt x q = let i = c_good.inside x (in_scope_if c es fs changed t.sixteen r x q) in omega (arith, t.held.well_formed.few)
 
-      turn_full : (x : ℕ) → x < p.variables → at fs x ≡ 0 → ⊥
-      turn_full x i z = go (has changed x) refl
+    turn_full : (x : ℕ) → x < p.variables → at fs x ≡ 0 → ⊥
+    turn_full x i z = go (has changed x) refl
+      where
+        go : (b : Bool) → has changed x ≡ b → ⊥
+        go false q = t.full x i (sym (still c es fs changed t.sixteen r x q) ∙ z)
+        go true q = r.full x (in_scope_if c es fs changed t.sixteen r x (T_of (has changed x) q)) z
+
+    turn_kept : (x : ℕ) → has (bit_or all changed) x ≡ false → at fs x ≡ at ds x
+    turn_kept x e =
+        still c es fs changed t.sixteen r x (not_of (has changed x) (λ q. of_not (has (bit_or all changed) x) e (or_i all changed x (inr q))))
+        ∙ t.kept x (not_of (has all x) (λ q. of_not (has (bit_or all changed) x) e (or_i all changed x (inl q))))
+
+    turn_few : (x : ℕ) → T (has (bit_or all changed) x) → x < p.variables
+    turn_few x q = ⊎_elim (t.few x) (λ i. c_good.inside x (in_scope_if c es fs changed t.sixteen r x i)) (or_e all changed x q)
+
+    turn_shrunk : (x : ℕ) → T (has (bit_or all changed) x) → size fs < size ds
+    turn_shrunk x q =
+        ⊎_elim (λ i. let a = t.shrunk x i in let b = fewer c es fs changed t.sixteen r in omega (arith, a, b))
+        (λ i. let a = less_if c es fs changed t.sixteen r x i in let b = size_inside es ds (t.sixteen.0 ∙ sym t.long) t.less in omega (arith, a, b)) (or_e all changed x q)
+
+    -- the constraints of g wait for the next round
+    module _ {g : ℕ} (h : g < 2 ^ 64) (u : Waiting numbers changed k (bit_and left (left - 1)) g) where
+      turn_known : (j : ℕ) → T (has others j) ⊎ T (has (bit_or next g) j) → j < length p.constraints
+      turn_known j =
+          ⊎_elim (λ q. t.known j (inl (rest_e 64 left (let n = some in omega arith) t.wide j q)))
+          (λ q. ⊎_elim (λ i. t.known j (inr i)) (λ i. let x = u.waiting_e j i in has_lt (length p.constraints) (at numbers (OTHERS + x.0)) j
+          (t.linked.touching_few x.0 (changed_lt x.0 x.1)) x.2) (or_e next g j q))
+
+      turn_others : (j : ℕ) → j < length p.constraints → has others j ≡ false → has (bit_or next g) j ≡ false → is_by_rows p j ≡ false → Fixed fs (constraint_at p j)
+      turn_others j i e f b = go (ℕ_discrete j k)
         where
-          go : (b : Bool) → has changed x ≡ b → ⊥
-          go false q = t.full x i (sym (still c es fs changed t.sixteen r l x q) ∙ z)
-          go true q = r.full l x (in_scope_if c es fs changed t.sixteen r l x (T_of (has changed x) q)) z
+          out : T (has next j) ⊎ T (has g j) → ⊥
+          out q = of_not (has (bit_or next g) j) f (or_i next g j q)
 
-      turn_kept : (x : ℕ) → has (bit_or all changed) x ≡ false → at fs x ≡ at ds x
-      turn_kept x e =
-          still c es fs changed t.sixteen r l x (not_of (has changed x) (λ q. of_not (has (bit_or all changed) x) e (or_i all changed x (inr q))))
-          ∙ t.kept x (not_of (has all x) (λ q. of_not (has (bit_or all changed) x) e (or_i all changed x (inl q))))
+          go : Dec (j ≡ k) → Fixed fs (constraint_at p j)
+          go (yes q) = subst (λ (i : ℕ). Fixed fs (constraint_at p i)) (sym q) (subst (λ (m : List ℕ). Fixed m c) (sym r.sets)
+              (revised_fixed es c t.sixteen.1 (ascending_sorted c.scope c_good.ordered)))
+          go (no q) =
+              fixed_kept (constraint_at p j) es fs
+              (t.others j i (not_of (has left j) (λ z. ⊎_elim (of_not (has others j) e) q (others_i j z))) (not_of (has next j) (λ z. out (inl z))) b)
+              (λ y z. still c es fs changed t.sixteen r y
+              (not_of (has changed y)
+              (λ a. ⊎_elim (λ v. out (inr v)) (⊎_elim (of_not (has others j) e) q) (u.waiting_i y j a
+              (among_others t.linked j i b y (let d = (good t.held.well_formed j i).inside y z in omega (arith, t.held.well_formed.few)) z)))))
 
-      turn_few : (x : ℕ) → T (has (bit_or all changed) x) → x < p.variables
-      turn_few x q = ⊎_elim (t.few x) (λ i. c_good.inside x (in_scope_if c es fs changed t.sixteen r l x i)) (or_e all changed x q)
+      pub constrained_more : ConstrainedSoFar p numbers supports ds fs (bit_and left (left - 1)) (bit_or next g) (bit_or all changed)
+      constrained_more = record {
+        held = t.held;
+        linked = t.linked;
+        sixteen = after c es fs changed t.sixteen r;
+        wide = lt_of_le_of_lt (and_le_l left (left - 1)) t.wide;
+        wide_next = or_lt 64 next g t.wide_next h;
+        full = turn_full;
+        known = turn_known;
+        others = turn_others;
+        ways = λ prefix. subst (λ (l : List ℕ). Prunes p prefix (sets_of p ds) (sets_of p l)) (sym r.sets) (way prefix);
+        less = λ x v q. t.less x v (inside c es fs changed t.sixteen r x v q);
+        kept = turn_kept;
+        few = turn_few;
+        shrunk = turn_shrunk;
+        long = t.long;
+      }
 
-      turn_shrunk : (x : ℕ) → T (has (bit_or all changed) x) → size fs < size ds
-      turn_shrunk x q =
-          ⊎_elim (λ i. let a = t.shrunk x i in let b = fewer c es fs changed t.sixteen r l in omega (arith, a, b))
-          (λ i. let a = less_if c es fs changed t.sixteen r l x i in let b = size_inside es ds (t.sixteen.0 ∙ sym t.long) t.less in omega (arith, a, b)) (or_e all changed x q)
+      -- something changed: a value less is left
+      pub more_less : changed < 2 ^ 64 → (changed ≡ 0 → ⊥) → measure fs (bit_and left (left - 1)) (bit_or next g) < measure es left₀ next₀
+      more_less i n =
+          let a = less_if c es fs changed t.sixteen r (count_trailing_zeros 64 changed) (low_has 64 changed (omega arith) i).0 in
+          let b : others < 2 ^ 64 = lt_of_le_of_lt (and_le_l left (left - 1)) t.wide in
+          let d = or_lt 64 next g t.wide_next h in
+          omega arith
 
-      -- the constraints of g wait for the next round
-      module _ {g : ℕ} (h : g < 2 ^ 64) (u : Waiting numbers changed k (bit_and left (left - 1)) g) where
-        turn_known : (j : ℕ) → T (has others j) ⊎ T (has (bit_or next g) j) → j < length p.constraints
-        turn_known j =
-            ⊎_elim (λ q. t.known j (inl (rest_e 64 left (let n = some in omega arith) t.wide j q)))
-            (λ q. ⊎_elim (λ i. t.known j (inr i)) (λ i. let x = u.waiting_e j i in has_lt (length p.constraints) (at numbers (OTHERS + x.0)) j
-            (t.linked.touching_few x.0 (changed_lt x.0 x.1)) x.2) (or_e next g j q))
+    -- nothing changed: a constraint less is left
+    pub constrained_same : changed ≡ 0 → ConstrainedSoFar p numbers supports ds fs (bit_and left (left - 1)) next all
+    constrained_same e =
+        subst (ConstrainedSoFar p numbers supports ds fs (bit_and left (left - 1)) next) (ap (bit_or all) e ∙ or_zero_r all)
+        (subst (λ (i : ℕ). ConstrainedSoFar p numbers supports ds fs (bit_and left (left - 1)) i (bit_or all changed)) (or_zero_r next)
+        (constrained_more {g = 0} (omega arith) record { waiting_i = λ x j q i. absurd (has_0 x (subst (λ (z : ℕ). T (has z x)) e q)); waiting_e = λ j q. absurd (has_0 j q) }))
 
-        turn_others : (j : ℕ) → j < length p.constraints → has others j ≡ false → has (bit_or next g) j ≡ false → is_by_rows p j ≡ false → Fixed fs (constraint_at p j)
-        turn_others j i e f b = go (ℕ_discrete j k)
-          where
-            out : T (has next j) ⊎ T (has g j) → ⊥
-            out q = of_not (has (bit_or next g) j) f (or_i next g j q)
-
-            go : Dec (j ≡ k) → Fixed fs (constraint_at p j)
-            go (yes q) = subst (λ (i : ℕ). Fixed fs (constraint_at p i)) (sym q) (subst (λ (m : List ℕ). Fixed m c) (sym (r.sets l))
-                (revised_fixed es c t.sixteen.1 (ascending_sorted c.scope c_good.ordered)))
-            go (no q) =
-                fixed_kept (constraint_at p j) es fs
-                (t.others j i (not_of (has left j) (λ z. ⊎_elim (of_not (has others j) e) q (others_i j z))) (not_of (has next j) (λ z. out (inl z))) b)
-                (λ y z. still c es fs changed t.sixteen r l y
-                (not_of (has changed y)
-                (λ a. ⊎_elim (λ v. out (inr v)) (⊎_elim (of_not (has others j) e) q) (u.waiting_i y j a
-                (among_others t.linked j i b y (let d = (good t.held.well_formed j i).inside y z in omega (arith, t.held.well_formed.few)) z)))))
-
-        pub constrained_more : ConstrainedSoFar p numbers supports ds fs (bit_and left (left - 1)) (bit_or next g) (bit_or all changed)
-        constrained_more = record {
-          held = t.held;
-          linked = t.linked;
-          sixteen = after c es fs changed t.sixteen r l;
-          wide = lt_of_le_of_lt (and_le_l left (left - 1)) t.wide;
-          wide_next = or_lt 64 next g t.wide_next h;
-          full = turn_full;
-          known = turn_known;
-          others = turn_others;
-          ways = λ prefix. subst (λ (l : List ℕ). Prunes p prefix (sets_of p ds) (sets_of p l)) (sym (r.sets l)) (way prefix);
-          less = λ x v q. t.less x v (inside c es fs changed t.sixteen r l x v q);
-          kept = turn_kept;
-          few = turn_few;
-          shrunk = turn_shrunk;
-          long = t.long;
-        }
-
-        -- something changed: a value less is left
-        pub more_less : changed < 2 ^ 64 → (changed ≡ 0 → ⊥) → measure fs (bit_and left (left - 1)) (bit_or next g) < measure es left₀ next₀
-        more_less i n =
-            let a = less_if c es fs changed t.sixteen r l (count_trailing_zeros 64 changed) (low_has 64 changed (omega arith) i).0 in
-            let b : others < 2 ^ 64 = lt_of_le_of_lt (and_le_l left (left - 1)) t.wide in
-            let d = or_lt 64 next g t.wide_next h in
-            omega arith
-
-      -- nothing changed: a constraint less is left
-      pub constrained_same : changed ≡ 0 → ConstrainedSoFar p numbers supports ds fs (bit_and left (left - 1)) next all
-      constrained_same e =
-          subst (ConstrainedSoFar p numbers supports ds fs (bit_and left (left - 1)) next) (ap (bit_or all) e ∙ or_zero_r all)
-          (subst (λ (i : ℕ). ConstrainedSoFar p numbers supports ds fs (bit_and left (left - 1)) i (bit_or all changed)) (or_zero_r next)
-          (constrained_more {g = 0} (omega arith) record { waiting_i = λ x j q i. absurd (has_0 x (subst (λ (z : ℕ). T (has z x)) e q)); waiting_e = λ j q. absurd (has_0 j q) }))
-
-      pub same_less : measure fs (bit_and left (left - 1)) next < measure es left₀ next₀
-      same_less = let a = rest_less left some in let b = fewer c es fs changed t.sixteen r l in let z = chosen_sum s.wide_next o in omega arith
+    pub same_less : measure fs (bit_and left (left - 1)) next < measure es left₀ next₀
+    same_less = let a = rest_less left some in let b = fewer c es fs changed t.sixteen r in let z = chosen_sum s.wide_next o in omega arith

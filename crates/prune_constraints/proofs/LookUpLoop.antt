@@ -1,13 +1,15 @@
 -- Look-ups: one constraint whose first two sets have one value each, and the loop over some of them. Assumes nothing.
-use Rattle.model.specs.Kit.{◌≡◌, refl, sym, ap, ap₂, ◌∙◌, subst, false, not, ◌⊎◌, inl, inr, ⊎_elim, List, [], ◌∷◌, ℕ, ◌+◌, ◌-◌, ◌*◌, ◌^◌, ◌≤◌, ◌<◌, lt_of_le_of_lt, arith, T, eqb_refl, length, bit_and}
+use Rattle.model.specs.Kit.{◌≡◌, refl, sym, ap, ap₂, ◌∙◌, subst, false, not, ◌⊎◌, inl, inr, ⊎_elim, List, [], ◌∷◌, ℕ, ◌+◌, ◌-◌, ◌*◌, ◌^◌, ◌≤◌, ◌<◌, lt_of_le_of_lt, arith, T, length, bit_and}
 use Rattle.model.specs.Kit.{bit_or, and_le_l, count_trailing_zeros, eq-eqb}
+use Rattle.std.specs.Prelude.{Option}
 use Rattle.model.specs.{Lists.at, ValueSets.has, ValueSets.any_empty, Problem.Problem, Problem.constraint_at, Inner.Pruning.Sets}
-use Rattle.model.proofs.{Lists.not_of, Lists.of_not, Lists.T_of, Lists.TExt, Lists.both_i, Lists.mem_at, Sets.has_none, Sets.has_lt, Sets.mask_ext, Sets.member, Masks.has_one, Members.has_0}
+use Rattle.model.proofs.{Lists.not_of, Lists.of_not, Lists.T_of, Lists.TExt, Lists.both_i, Lists.mem_at, Sets.has_none, Sets.has_lt, Sets.mask_ext, Sets.member, Members.has_0}
 use Rattle.model.proofs.{Members.low_has, Members.or_i, Members.or_e, Members.and_e, Members.rest_e, Firsts.take_full}
-use Rattle.arrays.specs.{Inner.Places.SCOPES, Inner.Places.OTHERS, Inner.Places.DEAD, Inner.Places.SUPPORTS, Inner.Layout.variable_in, Inner.Pruning.sets_of}
+use Rattle.arrays.specs.{Inner.Places.SCOPES, Inner.Places.OTHERS, Inner.Places.SUPPORTS, Inner.Layout.variable_in, Inner.Pruning.sets_of}
 use Rattle.arrays.proofs.Links.{good}
-use Rattle.prune_constraints.specs.{Inner.Revised.Revision, Inner.Steps.OneValue, Inner.Steps.Scoped, Inner.Steps.ConstraintsHeld, Inner.Steps.SetCut, Inner.Steps.Touched}
-use Rattle.prune_constraints.specs.Inner.LookUps.{Alone, LookUp, LookUpsPending, LookedUp}
+use Rattle.prune_constraints.specs.Inner.Revised.{Emptied, Pruned, Revision, Dead}
+use Rattle.prune_constraints.specs.Inner.Steps.{OneValue, Scoped, ConstraintsHeld, SetCut, Touched}
+use Rattle.prune_constraints.specs.Inner.LookUps.{Alone, LookUp, LookUpsPending, LookedLeft}
 use Rattle.prune_constraints.proofs.Touching.{touched_of, touched_lt, touched_of_lem}
 use Rattle.prune_constraints.proofs.ConstrainLoop.{without, Chosen, ConstrainedSoFar, constrained_begin, k_few, k_full, changed_lt, constrained_dead, constrained_more}
 use Rattle.prune_constraints.proofs.{Bits.without_has, Unions.single, Rows.revised_inside, Removal.fixed_take, Stores.three_last, Scopes.of_three, Scopes.read_3}
@@ -32,8 +34,8 @@ module _ {p : Problem} {numbers supports ds work : List ℕ} {k v : ℕ} (g : Co
   look_place = let i = of_three refl look_scoped.inside in
       (i.0, i.2, omega (arith, has_lt 16 (at ds x) (at work x) (s.1 x) first.1, has_lt 16 (at ds y) v (s.1 y) second.1, look_scoped.room))
 
-  pub look_made : {es : List ℕ} {r : ℕ} → SetCut ds es z (bit_and (at ds z) (at supports (256 * k + 16 * at work x + v))) r → Revision (constraint_at p k) ds es r
-  look_made {es} {r} a = three_last look_scoped ds s first.0 second.0 _
+  pub look_made : (es : List ℕ) (r : Option ℕ) → SetCut ds es z (bit_and (at ds z) (at supports (256 * k + 16 * at work x + v))) r → Revision (constraint_at p k) ds es r
+  look_made es r a = three_last look_scoped ds s first.0 second.0 _
       (ap₂ (λ (i j : ℕ). 256 * k + 16 * i + j) (single (at ds x) (s.1 x) first.0 (at work x) first.1) (single (at ds y) (s.1 y) second.0 v second.1)) es r a
 
 -- ---- the loop
@@ -79,12 +81,11 @@ module _ {p : Problem} {numbers supports ds work : List ℕ} {todo some v : ℕ}
 
   module _ {es : List ℕ} {left all : ℕ} (t : LookedSoFar p numbers supports ds es todo some left all) where
     -- the end
-    pub looked_end : left ≡ 0 → LookedUp p numbers supports ds es todo some all
+    pub looked_end : left ≡ 0 → LookedLeft p numbers supports ds es todo some all
     looked_end e = record {
-      ended = λ q. let i : 16 < p.variables = u.few 16 (subst (λ (n : ℕ). T (has n 16)) (sym q) (subst T (sym (has_one 16 16)) (eqb_refl 16))) in absurd (omega (arith, n_few));
-      lessened = λ n. record { ways = u.ways; sixteen = u.sixteen; full = full; less = u.less; kept = u.kept; few = u.few };
-      changed = λ n. t.changed;
-      pending = λ n g v. record {
+      lessened = record { ways = u.ways; sixteen = u.sixteen; full = full; less = u.less; kept = u.kept; few = u.few };
+      changed = t.changed;
+      pending = λ g v. record {
         given = record { sixteen = u.sixteen; full = full; inside = λ x i q. w.pending.given.inside x i ((u.ways []).less x i q) };
         well_formed = w.pending.well_formed;
         numbered = w.pending.numbered;
@@ -98,8 +99,6 @@ module _ {p : Problem} {numbers supports ds work : List ℕ} {todo some v : ℕ}
             (not_of (has t.next k) (λ q. of_not (has (bit_or (without todo some) g) k) f
             (or_i (without todo some) g k (⊎_elim inl (λ i. inr (v.touched_i i.0 k i.1 i.2)) (t.due k q))))) b);
       };
-      sixteen = u.sixteen;
-      less = u.less;
     }
       where
         u : ConstrainedSoFar p numbers supports ds es left t.next all
@@ -139,26 +138,18 @@ module _ {p : Problem} {numbers supports ds work : List ℕ} {todo some v : ℕ}
               let m = member (at es (at (constraint_at p k).scope i)) (t.so_far.sixteen.1 _) q.some in
               (q, subst (λ (u : ℕ). T (has (at es (at (constraint_at p k).scope i)) u)) (o.0.only m.0 a (t.so_far.less _ m.0 m.2) o.1) m.2)
 
-      module _ {fs : List ℕ} {changed : ℕ} (r : Revision (constraint_at p (count_trailing_zeros 64 left)) es fs changed) where
-        pub looked_dead : changed ≡ DEAD → LookedUp p numbers supports ds fs todo some DEAD
-        looked_dead e = let d = constrained_dead t.so_far on r e in record {
-          ended = λ q. d.ended refl;
-          lessened = λ m. absurd (m refl);
-          changed = λ m. absurd (m refl);
-          pending = λ m. absurd
-              (m refl);
-          sixteen = d.sixteen;
-          less = d.less;
-        }
+      pub looked_dead : {fs : List ℕ} → Emptied (constraint_at p (count_trailing_zeros 64 left)) es fs → Dead p ds fs
+      looked_dead r = constrained_dead t.so_far on r
 
-        pub looked_turn : (changed ≡ DEAD → ⊥) → LookedSoFar p numbers supports ds fs todo some (bit_and left (left - 1)) (bit_or all changed)
-        looked_turn l = record {
+      module _ {fs : List ℕ} {changed : ℕ} (r : Pruned (constraint_at p (count_trailing_zeros 64 left)) es fs changed) where
+        pub looked_turn : LookedSoFar p numbers supports ds fs todo some (bit_and left (left - 1)) (bit_or all changed)
+        looked_turn = record {
           next = bit_or t.next (touched_of numbers changed);
-          so_far = constrained_more t.so_far on r l (touched_lt numbers changed) record { waiting_i = λ x j q i. inl (touched.touched_i x j q i); waiting_e = touched.touched_e };
+          so_far = constrained_more t.so_far on r (touched_lt numbers changed) record { waiting_i = λ x j q i. inl (touched.touched_i x j q i); waiting_e = touched.touched_e };
           due = λ j q. ⊎_elim (λ i. ⊎_elim inl (λ d. inr (d.0, or_i all changed d.0 (inl d.1), d.2)) (t.due j i))
               (λ i. let x = touched.touched_e j i in inr (x.0, or_i all changed x.0 (inr x.1), x.2)) (or_e t.next (touched_of numbers changed) j q);
           among = λ j q. t.among j (rest_e 64 left (omega arith) t.so_far.wide j q);
-          changed = λ x q e. ⊎_elim (λ i. t.changed x i (between x e)) (λ i. subst T (r.moved l x ∙ ap not (eq-eqb (at fs x) (at es x) (e ∙ sym (between x e)))) i) (or_e all changed x q);
+          changed = λ x q e. ⊎_elim (λ i. t.changed x i (between x e)) (λ i. subst T (r.moved x ∙ ap not (eq-eqb (at fs x) (at es x) (e ∙ sym (between x e)))) i) (or_e all changed x q);
         }
           where
             -- a set that is as it was at first has been so on the way
@@ -166,7 +157,7 @@ module _ {p : Problem} {numbers supports ds work : List ℕ} {todo some v : ℕ}
             between x e =
                 mask_ext 16 (at es x) (at ds x) (t.so_far.sixteen.1 x) (w.pending.given.sixteen.1 x)
                 (λ v b. TExt (has (at es x) v) (has (at ds x) v) (t.so_far.less x v) (λ q. revised_inside es (constraint_at p k) x v
-                (subst (λ (m : List ℕ). T (has (at m x) v)) (r.sets l) (subst (λ (s : ℕ). T (has s v)) (sym e) q))))
+                (subst (λ (m : List ℕ). T (has (at m x) v)) r.sets (subst (λ (s : ℕ). T (has s v)) (sym e) q))))
 
             touched : Touched numbers changed (touched_of numbers changed)
-            touched = touched_of_lem t.so_far.linked t.so_far.held.well_formed.most changed (changed_lt t.so_far on r l)
+            touched = touched_of_lem t.so_far.linked t.so_far.held.well_formed.most changed (changed_lt t.so_far on r)

@@ -1,16 +1,17 @@
 -- One constraint prunes the sets: the stores of the three functions, for scopes of one, two and three variables. Assumes nothing.
 use Rattle.model.specs.Kit.{◌≡◌, refl, sym, ap, ap₂, ◌∙◌, subst, Bool, true, false, not, inl, inr, List, [], ◌∷◌, ◌++◌, Memᴰ, Memᴰ-head, Memᴰ-tail, Memᴰ-not_nil, ℕ, suc, ◌+◌, ◌*◌}
-use Rattle.model.specs.Kit.{◌^◌, ◌<◌, lt_of_le_of_lt, arith, ℕ_discrete, T, eqb, eqb_refl, lit<, length, set, length-set, bit_and, bit_or, and_le_l, or_lt, eq-eqb, ne_eqb}
+use Rattle.model.specs.Kit.{◌^◌, ◌<◌, lt_of_le_of_lt, arith, ℕ_discrete, T, eqb, eqb_refl, lit<, length, set, length-set, bit_and, bit_or, and_le_l, eq-eqb, ne_eqb}
 use Rattle.model.specs.Lists.{both, either, any, at, same, ascending}
 use Rattle.model.specs.{ValueSets.has, ValueSets.lowest_of, ValueSets.one_if, Problem.Constraint, Search.supported, Inner.Pruning.Sets}
 use Rattle.model.proofs.{Lists.T_of, Lists.of_T, Lists.of_not, Lists.any_i, Lists.any_e, Lists.among_i, Lists.among_e, Lists.same_eq, Lists.same_refl, Lists.Sorted, Lists.ascending_sorted}
 use Rattle.model.proofs.{Lists.at_set, Lists.at_set_other, Lists.set_at, Lists.both_true, Lists.both_false, Lists.at_small_1, Lists.at_small_2, Sets.has_lt, Sets.mask_i, Sets.mask_e, Sets.member}
 use Rattle.model.proofs.{Sets.set_sets, Masks.has_or, Masks.has_one_if, Members.either_no, Members.rest_begin, Members.has_0, Members.and_i, Members.and_e, Members.lowest_left}
-use Rattle.arrays.specs.{Inner.Places.DEAD, Inner.Layout.place}
-use Rattle.prune_constraints.specs.{Inner.Revised.revised, Inner.Revised.Revision, Inner.Steps.OneValue, Inner.Steps.Together, Inner.Steps.Supported2, Inner.Steps.Together3}
-use Rattle.prune_constraints.specs.Inner.Steps.{Supported3, Scoped, SetCut}
+use Rattle.arrays.specs.Inner.Layout.{place}
+use Rattle.std.specs.Prelude.{Option, None, Some}
+use Rattle.prune_constraints.specs.Inner.Revised.{revised, Emptied, Pruned, Revision}
+use Rattle.prune_constraints.specs.Inner.Steps.{OneValue, Together, Supported2, Together3, Supported3, Scoped, SetEmptied, SetStored, SetCut}
 use Rattle.prune_constraints.proofs.Rows.{RowIn, PairIn, alive, pair_has, supported_e, supported_i, supported_out, revised_is}
-use Rattle.prune_constraints.proofs.{Bits.one_small, Unions.single, Unions.supported3_none}
+use Rattle.prune_constraints.proofs.{Unions.single, Unions.supported3_none}
 
 -- ---- the sets that changed
 abbrev pub Moves : List ℕ → List ℕ → ℕ → Type 0
@@ -84,25 +85,12 @@ module _ {c : Constraint} {supports : List ℕ} {k : ℕ} {scope : List ℕ} (p 
   here x m = omega (arith, p.inside x m, s.0)
 
 -- ---- a revision from its parts
-moved_lt : (a b m x : ℕ) → m ≡ one_if (not (eqb b a)) x → x < 16 → m < 2 ^ 16
-moved_lt a b m x e h = subst (λ (i : ℕ). i < 2 ^ 16) (sym e) (one_small (not (eqb b a)) x h)
-
 -- the set of x is cut to b, which is t
-pub cut_dead : (ds : List ℕ) (x t b : ℕ) → b ≡ t → b ≡ 0 → SetCut ds ds x t DEAD
-cut_dead ds x t b q e = subst (λ (z : ℕ). SetCut ds ds x z DEAD) q record { ended = λ q. e; kept = λ q. refl; full = λ n. absurd (n refl); stored = λ n. absurd (n refl); moved = λ n. absurd (n refl) }
+pub cut_dead : (ds : List ℕ) (t b : ℕ) → b ≡ t → b ≡ 0 → SetEmptied ds ds t
+cut_dead ds t b q e = record { ended = sym q ∙ e; kept = refl }
 
-pub cut_live : (ds : List ℕ) (x t b r : ℕ) → b ≡ t → x < 16 → (b ≡ 0 → ⊥) → r ≡ one_if (not (eqb b (at ds x))) x → SetCut ds (set ds x b) x t r
-cut_live ds x t b r q h n e = subst (λ (z : ℕ). SetCut ds (set ds x b) x z r) q record {
-  ended = λ q. absurd (never q);
-  kept = λ q. absurd
-      (never q);
-  full = λ m. n;
-  stored = λ m. refl;
-  moved = λ m. e;
-}
-  where
-    never : r ≡ DEAD → ⊥
-    never q = let l = one_small (not (eqb b (at ds x))) x h in omega (arith, e, q)
+pub cut_live : (ds : List ℕ) (x t b r : ℕ) → b ≡ t → (b ≡ 0 → ⊥) → r ≡ one_if (not (eqb b (at ds x))) x → SetStored ds (set ds x b) x t r
+cut_live ds x t b r q n e = subst (λ (z : ℕ). SetStored ds (set ds x b) x z r) q record { full = n; stored = refl; moved = e }
 
 module _ {c : Constraint} {supports : List ℕ} {k : ℕ} {scope : List ℕ} (p : Scoped c supports k scope) (ds : List ℕ) (s : Sets 16 ds) where
   of_c : (x : ℕ) → Memᴰ x scope → Memᴰ x c.scope
@@ -115,29 +103,19 @@ module _ {c : Constraint} {supports : List ℕ} {k : ℕ} {scope : List ℕ} (p 
   all_full y m es e n x i z = alive ds c s.1 sorted y (of_c y m) (λ q. n (ap (λ (l : List ℕ). at l y) e ∙ q)) x i (sym (ap (λ (l : List ℕ). at l x) e) ∙ z)
 
   -- the sets are stored, and that of y is not empty
-  live : (y : ℕ) → Memᴰ y scope → (es : List ℕ) (r : ℕ) → es ≡ revised ds c → (at es y ≡ 0 → ⊥) → r < 2 ^ 16 → Moves ds es r → Revision c ds es r
-  live y m es r e n l h = record { ended = λ q. absurd (omega (arith, q)); kept = λ q. absurd (omega (arith, q)); sets = λ q. e; full = λ q. all_full y m es e n; moved = λ q. h }
+  live : (y : ℕ) → Memᴰ y scope → (es : List ℕ) (r : ℕ) → es ≡ revised ds c → (at es y ≡ 0 → ⊥) → Moves ds es r → Pruned c ds es r
+  live y m es r e n h = record { sets = e; full = all_full y m es e n; moved = h }
 
   -- nothing is stored, since that of y would be empty
-  dead : (y : ℕ) → Memᴰ y scope → (es : List ℕ) → es ≡ revised ds c → at es y ≡ 0 → Revision c ds ds DEAD
-  dead y m es e z = record {
-    ended = λ q. (y, of_c y m, sym (ap (λ (l : List ℕ). at l y) e) ∙ z);
-    kept = λ q. refl;
-    sets = λ n. absurd (n refl);
-    full = λ n. absurd (n refl);
-    moved = λ n. absurd
-        (n refl);
-  }
+  dead : (y : ℕ) → Memᴰ y scope → (es : List ℕ) → es ≡ revised ds c → at es y ≡ 0 → Emptied c ds ds
+  dead y m es e z = record { ended = (y, of_c y m, sym (ap (λ (l : List ℕ). at l y) e) ∙ z); kept = refl }
 
   -- the set of y alone is cut to t
-  cut : (y t : ℕ) → Memᴰ y scope → (es : List ℕ) (r : ℕ) → SetCut ds es y t r → (t ≡ 0 → at (revised ds c) y ≡ 0) → ((t ≡ 0 → ⊥) → set ds y t ≡ revised ds c) → Revision c ds es r
-  cut y t m es r u z e = record {
-    ended = λ q. (y, of_c y m, z (u.ended q));
-    kept = u.kept;
-    sets = λ n. u.stored n ∙ e (u.full n);
-    full = λ n. all_full y m es (u.stored n ∙ e (u.full n)) (λ q. u.full n (sym (ap (λ (l : List ℕ). at l y) (u.stored n) ∙ at_set ds y t (here p ds s y m)) ∙ q));
-    moved = λ n. subst (λ (l : List ℕ). Moves ds l r) (sym (u.stored n)) (moves_one ds y t r (u.moved n) (here p ds s y m));
-  }
+  cut : (y t : ℕ) → Memᴰ y scope → (es : List ℕ) (r : Option ℕ) → SetCut ds es y t r → (t ≡ 0 → at (revised ds c) y ≡ 0) → ((t ≡ 0 → ⊥) → set ds y t ≡ revised ds c) → Revision c ds es r
+  cut y t m es None u z e = record { ended = (y, of_c y m, z u.ended); kept = u.kept }
+  cut y t m es (Some r) u z e =
+      live y m es r (u.stored ∙ e u.full) (λ q. u.full (sym (ap (λ (l : List ℕ). at l y) u.stored ∙ at_set ds y t (here p ds s y m)) ∙ q))
+      (subst (λ (l : List ℕ). Moves ds l r) (sym u.stored) (moves_one ds y t r u.moved (here p ds s y m)))
 
 -- ---- the table
 module _ {c : Constraint} {supports : List ℕ} {k : ℕ} {scope : List ℕ} (p : Scoped c supports k scope) (vs : List ℕ) (l : suc (length vs) ≡ length scope)
@@ -194,7 +172,7 @@ module _ {c : Constraint} {supports : List ℕ} {k x : ℕ} (p : Scoped c suppor
           (v ∷ [], table_e p [] refl below_0 (256 * k) base v q.1, (q.0, tt), inl (e, refl))
       comes y v (Memᴰ-tail m) h = absurd (Memᴰ-not_nil m)
 
-  pub one : (es : List ℕ) (r : ℕ) → SetCut ds es x (bit_and (at ds x) (at supports (256 * k))) r → Revision c ds es r
+  pub one : (es : List ℕ) (r : Option ℕ) → SetCut ds es x (bit_and (at ds x) (at supports (256 * k))) r → Revision c ds es r
   one es r u =
       cut p ds s x t (Memᴰ-head refl) es r u (λ z. sym (ap (λ (l : List ℕ). at l x) one_set) ∙ at_set ds x t (here p ds s x (Memᴰ-head refl)) ∙ z) (λ n. one_set)
     where
@@ -260,13 +238,12 @@ module _ {c : Constraint} {supports : List ℕ} {k x y : ℕ} (p : Scoped c supp
           (q.0 ∷ w ∷ [], r.0, r.1, inr (inl (e, refl)))
       comes z v (Memᴰ-tail (Memᴰ-tail m)) h = absurd (Memᴰ-not_nil m)
 
-  pub two : (m n : ℕ) → m ≡ one_if (not (eqb first (at ds x))) x → n ≡ one_if (not (eqb last (at ds y))) y → (last ≡ 0 → ⊥) → Revision c ds (set (set ds x first) y last) (bit_or m n)
+  pub two : (m n : ℕ) → m ≡ one_if (not (eqb first (at ds x))) x → n ≡ one_if (not (eqb last (at ds y))) y → (last ≡ 0 → ⊥) → Pruned c ds (set (set ds x first) y last) (bit_or m n)
   two m n q o e =
       live p ds s y my_2 (set (set ds x first) y last) (bit_or m n) two_sets (λ z. e (sym at_y_2 ∙ z))
-      (or_lt 16 m n (moved_lt (at ds x) first m x q (p.inside x mx_2)) (moved_lt (at ds y) last n y o (p.inside y my_2)))
       (moves_more ds (set ds x first) m y last n o (moves_one ds x first m q lx_2) ly_2 (at_set_other ds x first y (λ e. omega (arith, x<y_2, e))))
 
-  pub two_dead : last ≡ 0 → Revision c ds ds DEAD
+  pub two_dead : last ≡ 0 → Emptied c ds ds
   two_dead e = dead p ds s y my_2 (set (set ds x first) y last) two_sets (at_y_2 ∙ e)
 
 -- ---- a scope of three variables
@@ -365,19 +342,17 @@ module _ {c : Constraint} {supports : List ℕ} {k x y z : ℕ} (p : Scoped c su
       comes i v (Memᴰ-tail (Memᴰ-tail (Memᴰ-tail m))) q = absurd (Memᴰ-not_nil m)
 
   pub three : (m n i : ℕ) → m ≡ one_if (not (eqb first (at ds x))) x → n ≡ one_if (not (eqb second (at ds y))) y → i ≡ one_if (not (eqb last (at ds z))) z → (last ≡ 0 → ⊥) →
-      Revision c ds (set (set (set ds x first) y second) z last) (bit_or (bit_or m n) i)
+      Pruned c ds (set (set (set ds x first) y second) z last) (bit_or (bit_or m n) i)
   three m n i q o a e =
       live p ds s z mz_3 (set (set (set ds x first) y second) z last) (bit_or (bit_or m n) i) three_sets (λ t. e (sym at_z_3 ∙ t))
-      (or_lt 16 (bit_or m n) i
-      (or_lt 16 m n (moved_lt (at ds x) first m x q (p.inside x mx_3)) (moved_lt (at ds y) second n y o (p.inside y my_3))) (moved_lt (at ds z) last i z a (p.inside z mz_3)))
       (moves_more ds (set (set ds x first) y second) (bit_or m n) z last i a
       (moves_more ds (set ds x first) m y second n o (moves_one ds x first m q lx_3) ly_3 (at_set_other ds x first y (λ e. omega (arith, x<y_3, e)))) lz_3
       (at_set_other (set ds x first) y second z (λ e. omega (arith, y<z_3, e)) ∙ at_set_other ds x first z (λ e. omega (arith, x<y_3, y<z_3, e))))
 
   -- nothing is lost
-  pub three_same : first ≡ at ds x → second ≡ at ds y → last ≡ at ds z → (last ≡ 0 → ⊥) → Revision c ds ds 0
+  pub three_same : first ≡ at ds x → second ≡ at ds y → last ≡ at ds z → (last ≡ 0 → ⊥) → Pruned c ds ds 0
   three_same i o a e =
-      subst (λ (l : List ℕ). Revision c ds l 0)
+      subst (λ (l : List ℕ). Pruned c ds l 0)
       (ap (λ (v : ℕ). set (set (set ds x v) y second) z last) i ∙ ap (λ (l : List ℕ). set (set l y second) z last) (set_at ds x) ∙ ap (λ (v : ℕ). set (set ds y v) z last) o
       ∙ ap (λ (l : List ℕ). set l z last) (set_at ds y) ∙ ap (set ds z) a ∙ set_at ds z)
       (three 0 0 0 (none first (at ds x) x i) (none second (at ds y) y o) (none last (at ds z) z a) e)
@@ -385,15 +360,15 @@ module _ {c : Constraint} {supports : List ℕ} {k x y z : ℕ} (p : Scoped c su
       none : (v w u : ℕ) → v ≡ w → 0 ≡ one_if (not (eqb v w)) u
       none v w u q = sym (ap (λ (b : Bool). one_if (not b) u) (eq-eqb v w q))
 
-  pub three_dead : last ≡ 0 → Revision c ds ds DEAD
+  pub three_dead : last ≡ 0 → Emptied c ds ds
   three_dead e = dead p ds s z mz_3 (set (set (set ds x first) y second) z last) three_sets (at_z_3 ∙ e)
 
 -- the first set stays as it is
 module _ {c : Constraint} {supports : List ℕ} {k x y z : ℕ} (p : Scoped c supports k (x ∷ y ∷ z ∷ [])) (ds : List ℕ) (s : Sets 16 ds) (second last : ℕ) (g : second < 2 ^ 16) (h : last < 2 ^ 16)
     (j : Supported3 (Together3 supports (256 * k) (at ds x) (at ds y) (at ds z)) (at ds x) second last) where
-  pub three_rest : (n i : ℕ) → n ≡ one_if (not (eqb second (at ds y))) y → i ≡ one_if (not (eqb last (at ds z))) z → (last ≡ 0 → ⊥) → Revision c ds (set (set ds y second) z last) (bit_or n i)
+  pub three_rest : (n i : ℕ) → n ≡ one_if (not (eqb second (at ds y))) y → i ≡ one_if (not (eqb last (at ds z))) z → (last ≡ 0 → ⊥) → Pruned c ds (set (set ds y second) z last) (bit_or n i)
   three_rest n i o a e =
-      subst (λ (l : List ℕ). Revision c ds (set (set l y second) z last) (bit_or n i)) (set_at ds x)
+      subst (λ (l : List ℕ). Pruned c ds (set (set l y second) z last) (bit_or n i)) (set_at ds x)
       (three p ds s (at ds x) second last (s.1 x) g h j 0 n i (sym (ap (λ (b : Bool). one_if (not b) x) (eq-eqb (at ds x) (at ds x) refl))) o a e)
 
 -- ---- two of three sets have one value: one set of the table cuts the third
@@ -452,7 +427,7 @@ module _ {c : Constraint} {supports : List ℕ} {k x y z : ℕ} (p : Scoped c su
       m : M u v w
       m = together_i w (member t (lt_of_le_of_lt (and_le_l (at ds z) (at supports (256 * k + 16 * u + v))) (s.1 z)) n).2
 
-  pub three_last : (i : ℕ) → i ≡ 256 * k + 16 * lowest_of (at ds x) + lowest_of (at ds y) → (es : List ℕ) (r : ℕ) → SetCut ds es z (bit_and (at ds z) (at supports i)) r → Revision c ds es r
+  pub three_last : (i : ℕ) → i ≡ 256 * k + 16 * lowest_of (at ds x) + lowest_of (at ds y) → (es : List ℕ) (r : Option ℕ) → SetCut ds es z (bit_and (at ds z) (at supports i)) r → Revision c ds es r
   three_last i f es r a =
       cut p ds s z t mz es r (subst (λ (n : ℕ). SetCut ds es z (bit_and (at ds z) (at supports n)) r) f a)
       (λ e. sym (ap (λ (l : List ℕ). at l z) (three_sets p ds s 0 0 0 (lit< tt) (lit< tt) (lit< tt) (none e))) ∙ at_z_3 p ds s 0 0 0 (lit< tt) (lit< tt) (lit< tt) (none e))

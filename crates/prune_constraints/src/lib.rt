@@ -16,9 +16,7 @@ ghost use Rattle.prune_constraints.specs.Inner.Steps.{Touched, Masks, Met, FullS
 ghost use Rattle.prune_constraints.specs.Inner.LookUps.{LookUp, LookUpsPending, LookedUp};
 ghost use Rattle.prune_constraints.specs.Inner.Lanes.{FullLanes, LaneUnion, FullHeads, Halves, TogetherIn, InLanes, InLane};
 
-use arrays::{
-    DEAD, Numbers, OTHERS, SCOPES, SPREAD, Supports, UNIONS, VALUES, Work, arity, scope_at,
-};
+use arrays::{Numbers, OTHERS, SCOPES, SPREAD, Supports, UNIONS, VALUES, Work, arity, scope_at};
 use model::ValueSet;
 
 // Bits of a number of eight lanes: the first of each lane, the first two of each second, the first four of each fourth.
@@ -94,10 +92,8 @@ fn masks(b: ValueSet, e: ValueSet) -> [u16; 16]
     ensures { Masks b.bits e.bits result }
 {
     let mut all = [0u16; 16];
-    let mut v = 0;
-    while v < 16 {
+    for v in 0..16 {
         all[v] = mask(b, e, v as u16);
-        v += 1;
     }
     all
 }
@@ -109,12 +105,10 @@ fn meet(supports: &Supports, base: usize, masks: &[u16; 16], all: &mut [u16; 16]
     ensures { Met supports.now base masks.now all.old all.new result }
 {
     let mut some = 0u16;
-    let mut v = 0;
-    while v < 16 {
+    for v in 0..16 {
         let t = supports[base + v] & masks[v];
-        all[v] = all[v] | t;
-        some = some | t;
-        v += 1;
+        all[v] |= t;
+        some |= t;
     }
     some
 }
@@ -147,7 +141,7 @@ fn supported3(supports: &Supports, base: usize, a: ValueSet, b: ValueSet, e: Val
         let u = left.lowest();
         let some = meet(supports, base + 16 * (u as usize), &masks, &mut all);
         first = first.union(one_if(some != 0, u));
-        last = last | some;
+        last |= some;
         left = left.without_lowest();
     }
     Three {
@@ -244,14 +238,14 @@ fn quiet16(supports: &Supports, base: usize, b: ValueSet, e: ValueSet) -> bool
         if t == 0 {
             return false;
         }
-        all = all | t;
+        all |= t;
         left = left.without_lowest();
     }
     all == e.bits
 }
 
 // Prunes one set by a set of the table.
-fn revise_one(sets: &mut [u16; 16], supports: &Supports, offset: usize, x: usize) -> u64
+fn revise_one(sets: &mut [u16; 16], supports: &Supports, offset: usize, x: usize) -> Option<u64>
     requires sets { Sets 16 sets.old }
     requires x_bound { x < 16 }
     requires offset_bound { offset < SUPPORTS }
@@ -263,13 +257,19 @@ fn revise_one(sets: &mut [u16; 16], supports: &Supports, offset: usize, x: usize
     };
     let b = a.common(support);
     if b.is_empty() {
-        return DEAD;
+        return None;
     }
     sets[x] = b.bits;
-    moved(a, b, x)
+    Some(moved(a, b, x))
 }
 
-fn revise_two(sets: &mut [u16; 16], supports: &Supports, k: usize, x: usize, y: usize) -> u64
+fn revise_two(
+    sets: &mut [u16; 16],
+    supports: &Supports,
+    k: usize,
+    x: usize,
+    y: usize,
+) -> Option<u64>
     requires sets { Sets 16 sets.old }
     requires scoped { (c : Constraint) × Scoped c supports.now k (x ∷ y ∷ []) }
     ensures { (c : Constraint) → Scoped c supports.now k (x ∷ y ∷ []) → Revision c sets.old sets.new result }
@@ -280,15 +280,22 @@ fn revise_two(sets: &mut [u16; 16], supports: &Supports, k: usize, x: usize, y: 
     let first = r.first;
     let last = r.last;
     if last.is_empty() {
-        return DEAD;
+        return None;
     }
     sets[x] = first.bits;
     sets[y] = last.bits;
-    moved(a, first, x) | moved(b, last, y)
+    Some(moved(a, first, x) | moved(b, last, y))
 }
 
 // Prunes by constraint number k, whose first set has one value: the other two along that value's lane.
-fn along(sets: &mut [u16; 16], numbers: &Numbers, k: usize, x: usize, y: usize, z: usize) -> u64
+fn along(
+    sets: &mut [u16; 16],
+    numbers: &Numbers,
+    k: usize,
+    x: usize,
+    y: usize,
+    z: usize,
+) -> Option<u64>
     requires sets { Sets 16 sets.old }
     requires by_index { (supports : List ℕ) × Words numbers.now supports × (at numbers.now (SCOPES + k) % 256 ≡ 3) × (c : Constraint) × Scoped c supports k
         (x ∷ y ∷ z ∷ []) }
@@ -303,17 +310,17 @@ fn along(sets: &mut [u16; 16], numbers: &Numbers, k: usize, x: usize, y: usize, 
     let u = a.lowest() as usize;
     let last = in_lane(numbers, UNIONS + 64 * k, b, u, e);
     if last.is_empty() {
-        return DEAD;
+        return None;
     }
     let second = in_lane(numbers, UNIONS + 64 * k + 32, e, u, b);
     if last.bits == e.bits {
         if second.bits == b.bits {
-            return 0;
+            return Some(0);
         }
     }
     sets[y] = second.bits;
     sets[z] = last.bits;
-    moved(b, second, y) | moved(e, last, z)
+    Some(moved(b, second, y) | moved(e, last, z))
 }
 
 // Prunes by constraint number k, whose first two sets have one value each: one set of the table cuts the third.
@@ -324,7 +331,7 @@ fn revise_last(
     x: usize,
     y: usize,
     z: usize,
-) -> u64
+) -> Option<u64>
     requires sets { Sets 16 sets.old }
     requires one_value { OneValue (at sets.old x) × OneValue (at sets.old y) }
     requires scoped { (c : Constraint) × Scoped c supports.now k (x ∷ y ∷ z ∷ []) }
@@ -343,7 +350,7 @@ fn revise_rest(
     x: usize,
     y: usize,
     z: usize,
-) -> u64
+) -> Option<u64>
     requires sets { Sets 16 sets.old }
     requires one_value { OneValue (at sets.old x) × (at sets.old z ≡ 0 → ⊥) }
     requires scoped { (c : Constraint) × Scoped c supports.now k (x ∷ y ∷ z ∷ []) }
@@ -354,21 +361,21 @@ fn revise_rest(
     let e = ValueSet { bits: sets[z] };
     let base = 256 * k + 16 * (a.lowest() as usize);
     if quiet16(supports, base, b, e) {
-        return 0;
+        return Some(0);
     }
     let r = supported2(supports, base, b, e);
     let second = r.first;
     let last = r.last;
     if last.is_empty() {
-        return DEAD;
+        return None;
     }
     sets[y] = second.bits;
     sets[z] = last.bits;
-    moved(b, second, y) | moved(e, last, z)
+    Some(moved(b, second, y) | moved(e, last, z))
 }
 
 // Leaves of each of three sets the values t that go together with some of the other two.
-fn leave(sets: &mut [u16; 16], x: usize, y: usize, z: usize, t: Three) -> u64
+fn leave(sets: &mut [u16; 16], x: usize, y: usize, z: usize, t: Three) -> Option<u64>
     requires sets { Sets 16 sets.old }
     requires x_bound { (x < 16) × (y < 16) × (z < 16) }
     ensures { (c : Constraint) (supports : List ℕ) (k : ℕ) → Scoped c supports k (x ∷ y ∷ z ∷ []) → Supported3
@@ -382,19 +389,26 @@ fn leave(sets: &mut [u16; 16], x: usize, y: usize, z: usize, t: Three) -> u64
     let second = t.second;
     let last = t.last;
     if last.is_empty() {
-        return DEAD;
+        return None;
     }
     if ((first.bits ^ a.bits) | (second.bits ^ b.bits) | (last.bits ^ e.bits)) == 0 {
-        return 0;
+        return Some(0);
     }
     sets[x] = first.bits;
     sets[y] = second.bits;
     sets[z] = last.bits;
-    moved(a, first, x) | moved(b, second, y) | moved(e, last, z)
+    Some(moved(a, first, x) | moved(b, second, y) | moved(e, last, z))
 }
 
 // Prunes by constraint number k: all three sets along the lanes by the first variable.
-fn across(sets: &mut [u16; 16], numbers: &Numbers, k: usize, x: usize, y: usize, z: usize) -> u64
+fn across(
+    sets: &mut [u16; 16],
+    numbers: &Numbers,
+    k: usize,
+    x: usize,
+    y: usize,
+    z: usize,
+) -> Option<u64>
     requires sets { Sets 16 sets.old }
     requires by_index { (supports : List ℕ) × Words numbers.now supports × (at numbers.now (SCOPES + k) % 256 ≡ 3) × (c : Constraint) × Scoped c supports k
         (x ∷ y ∷ z ∷ []) }
@@ -413,7 +427,7 @@ fn across(sets: &mut [u16; 16], numbers: &Numbers, k: usize, x: usize, y: usize,
     if fills(numbers, by_second, a) {
         if second.bits == b.bits {
             if last.bits == e.bits {
-                return 0;
+                return Some(0);
             }
         }
     }
@@ -426,7 +440,7 @@ fn across(sets: &mut [u16; 16], numbers: &Numbers, k: usize, x: usize, y: usize,
 }
 
 // Prunes by constraint number k, on one or two variables.
-fn revise_few(sets: &mut [u16; 16], numbers: &Numbers, supports: &Supports, k: usize) -> u64
+fn revise_few(sets: &mut [u16; 16], numbers: &Numbers, supports: &Supports, k: usize) -> Option<u64>
     requires sets { Sets 16 sets.old }
     requires fact { at numbers.now (SCOPES + k) % 256 ≡ 3 → ⊥ }
     requires constraints_held { (p : Problem) × ConstraintsHeld p numbers.now supports.now × (k < length p.constraints) }
@@ -442,9 +456,9 @@ fn revise_few(sets: &mut [u16; 16], numbers: &Numbers, supports: &Supports, k: u
     revise_one(sets, supports, 256 * k, x)
 }
 
-// Prunes by constraint number k: DEAD where a set would be empty, else the set of the variables whose sets changed. It has two callers, so that the compiler
+// Prunes by constraint number k: None where a set would be empty, else the set of the variables whose sets changed. It has two callers, so that the compiler
 // leaves it out of the loops; for that revise8 asks it for constraints on one variable.
-fn revise_any(sets: &mut [u16; 16], numbers: &Numbers, supports: &Supports, k: usize) -> u64
+fn revise_any(sets: &mut [u16; 16], numbers: &Numbers, supports: &Supports, k: usize) -> Option<u64>
     requires sets { Sets 16 sets.old }
     requires constraints_held { (p : Problem) × ConstraintsHeld p numbers.now supports.now × (k < length p.constraints) }
     ensures { (p : Problem) → ConstraintsHeld p numbers.now supports.now → k < length p.constraints → Revision
@@ -465,7 +479,7 @@ fn revise_any(sets: &mut [u16; 16], numbers: &Numbers, supports: &Supports, k: u
 }
 
 // The same, where a first set of one value leaves less to do.
-fn revise16(sets: &mut [u16; 16], numbers: &Numbers, supports: &Supports, k: usize) -> u64
+fn revise16(sets: &mut [u16; 16], numbers: &Numbers, supports: &Supports, k: usize) -> Option<u64>
     requires sets { Sets 16 sets.old }
     requires constraints_held { (p : Problem) × ConstraintsHeld p numbers.now supports.now × (k < length p.constraints) × Nonempty (constraint_at p k).scope
         sets.old }
@@ -491,7 +505,7 @@ fn revise16(sets: &mut [u16; 16], numbers: &Numbers, supports: &Supports, k: usi
 }
 
 // The same for sets of values below 8, by numbers of lanes: one where the first set has one value, else two; and no store where nothing is lost.
-fn revise8(sets: &mut [u16; 16], numbers: &Numbers, supports: &Supports, k: usize) -> u64
+fn revise8(sets: &mut [u16; 16], numbers: &Numbers, supports: &Supports, k: usize) -> Option<u64>
     requires sets { Sets 16 sets.old }
     requires constraints_held { (p : Problem) × ConstraintsHeld p numbers.now supports.now × (k < length p.constraints) × Nonempty (constraint_at p k).scope
         sets.old × Narrow (constraint_at p k).scope sets.old × (at numbers.now VALUES < 9) }
@@ -526,8 +540,8 @@ pub fn touched(numbers: &Numbers, changed: u64) -> u64
     let mut all = 0u64;
     let mut m = changed;
     while m != 0 {
-        all = all | numbers[OTHERS + (u64::trailing_zeros(m) as usize)];
-        m = m & (m - 1);
+        all |= numbers[OTHERS + (u64::trailing_zeros(m) as usize)];
+        m &= m - 1;
     }
     all
 }
@@ -551,7 +565,12 @@ fn round(due: u64, soon: u64) -> u64
 
 // Prunes by the constraints of todo, and again by those that have a changed variable in their scope, until nothing moves.
 // One that must be pruned by again waits for the next round.
-fn constrain16(sets: &mut [u16; 16], numbers: &Numbers, supports: &Supports, todo: u64) -> u64
+fn constrain16(
+    sets: &mut [u16; 16],
+    numbers: &Numbers,
+    supports: &Supports,
+    todo: u64,
+) -> Option<u64>
     requires { (p : Problem) × ConstraintsPending p numbers.now supports.now sets.old todo }
     ensures { (p : Problem) → ConstraintsPending p numbers.now supports.now sets.old todo → Constrained p
         sets.old sets.new result }
@@ -562,20 +581,17 @@ fn constrain16(sets: &mut [u16; 16], numbers: &Numbers, supports: &Supports, tod
     loop {
         if left == 0 {
             if next == 0 {
-                return all;
+                return Some(all);
             }
             left = next;
             next = 0;
         }
         let k = u64::trailing_zeros(left);
-        let changed = revise16(sets, numbers, supports, k as usize);
-        if changed == DEAD {
-            return DEAD;
-        }
-        left = left & (left - 1);
+        let changed = revise16(sets, numbers, supports, k as usize)?;
+        left &= left - 1;
         if changed != 0 {
-            all = all | changed;
-            next = next | waiting(numbers, changed, k, left);
+            all |= changed;
+            next |= waiting(numbers, changed, k, left);
         }
     }
 }
@@ -587,7 +603,7 @@ fn constrain8(
     supports: &Supports,
     todo: u64,
     settled: u64,
-) -> u64
+) -> Option<u64>
     requires numbers_bound { at numbers.now VALUES < 9 }
     requires constraints_pending { (p : Problem) × ConstraintsPending p numbers.now supports.now sets.old todo }
     ensures { (p : Problem) → ConstraintsPending p numbers.now supports.now sets.old todo → Constrained p
@@ -600,23 +616,20 @@ fn constrain8(
     loop {
         if left == 0 {
             if next == 0 {
-                return all;
+                return Some(all);
             }
             if soon == 0 {
                 soon = touched(numbers, settled);
             }
             left = round(next, soon);
-            next = next & !left;
+            next &= !left;
         }
         let k = u64::trailing_zeros(left);
-        let changed = revise8(sets, numbers, supports, k as usize);
-        if changed == DEAD {
-            return DEAD;
-        }
-        left = left & (left - 1);
+        let changed = revise8(sets, numbers, supports, k as usize)?;
+        left &= left - 1;
         if changed != 0 {
-            all = all | changed;
-            next = next | waiting(numbers, changed, k, left);
+            all |= changed;
+            next |= waiting(numbers, changed, k, left);
         }
     }
 }
@@ -628,7 +641,7 @@ pub fn constrain(
     supports: &Supports,
     todo: u64,
     settled: u64,
-) -> u64
+) -> Option<u64>
     requires { (p : Problem) × ConstraintsPending p numbers.now supports.now sets.old todo }
     ensures { (p : Problem) → ConstraintsPending p numbers.now supports.now sets.old todo → Constrained p
         sets.old sets.new result }
@@ -647,7 +660,7 @@ fn look_up(
     supports: &Supports,
     k: usize,
     v: usize,
-) -> u64
+) -> Option<u64>
     requires sets { Sets 16 sets.old }
     requires constraints_held { (p : Problem) × ConstraintsHeld p numbers.now supports.now × LookUp p sets.old work.now k v }
     ensures { (p : Problem) → ConstraintsHeld p numbers.now supports.now → LookUp p sets.old
@@ -660,7 +673,7 @@ fn look_up(
     revise_one(sets, supports, 256 * k + 16 * first + v, z)
 }
 
-// The same for each constraint of `some`, once: DEAD where a set would be empty, else the set of the variables whose sets changed.
+// The same for each constraint of `some`, once: None where a set would be empty, else the set of the variables whose sets changed.
 pub fn look_ups(
     sets: &mut [u16; 16],
     work: &Work,
@@ -668,7 +681,7 @@ pub fn look_ups(
     supports: &Supports,
     some: u64,
     v: usize,
-) -> u64
+) -> Option<u64>
     requires { (p : Problem) × (todo : ℕ) × LookUpsPending p numbers.now supports.now sets.old work.now todo some v }
     ensures { (p : Problem) (todo : ℕ) → LookUpsPending p numbers.now supports.now sets.old
         work.now todo some v → LookedUp p numbers.now supports.now sets.old sets.new todo some result }
@@ -676,19 +689,10 @@ pub fn look_ups(
     let mut all = 0u64;
     let mut left = some;
     while left != 0 {
-        let changed = look_up(
-            sets,
-            work,
-            numbers,
-            supports,
-            u64::trailing_zeros(left) as usize,
-            v,
-        );
-        if changed == DEAD {
-            return DEAD;
-        }
-        all = all | changed;
-        left = left & (left - 1);
+        let k = u64::trailing_zeros(left) as usize;
+        let changed = look_up(sets, work, numbers, supports, k, v)?;
+        all |= changed;
+        left &= left - 1;
     }
-    all
+    Some(all)
 }

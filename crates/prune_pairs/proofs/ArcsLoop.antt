@@ -5,9 +5,9 @@ use Rattle.model.specs.{Lists.at, ValueSets.has, ValueSets.Inside, Problem.Probl
 use lib.Bits.{or_zero_r}
 use Rattle.model.proofs.{Lists.TDec, Lists.not_of, Lists.of_not, Sets.has_none, Sets.mask_ext, Sets.inside_antisym, Sets.size, Sets.size_strict, Members.has_0, Members.or_i, Members.or_e}
 use Rattle.model.proofs.{Members.low_has, Members.rest_e, Members.rest_i, Members.rest_less, Firsts.take_e, Firsts.take_i, Prunes.prunes_none, Prunes.prunes_then}
-use Rattle.arrays.specs.{Inner.Places.DEAD, Inner.Places.LOOSE, Inner.Pruning.Given, Inner.Pruning.Lessened, Inner.Pruning.Arc, Inner.Pruning.sets_of}
-use Rattle.prune_pairs.specs.{Inner.Links.ArcsPending, Inner.Links.Settled, Inner.Links.ArcsMade, Inner.Steps.CanCut, Inner.Steps.CutBy}
-use Rattle.prune_pairs.proofs.{Cuts.is_dead, Settled.settled_goes, Settled.settled_stays}
+use Rattle.arrays.specs.{Inner.Places.LOOSE, Inner.Pruning.Given, Inner.Pruning.Lessened, Inner.Pruning.Arc, Inner.Pruning.sets_of}
+use Rattle.prune_pairs.specs.{Inner.Links.ArcsPending, Inner.Links.Settled, Inner.Links.Dead, Inner.Links.ArcsLeft, Inner.Steps.CanCut, Inner.Steps.ArcLeft}
+use Rattle.prune_pairs.proofs.{Settled.settled_goes, Settled.settled_stays}
 
 pub record ArcsSoFar (p : Problem) (ds es : List ℕ) (left all low : ℕ) : Type 0 where
   pub wide : left < 2 ^ 64
@@ -41,14 +41,8 @@ module _ {p : Problem} {numbers tables ds : List ℕ} {dirty : ℕ} (w : ArcsPen
     settled = s;
   }
 
-  pub arcs_end : {es : List ℕ} {left all low : ℕ} → ArcsSoFar p ds es left all low → left ≡ 0 → ArcsMade p ds es all
-  arcs_end t e = record {
-    ended = λ q. absurd (let l = t.lessened.few 16 (subst (λ (n : ℕ). T (has n 16)) (sym q) is_dead) in omega (arith, few));
-    lessened = λ n. t.lessened;
-    arcs = λ n x l. t.arcs x l (ap (λ (m : ℕ). has m x) e ∙ has_none x);
-    sixteen = t.lessened.sixteen;
-    less = t.lessened.less;
-  }
+  pub arcs_end : {es : List ℕ} {left all low : ℕ} → ArcsSoFar p ds es left all low → left ≡ 0 → ArcsLeft p ds es all
+  arcs_end t e = record { lessened = t.lessened; arcs = λ x l. t.arcs x l (ap (λ (m : ℕ). has m x) e ∙ has_none x) }
 
   -- ---- one turn, by the first variable that is left
   module _ {es : List ℕ} {left all low : ℕ} (t : ArcsSoFar p ds es left all low) (n : left ≡ 0 → ⊥) where
@@ -72,20 +66,18 @@ module _ {p : Problem} {numbers tables ds : List ℕ} {dirty : ℕ} (w : ArcsPen
           (λ e. of_not (has left y) (t.settled.clean y h) (subst (λ (j : ℕ). T (has left j)) e x_in)) (t.known (count_trailing_zeros 64 left) x_in) q;
     }
 
-    pub arcs_dead : {fs : List ℕ} {r : ℕ} → CutBy p es fs (count_trailing_zeros 64 left) r → r ≡ DEAD → ArcsMade p ds fs DEAD
-    arcs_dead k e =
-        let d = k.ended e in
+    pub arcs_dead : {fs : List ℕ} → Dead p es fs → Dead p ds fs
+    arcs_dead k =
+        let d = k.ended in
         record {
-          ended = λ q. (d.0, (λ prefix. prunes_then p prefix (sets_of p ds) (sets_of p es) d.0 (t.lessened.ways prefix) (d.1.0 prefix), d.1.1));
-          lessened = λ q. absurd (q refl);
-          arcs = λ q. absurd (q refl);
+          ended = (d.0, (λ prefix. prunes_then p prefix (sets_of p ds) (sets_of p es) d.0 (t.lessened.ways prefix) (d.1.0 prefix), d.1.1));
           sixteen = k.sixteen;
           less = λ x v q. t.lessened.less x v (k.less x v q);
         }
 
-    module _ {fs : List ℕ} {changed : ℕ} (k : CutBy p es fs (count_trailing_zeros 64 left) changed) (m : changed ≡ DEAD → ⊥) where
+    module _ {fs : List ℕ} {changed : ℕ} (k : ArcLeft p es fs (count_trailing_zeros 64 left) changed) where
       l : Lessened p es fs changed
-      l = k.lessened m
+      l = k.lessened
 
       abbrev next : ℕ
       next = bit_or (bit_and left (left - 1)) changed
@@ -127,7 +119,7 @@ module _ {p : Problem} {numbers tables ds : List ℕ} {dirty : ℕ} (w : ArcsPen
 
           first : T (has (bit_and left (left - 1)) y) ⊎ (y ≡ count_trailing_zeros 64 left) → Arc p (sets_of p fs) y
           first (inl q) = absurd (of_not (has next y) e (or_i (bit_and left (left - 1)) changed y (inl q)))
-          first (inr q) = subst (Arc p (sets_of p fs)) (sym q) (k.arc m)
+          first (inr q) = subst (Arc p (sets_of p fs)) (sym q) k.arc
 
           go : T (has left y) ⊎ (T (has left y) → ⊥) → Arc p (sets_of p fs) y
           go (inl q) = first (rest_i 64 left some t.wide y q)
@@ -137,7 +129,7 @@ module _ {p : Problem} {numbers tables ds : List ℕ} {dirty : ℕ} (w : ArcsPen
       turn_settled = record {
         clean = λ y h. not_of (has next y)
             (λ q. ⊎_elim (λ z. of_not (has left y) (t.settled.clean y h) (rest_e 64 left some t.wide y z))
-            (of_not (has changed y) (settled_stays p es sixteen t.given.sixteen y (t.settled.single y h) l (k.changed m))) (or_e (bit_and left (left - 1)) changed y q));
+            (of_not (has changed y) (settled_stays p es sixteen t.given.sixteen y (t.settled.single y h) l k.changed)) (or_e (bit_and left (left - 1)) changed y q));
         single = λ y h u v a b. t.settled.single y h u v (l.less y u a) (l.less y v b);
       }
 
@@ -163,7 +155,7 @@ module _ {p : Problem} {numbers tables ds : List ℕ} {dirty : ℕ} (w : ArcsPen
           go (no f) =
               let e : fs ≡ es = inside_antisym 16 fs es l.sixteen t.given.sixteen l.less
               (size_strict fs es (l.sixteen.0 ∙ sym t.given.sixteen.0) t.given.sixteen.1 l.less (omega arith)) in
-              let none : changed ≡ 0 = mask_ext 64 changed 0 h (omega arith) (λ y b. not_of (has changed y) (λ q. k.changed m y q (ap (λ (s : List ℕ). at s y) e)) ∙ sym (has_none y)) in
+              let none : changed ≡ 0 = mask_ext 64 changed 0 h (omega arith) (λ y b. not_of (has changed y) (λ q. k.changed y q (ap (λ (s : List ℕ). at s y) e)) ∙ sym (has_none y)) in
               let q : next ≡ bit_and left (left - 1) = ap (bit_or (bit_and left (left - 1))) none ∙ or_zero_r (bit_and left (left - 1)) in
               let r : bit_and left (left - 1) < left = rest_less left n in
               let z : size fs ≡ size es = ap size e in

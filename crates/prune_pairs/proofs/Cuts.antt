@@ -3,8 +3,7 @@ use Rattle.model.specs.Kit.{◌≡◌, refl, sym, ap, ◌∙◌, subst, false, �
 use Rattle.model.specs.Kit.{bit_and, bit_or}
 use Rattle.model.specs.{Lists.at, ValueSets.has}
 use Rattle.model.proofs.{Lists.TDec, Lists.not_of, Lists.of_not, Lists.at_set, Lists.at_set_other, Members.has_0, Members.or_i, Members.or_e, Members.one_has}
-use Rattle.arrays.specs.Inner.Places.{DEAD}
-use Rattle.prune_pairs.specs.Inner.Steps.{Spared, CutToCover}
+use Rattle.prune_pairs.specs.Inner.Steps.{Spared, CutOrKept, CutDead, CutDown}
 
 -- of the first twelve sets those from y on are cut so far
 pub record Cutting (ds cover es : List ℕ) (changed y : ℕ) : Type 0 where
@@ -24,26 +23,20 @@ cutting_begin ds cover l = record {
 }
 
 -- each set is cut or as it came
-cutting_each : {ds cover es : List ℕ} {changed y : ℕ} → Cutting ds cover es changed y → (i : ℕ) → (at es i ≡ bit_and (at ds i) (at cover i)) ⊎ (at es i ≡ at ds i)
-cutting_each {ds} {cover} {es} {changed} {y} c i = go (TDec (has changed i))
+cutting_each : {ds cover es : List ℕ} {changed y : ℕ} → Cutting ds cover es changed y → CutOrKept ds cover es
+cutting_each {ds} {cover} {es} {changed} {y} c = record { sized = c.sized; each = λ i. go i (TDec (has changed i)) }
   where
-    go : T (has changed i) ⊎ (T (has changed i) → ⊥) → (at es i ≡ bit_and (at ds i) (at cover i)) ⊎ (at es i ≡ at ds i)
-    go (inl t) = let q = c.moved i t in inl (c.cut i q.0 q.1)
-    go (inr n) = inr (c.kept i (not_of (has changed i) n))
-
-pub is_dead : T (has DEAD 16)
-unfolding has
-is_dead = tt
+    go : (i : ℕ) → T (has changed i) ⊎ (T (has changed i) → ⊥) → (at es i ≡ bit_and (at ds i) (at cover i)) ⊎ (at es i ≡ at ds i)
+    go i (inl t) = let q = c.moved i t in inl (c.cut i q.0 q.1)
+    go i (inr n) = inr (c.kept i (not_of (has changed i) n))
 
 -- where the cut would take nothing from the sets before
-pub cutting_end : {ds cover es : List ℕ} {changed y : ℕ} → Cutting ds cover es changed y → Spared ds cover y → CutToCover ds cover es changed
+pub cutting_end : {ds cover es : List ℕ} {changed y : ℕ} → Cutting ds cover es changed y → Spared ds cover y → CutDown ds cover es changed
 cutting_end {ds} {cover} {es} {changed} {y} c h = record {
-  dead = λ e. absurd (let q = c.moved 16 (subst (λ (n : ℕ). T (has n 16)) (sym e) is_dead) in omega (arith, q.1));
-  sized = c.sized;
-  cut_or_kept = cutting_each c;
-  cut = λ n i l. cut i l (dec_lt i y);
-  kept = λ n i e. c.kept i e;
-  changed = λ n i t. let q = c.moved i t in (q.1, q.2, q.3);
+  so_far = cutting_each c;
+  cut = λ i l. cut i l (dec_lt i y);
+  kept = c.kept;
+  changed = λ i t. let q = c.moved i t in (q.1, q.2, q.3);
 }
   where
     cut : (i : ℕ) → i < 12 → Dec (i < y) → at es i ≡ bit_and (at ds i) (at cover i)
@@ -80,15 +73,8 @@ module _ {ds cover es : List ℕ} {changed k : ℕ} (c : Cutting ds cover es cha
       cut i l m (yes q) = subst (λ (j : ℕ). at es j ≡ bit_and (at ds j) (at cover j)) (sym q) (sym e ∙ cut_here)
       cut i l m (no n) = c.cut i (omega arith) m
 
-  pub cutting_dead : (new ≡ at es y → ⊥) → new ≡ 0 → CutToCover ds cover es DEAD
-  cutting_dead n e = record {
-    dead = λ q. (y, cutting_lt, sym cut_here ∙ e, λ z. n (e ∙ sym (here ∙ z)));
-    sized = c.sized;
-    cut_or_kept = cutting_each c;
-    cut = λ f. absurd (f refl);
-    kept = λ f. absurd (f refl);
-    changed = λ f. absurd (f refl);
-  }
+  pub cutting_dead : (new ≡ at es y → ⊥) → new ≡ 0 → CutDead ds cover es
+  cutting_dead n e = record { dead = (y, cutting_lt, sym cut_here ∙ e, λ z. n (e ∙ sym (here ∙ z))); so_far = cutting_each c }
 
   pub cutting_less : (new ≡ at es y → ⊥) → (new ≡ 0 → ⊥) → Cutting ds cover (set es y new) (bit_or changed (1 * 2 ^ y % 2 ^ 64)) y
   cutting_less n z = record {

@@ -1,13 +1,15 @@
 -- One cut by the set of a variable: the values that go are no loss, and those that stay go together with a value of that set. Assumes nothing.
 use Rattle.model.specs.Kit.{◌≡◌, refl, sym, ◌∙◌, subst, Bool, true, false, ◌⊎◌, inl, inr, ⊎_elim, List, ℕ, ◌+◌, ◌*◌, ◌/◌, ◌^◌, ◌≤◌, ◌<◌, lt_of_le_of_lt, arith, ℕ_discrete, dec_lt, T, length, bit_and}
 use Rattle.model.specs.Kit.{and_le_l, eq-eqb}
+use Rattle.std.specs.Prelude.{Option, None, Some}
 use Rattle.model.specs.{Lists.at, Lists.tabulate, ValueSets.has, ValueSets.without_mask, ValueSets.lowest_of, ValueSets.Inside, Problem.Problem, Inner.Pruning.Sets}
 use Rattle.model.specs.Inner.Pruning.{Prunes}
 use Rattle.model.proofs.{Lists.T_of, Lists.TExt, Lists.either_e, Lists.at_out, Lists.at_ext, Lists.at_tabulate, Lists.length_tabulate, Sets.has_lt, Sets.has_at_lt, Sets.mask_lt, Sets.mask_ext}
 use Rattle.model.proofs.{Sets.member, Sets.empty_i, Masks.contains_op, Members.has_0, Members.and_i, Members.and_e, Members.rest_begin, Members.lowest_left, Lowest.without_i, Lowest.without_e}
 use Rattle.model.proofs.{Firsts.take_length, Firsts.take_at, Firsts.take_e, Firsts.take_i, Firsts.take_full, Firsts.full_take, Prune.Removal, Prunes.prunes_none, Prunes.removal_prunes}
-use Rattle.arrays.specs.{Inner.Places.DEAD, Inner.Tables.goes, Inner.Pruning.Lessened, Inner.Pruning.Ended, Inner.Pruning.Arc, Inner.Pruning.sets_of}
-use Rattle.prune_pairs.specs.Inner.Steps.{Narrow, Cover, Covered, Spared, CutToCover, CanCut, CutBy}
+use Rattle.arrays.specs.{Inner.Tables.goes, Inner.Pruning.Arc, Inner.Pruning.sets_of}
+use Rattle.prune_pairs.specs.Inner.Links.{Dead}
+use Rattle.prune_pairs.specs.Inner.Steps.{Narrow, Cover, Covered, Spared, CutOrKept, CutDead, CutDown, CutToCover, CanCut, ArcLeft, CutBy}
 use Rattle.prune_pairs.proofs.{Covers.narrow_at, Covers.row, Covers.row_cover, Partners.goes_free, Partners.goes_kept, Partners.row_goes_e, Partners.row_goes_i, Partners.narrow}
 
 pub bit_in : (s v : ℕ) → bit_and (s / 2 ^ v) 1 ≡ 1 → T (has s v)
@@ -52,10 +54,9 @@ module _ {p : Problem} {tables ds : List ℕ} {loose x first : ℕ} (r : CanCut 
   low_lt v e = omega (arith, low_in.1)
 
   -- ---- nothing to do
-  stays : Arc p (sets_of p ds) x → CutBy p ds ds x 0
+  stays : Arc p (sets_of p ds) x → ArcLeft p ds ds x 0
   stays a = record {
-    ended = λ e. absurd (omega arith);
-    lessened = λ e. record {
+    lessened = record {
       ways = λ prefix. prunes_none p prefix (sets_of p ds);
       sixteen = s;
       full = r.given.full;
@@ -63,14 +64,12 @@ module _ {p : Problem} {tables ds : List ℕ} {loose x first : ℕ} (r : CanCut 
       kept = λ y q. refl;
       few = λ y t. absurd (has_0 y t);
     };
-    changed = λ e y t. absurd (has_0 y t);
-    arc = λ e. a;
-    sixteen = s;
-    less = λ y v t. t;
+    changed = λ y t. absurd (has_0 y t);
+    arc = a;
   }
 
   -- x is loose and has two values
-  pub by_loose : T (has loose x) → (without_mask (at ds x) low ≡ 0 → ⊥) → CutBy p ds ds x 0
+  pub by_loose : T (has loose x) → (without_mask (at ds x) low ≡ 0 → ⊥) → ArcLeft p ds ds x 0
   by_loose t m = stays arc
     where
       other : (v : ℕ) × (v < 16) × T (has (without_mask (at ds x) low) v)
@@ -99,7 +98,7 @@ module _ {p : Problem} {tables ds : List ℕ} {loose x first : ℕ} (r : CanCut 
         let q = c.cover_e y w l t in
         (q.0, (q.1, row_goes_e p tables r.rowed x x_lt q.0 y w (value q.0 q.1) l q.2))
 
-    pub by_covered : Covered ds cover → CutBy p ds ds x 0
+    pub by_covered : Covered ds cover → ArcLeft p ds ds x 0
     by_covered h = stays (λ y w t.
         let q = take_e n ds s sixteen y w t in
         let v = partner y w (omega (arith, q.0, few)) (h y w q.1) in
@@ -167,84 +166,86 @@ module _ {p : Problem} {tables ds : List ℕ} {loose x first : ℕ} (r : CanCut 
     ways : (prefix : List ℕ) → Prunes p prefix (sets_of p ds) fs
     ways prefix = removal_prunes p prefix (sets_of p ds) fs (removal prefix)
 
-    module _ {es : List ℕ} {a : ℕ} (k : CutToCover ds cover es a) where
-      ended : a ≡ DEAD → Ended p ds
-      ended e = (fs, (ways, empty_i fs y (subst (λ (m : ℕ). y < m) (sym (length_tabulate n cut_at)) l) (fs_at y l ∙ d.2)))
-        where
-          d : (z : ℕ) × (z < 12) × (bit_and (at ds z) (at cover z) ≡ 0) × (at ds z ≡ 0 → ⊥)
-          d = k.dead e
-
-          y : ℕ
-          y = d.0
-
-          l : y < n
-          l = go (dec_lt y n)
-            where
-              go : Dec (y < n) → y < n
-              go (yes h) = h
-              go (no m) = absurd (d.3 (sym (own_same y (omega (arith, d.1)) (inr (omega arith))) ∙ d.2))
-
+    module _ {es : List ℕ} (k : CutOrKept ds cover es) where
       es_sets : Sets 16 es
       es_sets = (
         k.sized,
-        λ y. ⊎_elim (λ e. subst (λ (z : ℕ). z < 2 ^ 16) (sym e) (lt_of_le_of_lt (and_le_l (at ds y) (at cover y)) (s.1 y))) (λ e. subst (λ (z : ℕ). z < 2 ^ 16) (sym e) (s.1 y)) (k.cut_or_kept y),
+        λ y. ⊎_elim (λ e. subst (λ (z : ℕ). z < 2 ^ 16) (sym e) (lt_of_le_of_lt (and_le_l (at ds y) (at cover y)) (s.1 y))) (λ e. subst (λ (z : ℕ). z < 2 ^ 16) (sym e) (s.1 y)) (k.each y),
       )
 
       es_less : Inside es ds
-      es_less y w t = ⊎_elim (λ e. (and_e (at ds y) (at cover y) w (subst (λ (z : ℕ). T (has z w)) e t)).0) (λ e. subst (λ (z : ℕ). T (has z w)) e t) (k.cut_or_kept y)
+      es_less y w t = ⊎_elim (λ e. (and_e (at ds y) (at cover y) w (subst (λ (z : ℕ). T (has z w)) e t)).0) (λ e. subst (λ (z : ℕ). T (has z w)) e t) (k.each y)
 
-      module _ (m : a ≡ DEAD → ⊥) where
-        es_at : (y : ℕ) → y < 12 → at es y ≡ cut_at y
-        es_at y l = k.cut m y l
+    cut_dead : {es : List ℕ} → CutDead ds cover es → Dead p ds es
+    cut_dead {es} k = record {
+      ended = (fs, (ways, empty_i fs y (subst (λ (m : ℕ). y < m) (sym (length_tabulate n cut_at)) l) (fs_at y l ∙ k.dead.2)));
+      sixteen = es_sets k.so_far;
+      less = es_less k.so_far;
+    }
+      where
+        y : ℕ
+        y = k.dead.0
 
-        is_cut : sets_of p es ≡ fs
-        is_cut =
-            at_ext (sets_of p es) fs (take_length n es es_sets sixteen ∙ sym (length_tabulate n cut_at))
-            (λ y l. let h : y < n = subst (λ (j : ℕ). y < j) (take_length n es es_sets sixteen) l in take_at n es es_sets sixteen y h ∙ es_at y (omega (arith, h, few)) ∙ sym (fs_at y h))
-
-        es_full : (y : ℕ) → y < n → at es y ≡ 0 → ⊥
-        es_full y l z = go (has a y) refl
+        l : y < n
+        l = go (dec_lt y n)
           where
-            go : (b : Bool) → has a y ≡ b → ⊥
-            go true q = (k.changed m y (T_of (has a y) q)).2 z
-            go false q = full_take n ds s sixteen r.given.full y l (sym (k.kept m y q) ∙ z)
-
-        es_few : (y : ℕ) → T (has a y) → y < n
-        es_few y t = go (dec_lt y n)
-          where
-            q : (y < 12) × (at es y ≡ at ds y → ⊥) × (at es y ≡ 0 → ⊥)
-            q = k.changed m y t
-
             go : Dec (y < n) → y < n
             go (yes h) = h
-            go (no o) = absurd (q.1 (es_at y q.0 ∙ own_same y (omega (arith, q.0)) (inr (omega arith))))
+            go (no m) = absurd (k.dead.3 (sym (own_same y (omega (arith, k.dead.1)) (inr (omega arith))) ∙ k.dead.2))
 
-        arc : Arc p (sets_of p es) x
-        arc y w t =
-            let q = take_e n es es_sets sixteen y w t in
-            let l : y < 12 = omega (arith, q.0, few) in
-            let v = partner y w (omega arith) (and_e (at ds y) (at cover y) w (subst (λ (z : ℕ). T (has z w)) (es_at y l) q.1)).1 in
-            (v.0, (take_i n es es_sets sixteen x v.0 r.known (subst (λ (z : ℕ). T (has z v.0)) (sym (es_at x x_lt ∙ own_same x (omega (arith, x_lt)) (inl refl))) v.1.0), v.1.1))
+    module _ {es : List ℕ} {a : ℕ} (k : CutDown ds cover es a) where
+      es_at : (y : ℕ) → y < 12 → at es y ≡ cut_at y
+      es_at y l = k.cut y l
 
-        lessened : Lessened p ds es a
+      sets : Sets 16 es
+      sets = es_sets k.so_far
+
+      is_cut : sets_of p es ≡ fs
+      is_cut =
+          at_ext (sets_of p es) fs (take_length n es sets sixteen ∙ sym (length_tabulate n cut_at))
+          (λ y l. let h : y < n = subst (λ (j : ℕ). y < j) (take_length n es sets sixteen) l in take_at n es sets sixteen y h ∙ es_at y (omega (arith, h, few)) ∙ sym (fs_at y h))
+
+      es_full : (y : ℕ) → y < n → at es y ≡ 0 → ⊥
+      es_full y l z = go (has a y) refl
+        where
+          go : (b : Bool) → has a y ≡ b → ⊥
+          go true q = (k.changed y (T_of (has a y) q)).2 z
+          go false q = full_take n ds s sixteen r.given.full y l (sym (k.kept y q) ∙ z)
+
+      es_few : (y : ℕ) → T (has a y) → y < n
+      es_few y t = go (dec_lt y n)
+        where
+          q : (y < 12) × (at es y ≡ at ds y → ⊥) × (at es y ≡ 0 → ⊥)
+          q = k.changed y t
+
+          go : Dec (y < n) → y < n
+          go (yes h) = h
+          go (no o) = absurd (q.1 (es_at y q.0 ∙ own_same y (omega (arith, q.0)) (inr (omega arith))))
+
+      arc : Arc p (sets_of p es) x
+      arc y w t =
+          let q = take_e n es sets sixteen y w t in
+          let l : y < 12 = omega (arith, q.0, few) in
+          let v = partner y w (omega arith) (and_e (at ds y) (at cover y) w (subst (λ (z : ℕ). T (has z w)) (es_at y l) q.1)).1 in
+          (v.0, (take_i n es sets sixteen x v.0 r.known (subst (λ (z : ℕ). T (has z v.0)) (sym (es_at x x_lt ∙ own_same x (omega (arith, x_lt)) (inl refl))) v.1.0), v.1.1))
+
+      cut_left : ArcLeft p ds es x a
+      cut_left = record {
         lessened = record {
           ways = λ prefix. subst (Prunes p prefix (sets_of p ds)) (sym is_cut) (ways prefix);
-          sixteen = es_sets;
-          full = take_full n es es_sets sixteen es_full;
-          less = es_less;
-          kept = k.kept m;
+          sixteen = sets;
+          full = take_full n es sets sixteen es_full;
+          less = es_less k.so_far;
+          kept = k.kept;
           few = es_few;
-        }
-
-      pub by_cut : CutBy p ds es x a
-      by_cut = record {
-        ended = ended;
-        lessened = lessened;
-        changed = λ m y t. (k.changed m y t).1;
+        };
+        changed = λ y t. (k.changed y t).1;
         arc = arc;
-        sixteen = es_sets;
-        less = es_less;
       }
+
+    pub by_cut : (es : List ℕ) (a : Option ℕ) → CutToCover ds cover es a → CutBy p ds es x a
+    by_cut es None k = cut_dead k
+    by_cut es (Some a) k = cut_left k
 
   -- ---- x has one value v: the cover is its row
   module _ {v : ℕ} (e : v ≡ low) (z : without_mask (at ds x) low ≡ 0) (fits : 256 * x + 16 * v + 16 ≤ length tables) where
@@ -258,5 +259,5 @@ module _ {p : Problem} {tables ds : List ℕ} {loose x first : ℕ} (r : CanCut 
     pub row_spared : Spared ds (row tables (256 * x + 16 * v)) first
     row_spared = settled_same row_covers
 
-    pub by_row : {es : List ℕ} {a : ℕ} → CutToCover ds (row tables (256 * x + 16 * v)) es a → CutBy p ds es x a
-    by_row k = by_cut row_covers k
+    pub by_row : (es : List ℕ) (a : Option ℕ) → CutToCover ds (row tables (256 * x + 16 * v)) es a → CutBy p ds es x a
+    by_row es a k = by_cut row_covers es a k

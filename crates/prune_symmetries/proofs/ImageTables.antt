@@ -194,17 +194,13 @@ module _ {p : Problem} {ss tables : List ℕ} {e x v : ℕ} (w : Level p ss tabl
         go (no l) = let o : ◌≡◌ {A = ℕ} 0 1 = sym z ∙ beyond y (omega arith) ∙ w.held.unused y (omega arith) h in absurd (omega arith)
 
   -- ---- what the functions answer
-  pub cut_missed : (r : Bool) → Missed r ss tables (cuts_at e x v) → not r ≡ true → CutResult false p.variables ss (cuts p e x v) ss
+  pub cut_missed : (r : Bool) → Missed r ss tables (cuts_at e x v) → r ≡ false → CutResult false p.variables ss (cuts p e x v) ss
   cut_missed r m q =
       table_made ss w.held.live.sixteen w.held.live.small
       (λ y c l k. both_less (has (at ss y) c) (has (smaller p e x v y) c)
-      (ap (λ (z : ℕ). both (has (at ss y) c) (has z c)) (sym (table_at_lem y l)) ∙ sym (has_and (at ss y) (at tables (first + y)) c) ∙ ap (λ (z : ℕ). has z c) (m (missing r q) y l) ∙ has_none c))
+      (ap (λ (z : ℕ). both (has (at ss y) c) (has z c)) (sym (table_at_lem y l)) ∙ sym (has_and (at ss y) (at tables (first + y)) c) ∙ ap (λ (z : ℕ). has z c) (m q y l) ∙ has_none c))
       (λ y l z. nonempty y l z (dec_lt y p.variables))
     where
-      missing : (b : Bool) → not b ≡ true → b ≡ false
-      missing true e = sym e
-      missing false e = refl
-
       nonempty : (y : ℕ) → y < 16 → at ss y ≡ 0 → Dec (y < p.variables) → ⊥
       nonempty y l z (yes h) = w.held.live.full y h z
       nonempty y l z (no h) = let o : ◌≡◌ {A = ℕ} 0 1 = sym z ∙ w.held.unused y (omega arith) l in omega arith

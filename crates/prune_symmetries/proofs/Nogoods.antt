@@ -1,16 +1,16 @@
 -- What the passes and the split leave is what the filter leaves, and the answer is a mark. Assumes nothing.
-use Rattle.model.specs.Kit.{◌≡◌, refl, sym, ap, ◌∙◌, subst, Bool, List, [], ◌++◌, append-nil, append_assoc, Memᴰ, ◌⊎◌, inl, inr, ℕ, ◌+◌, ◌*◌, ◌%◌, ◌≤◌, ◌<◌, arith, length, take, length-take-le}
+use Rattle.model.specs.Kit.{◌≡◌, sym, ap, ◌∙◌, subst, Bool, List, [], ◌++◌, append-nil, append_assoc, Memᴰ, ◌⊎◌, inl, inr, ℕ, ◌+◌, ◌*◌, ◌%◌, ◌≤◌, ◌<◌, arith, length, take, length-take-le}
 use Rattle.model.specs.Kit.{ne_eqb}
 use Rattle.model.specs.Nogood.{Entry, equality, filtered, entailed, filter_ending}
 use Rattle.model.specs.{Lists.at, ValueSets.any_empty, Problem.Problem, Problem.symmetry_at, NogoodClaims.Entails, Search.nogoods_of}
 use mathlib.Core.List.Memᴰ
 use lib.Seq.{take-take}
 use Rattle.model.proofs.{Lists.not_of, Lists.of_T, Sets.empty_e, Endings.entailed_exactly}
-use Rattle.arrays.specs.Inner.Places.{ENTAILED, OBEYED, FAILED}
+use Rattle.arrays.specs.Inner.Places.{ENTAILED, OBEYED}
 use Rattle.filter.specs.{Inner.Scan.None, Inner.Scan.Passed, Inner.Scan.Remainder, Marks.Vacuous, Marks.NamesGone, Marks.Skippable}
 use Rattle.filter.proofs.{Marks.vacuous_mono, Marks.vacuous_append, Endings.none_failed, Endings.passed_ending, Endings.ended_entailed}
-use Rattle.prune_symmetries.specs.Inner.Levels.{MarkBy, Mark, ending_at, FilterRequires, leaves, FilterEnsures, cuts, levels, CutsMade, CutsObeyed, NoneObeys, Ready, split_entries, SplitReached}
-use Rattle.prune_symmetries.specs.Inner.Levels.{PassResult, pass_failed, pass_obeyed, pass_ended, pass_split, SplitResult}
+use Rattle.prune_symmetries.specs.Inner.Levels.{MarkBy, Mark, ending_at, FilterRequires, leaves, FilterFailed, FilterMade, cuts, levels, CutsMade, CutsObeyed}
+use Rattle.prune_symmetries.specs.Inner.Levels.{NoneObeys, Ready, split_entries, SplitReached, PassCame, pass_obeyed, pass_ended, pass_split, SplitResult}
 use Rattle.prune_symmetries.proofs.CutsMade.{from_as, same_length, vacuous_made, made_on, obeyed_on, none_on}
 use Rattle.prune_symmetries.proofs.{Levels.levels_append, Levels.levels_split, Levels.nogoods_are, Splits.short, Splits.at_obeyed, Splits.at_entailed}
 use Rattle.filter.proofs.Front
@@ -70,34 +70,30 @@ module _ {p : Problem} {sets work tables : List ℕ} {e k start : ℕ} (w : Filt
   at_list : filter_ending (take n sets) (levels p work e 0 k) ≡ filter_ending (take n sets) (nogoods_of p (symmetry_at p e) (take k work))
   at_list = ap (filter_ending (take n sets)) (sym (nogoods_at k (omega arith)))
 
-  ensures_failed : (ts : List ℕ) → length ts ≡ length sets → NoneObeys n sets (levels p work e start k) → FilterEnsures p sets work e k ts FAILED
-  ensures_failed ts l z =
+  pub reached_none : (ts : List ℕ) → length ts ≡ length sets → NoneObeys n sets (levels p work e start k) → FilterFailed p sets work e k ts
+  reached_none ts l z =
       let d : NoneObeys n sets (levels p work e 0 k) = subst (λ (es : List Entry). NoneObeys n sets es) all (none_on before (levels p work e start k) z) in
       let o : None n sets (levels p work e 0 k) = subst (λ (es : List Entry). None n sets es) (append-nil (levels p work e 0 k)) (d []) in
       let t = Front.none_empty n sets (nogoods_of p (symmetry_at p e) (take k work)) w.well_formed.some (omega (arith, w.live.few, w.live.sixteen))
       (subst (λ (es : List Entry). None n sets es) (sym (nogoods_at k (omega arith))) o) in
       record {
         ending = sym (none_failed (take n sets) (levels p work e 0 k) o) ∙ at_list;
-        answers = sym (of_T (any_empty (leaves p sets work e k)) t);
-        left = λ q. absurd (q refl);
-        live = λ q. absurd (q refl);
-        unused = λ q. absurd (q refl);
-        mark = λ q. absurd (q refl);
+        empty = of_T (any_empty (leaves p sets work e k)) t;
         sixteen = l ∙ w.live.sixteen;
       }
 
-  ensures_live : (ts : List ℕ) (r : ℕ) → (r ≡ FAILED → ⊥) → Remainder n sets (levels p work e 0 k) ts → ending_at k r ≡ filter_ending (take n sets) (levels p work e 0 k) → Mark p (take n ts)
-      (take k work) e r → FilterEnsures p sets work e k ts r
-  ensures_live ts r h z q m =
+  ensures_live : (ts : List ℕ) (r : ℕ) → Remainder n sets (levels p work e 0 k) ts → ending_at k r ≡ filter_ending (take n sets) (levels p work e 0 k) → Mark p (take n ts)
+      (take k work) e r → FilterMade p sets work e k ts r
+  ensures_live ts r z q m =
       let a : take n ts ≡ leaves p sets work e k = z.left ∙ ap (filtered (take n sets)) (sym (nogoods_at k (omega arith))) in
       record {
         ending = q ∙ at_list;
-        answers = ne_eqb r FAILED h ∙ sym (not_of (any_empty (leaves p sets work e k)) (λ t. let r = empty_e (leaves p sets work e k) t in
-            Front.front_full z.live r.0 (subst (λ (l : List ℕ). r.0 < length l) (sym a) r.1) (ap (λ (l : List ℕ). at l r.0) a ∙ r.2)));
-        left = λ q. a;
-        live = λ q. z.live;
-        unused = λ q x h l. z.unused x h ∙ w.unused x h l;
-        mark = λ q. m;
+        full = not_of (any_empty (leaves p sets work e k)) (λ t. let r = empty_e (leaves p sets work e k) t in
+            Front.front_full z.live r.0 (subst (λ (l : List ℕ). r.0 < length l) (sym a) r.1) (ap (λ (l : List ℕ). at l r.0) a ∙ r.2));
+        left = a;
+        live = z.live;
+        unused = λ x h l. z.unused x h ∙ w.unused x h l;
+        mark = m;
         sixteen = z.live.sixteen;
       }
 
@@ -106,26 +102,25 @@ module _ {p : Problem} {sets work tables : List ℕ} {e k start : ℕ} (w : Filt
     ended : Passed n sets (levels p work e 0 k) rs [] → Remainder n sets (levels p work e 0 k) rs × (filter_ending (take n sets) (levels p work e 0 k) ≡ entailed)
     ended q = (Front.ended q (Front.front_length w.live), ended_entailed w.live q)
 
-    ensures_obeyed : CutsObeyed n sets (levels p work e start k) rs → FilterEnsures p sets work e k rs OBEYED
+    ensures_obeyed : CutsObeyed n sets (levels p work e start k) rs → FilterMade p sets work e k rs OBEYED
     ensures_obeyed f =
         let g : CutsObeyed n sets (levels p work e 0 k) rs = subst (λ (es : List Entry). CutsObeyed n sets es rs) all (obeyed_on before (levels p work e start k) rs f) in
         let z = ended (from_as (append-nil (levels p work e 0 k)) (g.passed [])) in
-        ensures_live rs OBEYED (λ q. omega arith) z.0 (at_obeyed k (short ready) ∙ sym z.1) (mark_for_good rs z.0 z.1 g.gone)
+        ensures_live rs OBEYED z.0 (at_obeyed k (short ready) ∙ sym z.1) (mark_for_good rs z.0 z.1 g.gone)
 
-    ensures_end : CutsMade n sets (levels p work e start k) rs → FilterEnsures p sets work e k rs (ENTAILED * k + k)
+    ensures_end : CutsMade n sets (levels p work e start k) rs → FilterMade p sets work e k rs (ENTAILED * k + k)
     ensures_end t =
         let l = short ready in
         let g : CutsMade n sets (levels p work e 0 k) rs = subst (λ (es : List Entry). CutsMade n sets es rs) all (made_on before (levels p work e start k) rs t) in
         let z = ended (from_as (append-nil (levels p work e 0 k)) (g.passed [])) in
-        ensures_live rs (ENTAILED * k + k) (λ q. omega arith) z.0 (at_entailed k k l (omega arith) ∙ sym z.1)
+        ensures_live rs (ENTAILED * k + k) z.0 (at_entailed k k l (omega arith) ∙ sym z.1)
         (mark_vacuous rs z.0 k (ENTAILED * k + k) (omega arith) (omega arith) (omega arith) (λ q. every rs z.0 z.1) g.vacuous)
 
     -- ---- how the pass ended
-    pub reached_end : (r : ℕ) → length rs ≡ length sets → k ≤ r → PassResult p sets work tables e k start rs r → FilterEnsures p sets work e k rs r
-    reached_end r l h (pass_failed q z) = subst (λ (m : ℕ). FilterEnsures p sets work e k rs m) (sym q) (ensures_failed rs l z)
-    reached_end r l h (pass_obeyed q f) = subst (λ (m : ℕ). FilterEnsures p sets work e k rs m) (sym q) (ensures_obeyed f)
-    reached_end r l h (pass_ended q t) = subst (λ (m : ℕ). FilterEnsures p sets work e k rs m) (sym q) (ensures_end t)
-    reached_end r l h (pass_split q f) = absurd (omega arith)
+    pub reached_end : (r : ℕ) → k ≤ r → PassCame p sets work tables e k start rs r → FilterMade p sets work e k rs r
+    reached_end r h (pass_obeyed q f) = subst (λ (m : ℕ). FilterMade p sets work e k rs m) (sym q) (ensures_obeyed f)
+    reached_end r h (pass_ended q t) = subst (λ (m : ℕ). FilterMade p sets work e k rs m) (sym q) (ensures_end t)
+    reached_end r h (pass_split q f) = absurd (omega arith)
 
     module _ (j : ℕ) (f : SplitReached p sets work tables e k start rs j) (ts : List ℕ) (r : ℕ) (g : SplitResult p rs work e k j ts r) where
       shrunk : length (take n ts) ≡ length (take n rs)
@@ -156,17 +151,17 @@ module _ {p : Problem} {sets work tables : List ℕ} {e k start : ℕ} (w : Filt
           (vacuous_append (take n rs) (levels p work e 0 start) (levels p work e start j)
           (vacuous_mono (take n sets) (take n rs) (levels p work e 0 start) (same_length w.live f.at_split.held.live) (f.made.passed []).less before.vacuous) f.before))
 
-      pub resolved : FilterEnsures p sets work e k ts r
+      pub resolved : FilterMade p sets work e k ts r
       resolved = go g.answer
         where
           s : k ≤ 12
           s = short ready
 
-          go : ((r ≡ OBEYED) × NamesGone (take n ts) (split_entries p work e k j)) ⊎ ((r ≡ j) ⊎ (r ≡ ENTAILED * k + j)) → FilterEnsures p sets work e k ts r
+          go : ((r ≡ OBEYED) × NamesGone (take n ts) (split_entries p work e k j)) ⊎ ((r ≡ j) ⊎ (r ≡ ENTAILED * k + j)) → FilterMade p sets work e k ts r
           go (inl q) =
               let h = q.1 in
               let d : filter_ending (take n sets) (levels p work e 0 k) ≡ entailed = sym ending ∙ ap (ending_at k) q.0 ∙ at_obeyed k s in
-              ensures_live ts r (λ z. let o = q.0 in omega arith) left ending
+              ensures_live ts r left ending
               (subst (Mark p (take n ts) (take k work) e) (sym q.0)
               (mark_for_good ts left d (
                 h.0,
@@ -178,12 +173,12 @@ module _ {p : Problem} {sets work tables : List ℕ} {e k start : ℕ} (w : Filt
               )))
           go (inr (inl q)) =
               let l = f.at_split.inside in
-              ensures_live ts r (λ z. omega arith) left ending
+              ensures_live ts r left ending
               (subst (Mark p (take n ts) (take k work) e) (sym q)
               (mark_vacuous ts left j j (omega arith) (omega arith) (omega arith) (λ d. absurd (omega arith)) upto))
           go (inr (inr q)) =
               let l = f.at_split.inside in
               let d : filter_ending (take n sets) (levels p work e 0 k) ≡ entailed = sym ending ∙ ap (ending_at k) q ∙ at_entailed k j s (omega arith) in
-              ensures_live ts r (λ z. omega arith) left ending
+              ensures_live ts r left ending
               (subst (Mark p (take n ts) (take k work) e) (sym q)
               (mark_vacuous ts left j (ENTAILED * k + j) (omega arith) (omega arith) (omega arith) (λ o. every ts left d) upto))

@@ -1,14 +1,14 @@
 -- The level at which a pass stops, its own pair being one that some assignments have and some have not. Assumes nothing.
-use Rattle.model.specs.Kit.{◌≡◌, refl, sym, ap, ap₂, ◌∙◌, subst, Bool, true, false, not, List, [], append-nil, Memᴰ-head, ◌⊎◌, inl, inr, ℕ, ◌+◌, ◌*◌, ◌/◌, ◌%◌, ◌≤◌, ◌<◌, dec_lt, arith, T, take}
-use Rattle.model.specs.Kit.{ne_eqb, le-leb, lt-leb}
-use Rattle.model.specs.Nogood.{Entry, disequality, failed, entailed, consistent, ending_by, every_obeys, filter_ending}
+use Rattle.model.specs.Kit.{◌≡◌, refl, sym, ap, ◌∙◌, subst, Bool, true, false, not, List, [], append-nil, Memᴰ-head, ◌⊎◌, inl, inr, ℕ, ◌+◌, ◌*◌, ◌/◌, ◌%◌, ◌≤◌, ◌<◌, dec_lt, arith, T, take}
+use Rattle.model.specs.Kit.{le-leb, lt-leb}
+use Rattle.model.specs.Nogood.{Entry, disequality, entailed, consistent, ending_by, every_obeys, filter_ending}
 use Rattle.model.specs.{Lists.at, Lists.choose, ValueSets.has, ValueSets.without_mask, Problem.Problem}
 use Rattle.model.proofs.{Lists.at_set, Lists.at_take, Sets.inside_refl}
-use Rattle.arrays.specs.Inner.Places.{ENTAILED, OBEYED, FAILED}
+use Rattle.arrays.specs.Inner.Places.{ENTAILED, OBEYED}
 use Rattle.filter.specs.Inner.Scan.{after, Right, Stepped, None, Some, Live, Passed, Remainder, Changed}
 use Rattle.filter.specs.{declared.entry.Step.Step, Marks.NamesGone}
 use Rattle.filter.proofs.Endings.{every_passed, every_changed, ended_every, unchanged, changed_front, front_consistent, front_remainder, kept_ending, gone_entailed}
-use Rattle.prune_symmetries.specs.Inner.Levels.{image_at, ending_at, cut_of, keep_of, levels, own_at, Held, Ready, AtSplit, SplitReached, split_entries, PassResult, pass_failed, pass_obeyed}
+use Rattle.prune_symmetries.specs.Inner.Levels.{image_at, ending_at, cut_of, keep_of, levels, own_at, Held, Ready, AtSplit, NoneObeys, SplitReached, split_entries, PassCame, pass_obeyed}
 use Rattle.prune_symmetries.specs.Inner.Levels.{pass_ended}
 use Rattle.prune_symmetries.specs.Inner.Levels.{pass_split, forced_by, SplitResult}
 use Rattle.prune_symmetries.proofs.{Levels.levels_split, CutsMade.from_as, ImageTables.image_inside, ImageTables.image_asks, ImageTables.image_is}
@@ -23,33 +23,28 @@ module _ {p : Problem} {ss work tables : List ℕ} {e k start : ℕ} (w : Ready 
   pub short : k ≤ 12
   short = omega (arith, w.prefix.bound, w.tabled.well_formed.few)
 
+  pass_none : NoneObeys p.variables ss (levels p work e start k) → None p.variables ss (levels p work e start k)
+  pass_none z = subst (λ (es : List Entry). None p.variables ss es) (append-nil (levels p work e start k)) (z [])
+
   module _ {rs : List ℕ} {r : ℕ} where
-    pass_none : PassResult p ss work tables e k start rs r → r ≡ FAILED → None p.variables ss (levels p work e start k)
-    pass_none (pass_failed q z) h = subst (λ (es : List Entry). None p.variables ss es) (append-nil (levels p work e start k)) (z [])
-    pass_none (pass_obeyed q f) h = absurd (omega arith)
-    pass_none (pass_ended q t) h = absurd (omega (arith, short))
-    pass_none (pass_split l f) h = absurd (omega (arith, short))
-
     -- all levels passed, or what is left of them
-    pass_end : PassResult p ss work tables e k start rs r → (r ≡ FAILED → ⊥) → k ≤ r → Passed p.variables ss (levels p work e start k) rs []
-    pass_end (pass_failed q z) h l = absurd (h q)
-    pass_end (pass_obeyed q f) h l = from_as (append-nil (levels p work e start k)) (f.passed [])
-    pass_end (pass_ended q t) h l = from_as (append-nil (levels p work e start k)) (t.passed [])
-    pass_end (pass_split m f) h l = absurd (omega arith)
+    pass_end : PassCame p ss work tables e k start rs r → k ≤ r → Passed p.variables ss (levels p work e start k) rs []
+    pass_end (pass_obeyed q f) l = from_as (append-nil (levels p work e start k)) (f.passed [])
+    pass_end (pass_ended q t) l = from_as (append-nil (levels p work e start k)) (t.passed [])
+    pass_end (pass_split m f) l = absurd (omega arith)
 
-    pub pass_split_lem : PassResult p ss work tables e k start rs r → r < k → SplitReached p ss work tables e k start rs r
-    pass_split_lem (pass_failed q z) l = absurd (omega (arith, short))
+    pub pass_split_lem : PassCame p ss work tables e k start rs r → r < k → SplitReached p ss work tables e k start rs r
     pass_split_lem (pass_obeyed q f) l = absurd (omega (arith, short))
     pass_split_lem (pass_ended q t) l = absurd (omega arith)
     pass_split_lem (pass_split m f) l = f
 
-    pass_left : PassResult p ss work tables e k start rs r → r < k → Passed p.variables ss (levels p work e start k) rs (split_entries p work e k r)
+    pass_left : PassCame p ss work tables e k start rs r → r < k → Passed p.variables ss (levels p work e start k) rs (split_entries p work e k r)
     pass_left c l = let f = pass_split_lem c l in from_as (levels_split p work e start r k f.begun l) (f.made.passed (split_entries p work e k r))
 
     -- some assignment obeys, and something is known of what is left
-    pass_some : PassResult p ss work tables e k start rs r → (r ≡ FAILED → ⊥) → Some p.variables ss (levels p work e start k) ×
+    pass_some : PassCame p ss work tables e k start rs r → Some p.variables ss (levels p work e start k) ×
         ((gs : List Entry) × Passed p.variables ss (levels p work e start k) rs gs)
-    pass_some c h = go (dec_lt r k)
+    pass_some c = go (dec_lt r k)
       where
         go : Dec (r < k) → Some p.variables ss (levels p work e start k) × ((gs : List Entry) × Passed p.variables ss (levels p work e start k) rs gs)
         go (yes l) =
@@ -57,7 +52,7 @@ module _ {p : Problem} {ss work tables : List ℕ} {e k start : ℕ} (w : Ready 
               Front.split_some (own_at p work e r / 16) (own_at p work e r % 16) (levels p work e (r + 1) k) (pass_left c l) (own_right f.at_split) f.at_split.split,
               (split_entries p work e k r, pass_left c l),
             )
-        go (no l) = let q = pass_end c h (omega arith) in (Front.ended_some q, ([], q))
+        go (no l) = let q = pass_end c (omega arith) in (Front.ended_some q, ([], q))
 
 -- ---- how the filter ended, by the answer
 pub at_obeyed : (k : ℕ) → k ≤ 12 → ending_at k OBEYED ≡ entailed
@@ -65,11 +60,11 @@ at_obeyed k h = ap (λ (b : Bool). choose b entailed consistent) (le-leb (ENTAIL
 
 pub at_entailed : (k j : ℕ) → k ≤ 12 → j ≤ k → ending_at k (ENTAILED * k + j) ≡ entailed
 at_entailed k j h l =
-    ap₂ (λ (b c : Bool). choose b failed (choose c entailed consistent)) (ne_eqb (ENTAILED * k + j) FAILED (λ q. omega arith)) (le-leb (ENTAILED * k) (ENTAILED * k + j) (omega arith))
+    ap (λ (b : Bool). choose b entailed consistent) (le-leb (ENTAILED * k) (ENTAILED * k + j) (omega arith))
 
 pub at_consistent : (k j : ℕ) → k ≤ 12 → j < k → ending_at k j ≡ consistent
 at_consistent k j h l =
-    ap₂ (λ (b c : Bool). choose b failed (choose c entailed consistent)) (ne_eqb j FAILED (λ q. omega arith)) (lt-leb (ENTAILED * k) j (omega arith))
+    ap (λ (b : Bool). choose b entailed consistent) (lt-leb (ENTAILED * k) j (omega arith))
 
 -- ---- at the split
 module _ {p : Problem} {ss work tables : List ℕ} {e k j : ℕ} (w : AtSplit p ss work tables e k j) where
@@ -130,19 +125,19 @@ module _ {p : Problem} {ss work tables : List ℕ} {e k j : ℕ} (w : AtSplit p 
       none_as z = subst (λ (l : List ℕ). None n l later) forced_as z
 
       -- no assignment has it: the value goes, and every one that is left breaks the equality
-      pub resolve_gone : {rs : List ℕ} {r : ℕ} → PassResult p ts work tables e k (j + 1) rs r → r ≡ FAILED → {us : List ℕ} {s : Step} → Stepped ss (cut_of y) us s
+      pub resolve_gone : NoneObeys p.variables ts (levels p work e (j + 1) k) → {us : List ℕ} {s : Step} → Stepped ss (cut_of y) us s
           → SplitResult p ss work e k j us OBEYED
-      resolve_gone c z {us} {s} st =
+      resolve_gone c {us} {s} st =
           subst (λ (l : List ℕ). SplitResult p ss work e k j l OBEYED) (sym (st.sets ∙ ap (λ (u : ℕ). after ss (cut_of u)) is))
           (record {
             left = left;
             less = Front.without_less w.held.live x v right.0;
-            ending = at_obeyed k few ∙ sym (gone_entailed w.held.live x v later begun right w.split (none_as (pass_none forced_ready c z)));
+            ending = at_obeyed k few ∙ sym (gone_entailed w.held.live x v later begun right w.split (none_as (pass_none forced_ready c)));
             answer = inl (refl, (x, v, Memᴰ-head refl, subst (λ (m : ℕ). x < m) (sym (Front.front_length left.live)) right.0, gone));
           })
         where
           left : Remainder n ss (split_entries p work e k j) out
-          left = Front.split_gone x v later begun right w.split (Front.front_length w.held.live) (none_as (pass_none forced_ready c z))
+          left = Front.split_gone x v later begun right w.split (Front.front_length w.held.live) (none_as (pass_none forced_ready c))
 
           gone : T (has (at (take n out) x) v) → ⊥
           gone t =
@@ -168,18 +163,18 @@ module _ {p : Problem} {ss work tables : List ℕ} {e k j : ℕ} (w : AtSplit p 
       kept_entailed : Some n ts later → every_obeys (take n ts) later ≡ true → SplitResult p ss work e k j ss (ENTAILED * k + j)
       kept_entailed t q = kept (ENTAILED * k + j) t true q (at_entailed k j few (omega (arith, w.inside))) (inr refl)
 
-      module _ {rs : List ℕ} {r : ℕ} (c : PassResult p ts work tables e k (j + 1) rs r) (z : r ≡ FAILED → ⊥) where
+      module _ {rs : List ℕ} {r : ℕ} (c : PassCame p ts work tables e k (j + 1) rs r) where
         -- a value was taken on the way
         pub resolve_changed : (d : Bool) → Changed d ts rs → d ≡ true → SplitResult p ss work e k j ss j
         resolve_changed d g q =
-            let m = pass_some forced_ready c z in
+            let m = pass_some forced_ready c in
             kept_consistent m.0 (every_changed ahead m.1.1 (changed_front ahead m.1.1 d g q))
 
         module _ (d : Bool) (g : Changed d ts rs) (u : d ≡ false) where
           -- none was, to the end
           pub resolve_end : k ≤ r → SplitResult p ss work e k j ss (ENTAILED * k + j)
           resolve_end l =
-              let m = pass_end forced_ready c z l in
+              let m = pass_end forced_ready c l in
               kept_entailed (Front.ended_some m) (ended_every ahead m (ap (take n) (unchanged ahead m.live d g u)))
 
           -- none was, to the next split: as there
@@ -199,7 +194,7 @@ module _ {p : Problem} {ss work tables : List ℕ} {e k j : ℕ} (w : AtSplit p 
                 ∙ ap (λ (m : List ℕ). every_obeys (take n m) (split_entries p work e k r)) (sym same)
 
             some : Some n ts later
-            some = (pass_some forced_ready c z).0
+            some = (pass_some forced_ready c).0
 
             module _ {vs : List ℕ} {s : ℕ} (f : SplitResult p rs work e k r vs s) where
               pub resolve_consistent : s < ENTAILED → SplitResult p ss work e k j ss j
@@ -207,8 +202,7 @@ module _ {p : Problem} {ss work tables : List ℕ} {e k j : ℕ} (w : AtSplit p 
                 where
                   low : ending_at k s ≡ consistent
                   low =
-                      ap₂ (λ (b c : Bool). choose b failed (choose c entailed consistent)) (ne_eqb s FAILED (λ q. omega arith))
-                      (lt-leb (ENTAILED * k) s (let h = w.inside in omega arith))
+                      ap (λ (b : Bool). choose b entailed consistent) (lt-leb (ENTAILED * k) s (let h = w.inside in omega arith))
 
               module _ (m : ENTAILED ≤ s) where
                 high : filter_ending (take n rs) (split_entries p work e k r) ≡ entailed

@@ -4,8 +4,8 @@ use Rattle.model.specs.{Lists.at, Problem.Problem, Nogood.Entry}
 use Rattle.filter.specs.declared.entry.Step.TheVariants.{Next, Failed, Obeyed, Split}
 use Rattle.filter.specs.{declared.entry.Step.Step, Inner.Scan.Right, Inner.Scan.Stepped}
 use Rattle.filter.proofs.Marks.{vacuous_nil, vacuous_mono}
-use Rattle.arrays.specs.{Inner.Places.ENTAILED, Inner.Places.OBEYED, Inner.Places.FAILED, Inner.Tables.image_of}
-use Rattle.prune_symmetries.specs.Inner.Levels.{image_at, keep_of, cuts, level_of, levels, CutsMade, CutsObeyed, NoneObeys, Held, Level, CutResult, LevelResult, Ready, PassResult, pass_failed}
+use Rattle.arrays.specs.{Inner.Places.ENTAILED, Inner.Places.OBEYED, Inner.Tables.image_of}
+use Rattle.prune_symmetries.specs.Inner.Levels.{image_at, keep_of, cuts, level_of, levels, CutsMade, CutsObeyed, NoneObeys, Held, Level, CutResult, LevelResult, Ready, PassCame}
 use Rattle.prune_symmetries.specs.Inner.Levels.{pass_obeyed, pass_ended, pass_split}
 use Rattle.prune_symmetries.proofs.CutsMade.{same_length, vacuous_made, equality_next, equality_obeyed, made_live, made_on, obeyed_on, none_on, obeyed_more, none_more}
 use Rattle.prune_symmetries.proofs.{Levels.levels_none, Levels.levels_append, Levels.levels_one, ImageTables.image_inside, ImageTables.image_is}
@@ -70,7 +70,7 @@ module _ {p : Problem} {ss work tables : List ℕ} {e k start : ℕ} (w : Ready 
       }
 
   module _ {rs : List ℕ} {j : ℕ} (i : Passing p ss work e k start rs j) where
-    pub ends : k ≤ j → PassResult p ss work tables e k start rs (ENTAILED * k + k)
+    pub ends : k ≤ j → PassCame p ss work tables e k start rs (ENTAILED * k + k)
     ends h =
         let q : j ≡ k = omega (arith, i.bound) in
         pass_ended refl (subst (λ (m : ℕ). CutsMade p.variables ss (levels p work e start m) rs) q i.made)
@@ -102,17 +102,17 @@ module _ {p : Problem} {ss work tables : List ℕ} {e k start : ℕ} (w : Ready 
               made = subst (λ (es : List Entry). CutsMade p.variables ss es ts) (sym one_more) (made_on i.made here ts (level_as Next q));
             }
 
-        pub turn_failed : r ≡ Failed → PassResult p ss work tables e k start ts FAILED
+        pub turn_failed : r ≡ Failed → NoneObeys p.variables ss (levels p work e start k)
         turn_failed q =
-            pass_failed refl (subst (λ (es : List Entry). NoneObeys p.variables ss es) all
-            (none_more p.variables ss (levels p work e start j ++ here) (levels p work e (j + 1) k) (none_on i.made here (level_as Failed q))))
+            subst (λ (es : List Entry). NoneObeys p.variables ss es) all
+            (none_more p.variables ss (levels p work e start j ++ here) (levels p work e (j + 1) k) (none_on i.made here (level_as Failed q)))
 
-        pub turn_obeyed : r ≡ Obeyed → PassResult p ss work tables e k start ts OBEYED
+        pub turn_obeyed : r ≡ Obeyed → PassCame p ss work tables e k start ts OBEYED
         turn_obeyed q =
             pass_obeyed refl (subst (λ (es : List Entry). CutsObeyed p.variables ss es ts) all
             (obeyed_more (levels p work e (j + 1) k) (obeyed_on i.made here ts (level_as Obeyed q))))
 
-        pub turn_split : r ≡ Split → PassResult p ss work tables e k start ts j
+        pub turn_split : r ≡ Split → PassCame p ss work tables e k start ts j
         turn_split q =
             let s = level_as Split q in
             pass_split h (record {

@@ -9,7 +9,7 @@ ghost use Rattle.model.specs.Problem.{Problem};
 ghost use Rattle.prune_symmetries.specs.Inner.Levels.{FilterRequires, FilterEnsures, image_at, Missed, Taken, Level, cuts, CutResult, LevelResult, Ready};
 ghost use Rattle.prune_symmetries.specs.Inner.Levels.{PassResult, AtSplit, SplitResult};
 
-use arrays::{ENTAILED, FAILED, OBEYED, OWN, SMALLER, Tables, Work};
+use arrays::{ENTAILED, OBEYED, OWN, SMALLER, Tables, Work};
 use filter::entry;
 use filter::entry::Step;
 
@@ -19,10 +19,8 @@ fn hits(sets: &[u16; 16], tables: &Tables, first: usize) -> bool
     ensures { Missed result sets.now tables.now first }
 {
     let mut hit = 0u16;
-    let mut y = 0;
-    while y < 16 {
-        hit = hit | (sets[y] & tables[first + y]);
-        y += 1;
+    for y in 0..16 {
+        hit |= sets[y] & tables[first + y];
     }
     hit != 0
 }
@@ -34,12 +32,10 @@ fn take(sets: &mut [u16; 16], tables: &Tables, first: usize) -> bool
 {
     let mut left = *sets;
     let mut empty = false;
-    let mut y = 0;
-    while y < 16 {
+    for y in 0..16 {
         let t = left[y] & !tables[first + y];
         left[y] = t;
-        empty = empty | (t == 0);
-        y += 1;
+        empty |= t == 0;
     }
     *sets = left;
     empty
@@ -81,25 +77,30 @@ fn level(sets: &mut [u16; 16], tables: &Tables, e: usize, x: usize, v: usize) ->
     entry::equality(sets, (y / 16) as usize, (y % 16) as u8)
 }
 
-// Passes the levels from a start, until the result is known: FAILED, OBEYED, the level that splits the assignments, or the mark of the end.
-fn pass(sets: &mut [u16; 16], work: &Work, tables: &Tables, e: usize, k: usize, start: usize) -> u64
+// Passes the levels from a start, until the result is known: None where no assignment obeys, OBEYED, the level that splits the assignments, or the mark of the
+// end.
+fn pass(
+    sets: &mut [u16; 16],
+    work: &Work,
+    tables: &Tables,
+    e: usize,
+    k: usize,
+    start: usize,
+) -> Option<u64>
     requires { (p : Problem) × Ready p sets.old work.now tables.now e k start }
     ensures sixteen { length sets.new ≡ length sets.old }
     ensures entries { (p : Problem) → Ready p sets.old work.now tables.now e k start → PassResult p
         sets.old work.now tables.now e k start sets.new result }
 {
-    let mut j = start;
-    while j < k {
-        let step = level(sets, tables, e, j, work[j] as usize);
-        match step {
+    for j in start..k {
+        match level(sets, tables, e, j, work[j] as usize) {
             Step::Next => {}
-            Step::Failed => return FAILED,
-            Step::Obeyed => return OBEYED,
-            Step::Split => return j as u64,
+            Step::Failed => return None,
+            Step::Obeyed => return Some(OBEYED),
+            Step::Split => return Some(j as u64),
         }
-        j += 1;
     }
-    ENTAILED * k as u64 + k as u64
+    Some(ENTAILED * k as u64 + k as u64)
 }
 
 // At a level whose own pair some assignments have and some have not: the pair goes where no assignment that has it obeys the levels after it, and
@@ -123,11 +124,10 @@ fn resolve(
     let mut ahead = *sets;
     entry::force(&mut ahead, x, v);
     let forced = ahead;
-    let reached = pass(&mut ahead, work, tables, e, k, split + 1);
-    if reached == FAILED {
+    let Some(reached) = pass(&mut ahead, work, tables, e, k, split + 1) else {
         entry::disequality(sets, x, v);
         return OBEYED;
-    }
+    };
     if entry::changed(&forced, &ahead) {
         return split as u64;
     }
@@ -151,7 +151,7 @@ pub fn due(mark: u64, k: usize) -> bool
 }
 
 // Takes from the sets each value that no assignment uses that is drawn from them and obeys the nogoods of symmetry e at the prefix of k values;
-// the levels before the mark's say nothing more. FAILED where none obeys, and the sets then say nothing; else the next mark, which says too
+// the levels before the mark's say nothing more. None where none obeys, and the sets then say nothing; else the next mark, which says too
 // whether every assignment from the sets left obeys.
 pub fn filter(
     sets: &mut [u16; 16],
@@ -160,14 +160,14 @@ pub fn filter(
     e: usize,
     k: usize,
     mark: u64,
-) -> u64
+) -> Option<u64>
     requires { (p : Problem) × FilterRequires p sets.old work.now tables.now e k (mark % ENTAILED) }
     ensures { (p : Problem) → FilterRequires p sets.old work.now tables.now e k (mark % ENTAILED) → FilterEnsures p
         sets.old work.now e k sets.new result }
 {
-    let reached = pass(sets, work, tables, e, k, (mark % ENTAILED) as usize);
+    let reached = pass(sets, work, tables, e, k, (mark % ENTAILED) as usize)?;
     if reached < k as u64 {
-        return resolve(sets, work, tables, e, k, reached as usize);
+        return Some(resolve(sets, work, tables, e, k, reached as usize));
     }
-    reached
+    Some(reached)
 }

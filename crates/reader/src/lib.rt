@@ -1,5 +1,5 @@
 // Reading a sheet: the number at an offset of a slice, and a reader that holds the lent sheet and its present offset and moves along.
-// The functions over the reader are thin: each takes it apart, and the work is in functions on the slice and the number.
+// Its methods are thin: each takes it apart, and the work is in functions on the slice and the number.
 #![tactic(auto)]
 
 ghost use Rattle.std.specs.Prelude.{◌≡◌, ◌+◌, ◌≤◌, ◌<◌, ◌^◌, length};
@@ -9,7 +9,7 @@ ghost use Rattle.reader.specs.Inner.Read.{stated};
 use model::wide;
 
 // The eight numbers of the header.
-#[derive(Clone, Copy)]
+#[derive(Clone, Copy, Debug, PartialEq, Eq)]
 pub struct Header {
     pub variables: usize,
     pub values: usize,
@@ -38,29 +38,31 @@ fn word_at(sheet: &[u8], at: usize) -> usize
     wide(sheet[at]) + 256 * wide(sheet[at + 1])
 }
 
-// A reader at an offset of a sheet.
-fn new<'a>(sheet: &'a [u8], at: usize) -> Reader<'a>
-    ensures { (result.sheet ≡ sheet.entry) × (result.at ≡ at) }
-{
-    Reader { sheet, at }
-}
+impl<'a> Reader<'a> {
+    // A reader at an offset of a sheet.
+    fn new(sheet: &'a [u8], at: usize) -> Reader<'a>
+        ensures { (result.sheet ≡ sheet.entry) × (result.at ≡ at) }
+    {
+        Reader { sheet, at }
+    }
 
-// The number at the reader's offset.
-fn word<'a>(r: Reader<'a>) -> usize
-    requires { r.at + 1 < length r.sheet.now }
-    ensures { result ≡ word_of r.entry.sheet.now r.entry.at }
-{
-    word_at(r.sheet, r.at)
-}
+    // The number at the reader's offset.
+    fn word(self) -> usize
+        requires { self.at + 1 < length self.sheet.now }
+        ensures { result ≡ word_of self.entry.sheet.now self.entry.at }
+    {
+        word_at(self.sheet, self.at)
+    }
 
-// The reader after that number.
-fn next<'a>(r: Reader<'a>) -> Reader<'a>
-    requires { r.at + 2 < 2 ^ 64 }
-    ensures { (result.sheet ≡ r.entry.sheet) × (result.at ≡ r.entry.at + 2) }
-{
-    Reader {
-        sheet: r.sheet,
-        at: r.at + BYTES,
+    // The reader after that number.
+    fn next(self) -> Reader<'a>
+        requires { self.at + 2 < 2 ^ 64 }
+        ensures { (result.sheet ≡ self.entry.sheet) × (result.at ≡ self.entry.at + 2) }
+    {
+        Reader {
+            sheet: self.sheet,
+            at: self.at + BYTES,
+        }
     }
 }
 
@@ -69,7 +71,7 @@ pub fn read_word(sheet: &[u8], at: usize) -> usize
     requires { at + 1 < length sheet.now }
     ensures { result ≡ word_of sheet.now at }
 {
-    word(new(sheet, at))
+    Reader::new(sheet, at).word()
 }
 
 // The header, by one reader that goes on from number to number.
@@ -77,22 +79,22 @@ pub fn read_header(sheet: &[u8]) -> Header
     requires { 16 ≤ length sheet.now }
     ensures { stated result ≡ header_of sheet.now }
 {
-    let mut r = new(sheet, 0);
-    let variables = word(r);
-    r = next(r);
-    let values = word(r);
-    r = next(r);
-    let constraints = word(r);
-    r = next(r);
-    let symmetries = word(r);
-    r = next(r);
-    let first = word(r);
-    r = next(r);
-    let second = word(r);
-    r = next(r);
-    let third = word(r);
-    r = next(r);
-    let size = word(r);
+    let mut r = Reader::new(sheet, 0);
+    let variables = r.word();
+    r = r.next();
+    let values = r.word();
+    r = r.next();
+    let constraints = r.word();
+    r = r.next();
+    let symmetries = r.word();
+    r = r.next();
+    let first = r.word();
+    r = r.next();
+    let second = r.word();
+    r = r.next();
+    let third = r.word();
+    r = r.next();
+    let size = r.word();
     Header {
         variables,
         values,

@@ -33,10 +33,10 @@ fn put_digits(out: &mut [u8], at: usize, x: usize) -> usize
     ensures { Written out.old at (decimal x) out.new result }
 {
     if x < 10 {
-        return put_byte(out, at, 48 + x as u8);
+        return put_byte(out, at, b'0' + x as u8);
     }
     let next = put_digits(out, at, x / 10);
-    put_byte(out, next, 48 + (x % 10) as u8)
+    put_byte(out, next, b'0' + (x % 10) as u8)
 }
 
 // Puts a space and a number in decimal.
@@ -44,7 +44,7 @@ fn put_number(out: &mut [u8], at: usize, x: usize) -> usize
     requires { at + length (field x) ≤ length out.old }
     ensures { Written out.old at (field x) out.new result }
 {
-    let next = put_byte(out, at, 32);
+    let next = put_byte(out, at, b' ');
     put_digits(out, next, x)
 }
 
@@ -54,10 +54,8 @@ fn put_row(out: &mut [u8], at: usize, row: &[u8]) -> usize
     ensures { Written out.old at (fields row.now) out.new result }
 {
     let mut next = at;
-    let mut i = 0;
-    while i < row.len() {
-        next = put_number(out, next, row[i] as usize);
-        i += 1;
+    for value in row {
+        next = put_number(out, next, usize::from(*value));
     }
     next
 }
@@ -69,7 +67,7 @@ fn plan_line(out: &mut [u8], at: usize, row: &[u8]) -> usize
 {
     let word = put(out, at, b"plan");
     let values = put_row(out, word, row);
-    put_byte(out, values, 10)
+    put_byte(out, values, b'\n')
 }
 
 // Puts at the front the lines of the plans listed, which are rows of n bytes.
@@ -78,12 +76,9 @@ fn plan_lines(out: &mut [u8], list: &[u8], n: usize, plans: usize) -> usize
     ensures { Written out.old 0 (plan_lines n plans list.now) out.new result }
 {
     let mut next = 0;
-    let mut at = 0;
-    let mut i = 0;
-    while i < plans {
+    for i in 0..plans {
+        let at = i * n;
         next = plan_line(out, next, &list[at..at + n]);
-        at += n;
-        i += 1;
     }
     next
 }
@@ -92,13 +87,11 @@ fn plan_lines(out: &mut [u8], list: &[u8], n: usize, plans: usize) -> usize
 fn digit_count(x: u8) -> usize
     ensures { (result ≡ length (decimal x)) × (result ≤ 3) }
 {
-    if x < 10 {
-        return 1;
+    match x {
+        0..=9 => 1,
+        10..=99 => 2,
+        _ => 3,
     }
-    if x < 100 {
-        return 2;
-    }
-    3
 }
 
 // The length of the lines of the plans listed: five bytes each, and for each value a space and its digits.
@@ -108,10 +101,8 @@ fn lines_length(list: &[u8], n: usize, plans: usize) -> usize
 {
     let values = plans * n;
     let mut length = 5 * plans;
-    let mut i = 0;
-    while i < values {
-        length += 1 + digit_count(list[i]);
-        i += 1;
+    for value in &list[..values] {
+        length += 1 + digit_count(*value);
     }
     length
 }
@@ -149,7 +140,7 @@ fn ending_line(out: &mut [u8], word: &[u8], plans: usize, nodes: usize, families
     let listed = put_number(out, word_end, plans);
     let made = put_number(out, listed, nodes);
     let counted = put_number(out, made, families);
-    put_byte(out, counted, 10)
+    put_byte(out, counted, b'\n')
 }
 
 // The same with a dash for the families.
@@ -171,7 +162,7 @@ fn refused_line(out: &mut [u8], number: usize, item: usize) -> usize
     let word = put(out, 0, b"refused");
     let numbered = put_number(out, word, number);
     let ended = put_number(out, numbered, item);
-    put_byte(out, ended, 10)
+    put_byte(out, ended, b'\n')
 }
 
 // The report of a finished run: the plans listed, then its ending with the number of families. Answers its length, as those below do; where the buffer

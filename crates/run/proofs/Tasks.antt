@@ -6,9 +6,12 @@ use Rattle.run_input.specs.Lent.{verdict_lent, problem_lent}
 use Rattle.run_input.proofs.Lent.{well_sheet}
 use Rattle.run_enough.specs.{AtLeast.Enough, AtLeast.enough, AtLeast.too_few, AtLeast.unknown, AtLeast.enough_of, AtLeast.nodes_to, Lent.answered, Lent.enough_lent}
 use Rattle.run_enough.proofs.AtLeast.{enough_none_lem, says, enough_run}
-use Rattle.run.specs.{Meaning.means, Inner.Whole.Wanted, Inner.Tasks.enough_none, Inner.Tasks.enough_for, declared.Answer.Answer}
+use Rattle.run.specs.{Meaning.means, Inner.Whole.Wanted, Inner.Tasks.enough_none, Inner.Tasks.enough_for}
 use Rattle.model.proofs.Accepted.{is_accepted_lem}
 use Rattle.model.specs.Run as Run
+use Rattle.std.specs.Prelude.{Result}
+use Rattle.model.specs.declared.refusals.Refusal.{Refusal}
+use Rattle.run_state.specs.declared.Ending as S
 
 pub none_asked : (b pairs block : List ℕ) (limit : ℕ) → enough_none b pairs block ≡ enough_lent b pairs block limit 0
 unfolding enough_none enough_lent
@@ -41,7 +44,7 @@ module _ (p : Problem) (limit m : ℕ) (some : 1 ≤ p.variables) where
       go (spent plans made) s = ap answered (sym s)
       go (full plans made) s = ap answered (ap (λ (k : ℕ). enough k made) (sym (yes_exactly p limit (suc m)) ∙ ap (λ (y : Enough). yes_for y (suc m)) s) ∙ sym s)
 
-module _ (b pairs block : List ℕ) (limit : ℕ) (r : Answer) where
+module _ (b pairs block : List ℕ) (limit : ℕ) (r : Result S.Ending Refusal) where
   said_more : (m : ℕ) → Wanted (suc m) b pairs block limit r → enough_for (means r) (suc m) ≡ enough_lent b pairs block limit (suc m)
   unfolding enough_lent
   said_more m h = go (verdict_lent b pairs block) refl

@@ -6,20 +6,21 @@ use Rattle.model.proofs.{Lists.length_none, Lists.at_set, Lists.at_set_other, Li
 use Rattle.order.specs.{Reordered.write, RunBy.result_by, RunBy.place_counts, RunBy.place_tally, RunBy.answer_by, RunBy.list_by, RunBy.tallied_by}
 use Rattle.run_input.specs.Lent.{verdict_lent, order_lent, problem_with, problem_lent, answer_lent, list_lent, tally_lent}
 use Rattle.run_input.proofs.Lent.{well_sheet}
-use Rattle.arrays.specs.Inner.Places.{PLANS, ALL, SPENT, REFUSED, NUMBERS, STACK, SUPPORTS, TABLES, WORK, WANTED}
+use Rattle.arrays.specs.Inner.Places.{PLANS, ALL, SPENT, NUMBERS, STACK, SUPPORTS, TABLES, WORK, WANTED}
 use Rattle.sheet.proofs.Whole.{zeros}
 use Rattle.run_state.specs.Inner.Walk.{all_noted, stop_in, tally_by}
-use Rattle.run.specs.{Meaning.means, Inner.Whole.Stopped, Inner.Whole.Answered, Inner.Whole.Wanted, declared.Answer.Answer}
-use Rattle.run_search.specs.{Inner.Prepared.bytes_for, Inner.Prepared.Blank, Inner.Explored.result_for, Inner.Explored.Explored}
+use Rattle.run.specs.{Meaning.means, Inner.Whole.Answered, Inner.Whole.Wanted}
+use Rattle.run_search.specs.{Inner.Prepared.bytes_for, Inner.Prepared.Blank, Inner.Prepared.Refuses, Inner.Explored.result_for, Inner.Explored.Explored}
 use Rattle.run_state.proofs.Outcome.{noted_all_none, noted_all_over}
 use Rattle.model.specs.Verdict as model
 use Rattle.model.specs.Run as Run
+use Rattle.std.specs.Prelude as R
+use Rattle.std.specs.Prelude.{Ok, Err}
+use Rattle.model.specs.declared.refusals.Refusal.{Refusal}
+use Rattle.run_state.specs.Meaning.{ending_of}
+use Rattle.run_state.specs.declared.Ending as S
 
 -- ---- the answer
-pub stopped : (task b pairs block : List ℕ) (limit : ℕ) (list : List ℕ) (tally : Tally) (work' list' : List ℕ) (tally' : Tally) (stop : ℕ)
-    → Explored task b pairs block limit list tally work' list' tally' stop → Stopped work' stop
-stopped task b pairs block limit list tally work' list' tally' stop h = record { number = λ z. (h.refused z).0.number; known = h.known }
-
 -- an ending is known by its figures and how it stopped
 abbrev ending_by : ℕ → ℕ → ℕ → Run.Ending
 ending_by plans made stop = choose (eqb stop ALL) (finished plans made) (choose (eqb stop SPENT) (spent plans made) (full plans made))
@@ -40,47 +41,37 @@ refused_same : {number item number' item' : ℕ} → refused number item ≡ ref
 refused_same e = (cc, cc)
 
 -- what is known of a run that carried out a task
-pub record Ran (task b pairs block : List ℕ) (limit : ℕ) (list : List ℕ) (tally : Tally) (list' : List ℕ) (tally' : Tally) (r : Answer) : Type 0 where
+pub record Ran (task b pairs block : List ℕ) (limit : ℕ) (list : List ℕ) (tally : Tally) (list' : List ℕ) (tally' : Tally) (r : R.Result S.Ending Refusal) : Type 0 where
   pub refused : (number item : ℕ) → verdict_lent b pairs block ≡ refused number item → (means r ≡ refusal number item) × (list' ≡ list) × (tally' ≡ tally)
   pub ended : verdict_lent b pairs block ≡ accepted →
       (means r ≡ ended (result_for task b pairs block limit (length list)).ending)
       × (list' ≡ all_noted (map (write (order_lent b pairs)) (result_for task b pairs block limit (length list)).rows) list)
       × (tally' ≡ tally_by (order_lent b pairs) (nodes (problem_lent b pairs block)) (nodes_in (result_for task b pairs block limit (length list)).ending))
 
-module _ (task b pairs block : List ℕ) (limit : ℕ) (list : List ℕ) (tally : Tally) (work' list' : List ℕ) (tally' : Tally) (stop : ℕ)
-    (h : Explored task b pairs block limit list tally work' list' tally' stop) (made : ℕ) (is : made ≡ tally'.nodes) (r : Answer) (a : Answered work' made stop r) where
-  abbrev x : Result
-  x = result_for task b pairs block limit (length list)
+module _ (task b pairs block : List ℕ) (limit : ℕ) (list : List ℕ) (tally : Tally) where
+  pub ran_refused : (by : Refusal) → Refuses b pairs block by → (list' : List ℕ) (tally' : Tally) → list' ≡ list → tally' ≡ tally → Ran task b pairs block limit list tally list' tally' (Err by)
+  ran_refused by h list' tally' l t = record {
+    refused = λ number item v. let w = refused_same (sym h ∙ v) in (ap₂ refusal w.0 w.1, l, t);
+    ended = λ v. absurd (refused_not (sym h ∙ v));
+  }
 
-  same_ending : (stop ≡ REFUSED → ⊥) → means r ≡ ended x.ending
+  pub ran_ended : (work' list' : List ℕ) (tally' : Tally) (stop : ℕ) → Explored task b pairs block limit list work' list' tally' stop → (made : ℕ) → made ≡ tally'.nodes → (e : S.Ending) →
+      Answered work' made stop (ending_of e) → Ran task b pairs block limit list tally list' tally' (Ok e)
   unfolding tally_by
-  same_ending n =
-      let f = a.ended n in
-      let o = h.ended n in
-      f.1 ∙ ap ended (ended_same f.0 x.ending (f.2 ∙ o.plans) (f.3 ∙ is ∙ ap (λ (t : Tally). t.nodes) o.tally) (f.4 ∙ o.stopped))
-
-  pub ran_so : Ran task b pairs block limit list tally list' tally' r
-  ran_so = go (eqb stop REFUSED) refl
-    where
-      go : (c : Bool) → eqb stop REFUSED ≡ c → Ran task b pairs block limit list tally list' tally' r
-      go true e =
-          let z = eqb-true stop REFUSED e in
-          let f = h.refused z in
-          record {
-            refused = λ number item v. let w = refused_same (sym f.0.verdict ∙ v) in (a.refused z ∙ ap₂ refusal w.0 w.1, f.1, f.2);
-            ended = λ v. absurd (refused_not (sym f.0.verdict ∙ v));
-          }
-      go false e =
-          let n = eqb-false stop REFUSED e in
-          let o = h.ended n in
-          record {
-            refused = λ number item v. absurd (refused_not (sym v ∙ h.accepted n));
-            ended = λ v. (same_ending n, o.wrote, o.tally);
-          }
+  ran_ended work' list' tally' stop h made is e a =
+      let x : Result = result_for task b pairs block limit (length list) in
+      record {
+        refused = λ number item v. absurd (refused_not (sym v ∙ h.accepted));
+        ended = λ v. (
+          ap ended (ended_same (ending_of e) x.ending (a.plans ∙ h.ended.plans) (a.nodes ∙ is ∙ ap (λ (t : Tally). t.nodes) h.ended.tally) (a.stopped ∙ h.ended.stopped)),
+          h.ended.wrote,
+          h.ended.tally,
+        );
+      }
 
 -- ---- a run that lists
 -- what its contract says
-pub record Said (b pairs block : List ℕ) (limit : ℕ) (list : List ℕ) (tally : Tally) (list' : List ℕ) (tally' : Tally) (r : Answer) : Type 0 where
+pub record Said (b pairs block : List ℕ) (limit : ℕ) (list : List ℕ) (tally : Tally) (list' : List ℕ) (tally' : Tally) (r : R.Result S.Ending Refusal) : Type 0 where
   pub answer : means r ≡ answer_lent b pairs block limit list
   pub lists : list' ≡ list_lent b pairs block limit list
   pub counts : tally' ≡ tally_lent b pairs block limit list tally
@@ -106,7 +97,8 @@ kept_listed p order limit list s = go (eqb (length list) 0) refl
         ∙ sym (ap (λ (rows : List (List ℕ)). written (map (write order) rows) list) (ap (λ (k : ℕ). (result_of p limit k).rows) z ∙ no_rows p limit s))
     go false e = noted_all_over (map (write order) (result_of p limit (length list)).rows) list (eqb-false (length list) 0 e)
 
-module _ (task b pairs block : List ℕ) (limit : ℕ) (list : List ℕ) (tally : Tally) (list' : List ℕ) (tally' : Tally) (r : Answer) (h : Ran task b pairs block limit list tally list' tally' r)
+module _ (task b pairs block : List ℕ) (limit : ℕ) (list : List ℕ) (tally : Tally) (list' : List ℕ) (tally' : Tally) (r : R.Result S.Ending Refusal)
+    (h : Ran task b pairs block limit list tally list' tally' r)
     (lists : at task WANTED ≡ 0) where
   abbrev y : Result
   y = result_of (problem_lent b pairs block) limit (length list)
@@ -153,7 +145,7 @@ module _ (wanted : ℕ) (some : wanted ≡ 0 → ⊥) where
     unlisted = λ n. refl;
   }
 
-  pub wanted_so : (b pairs block : List ℕ) (limit : ℕ) (list : List ℕ) (tally : Tally) (list' : List ℕ) (tally' : Tally) (r : Answer) → Ran
+  pub wanted_so : (b pairs block : List ℕ) (limit : ℕ) (list : List ℕ) (tally : Tally) (list' : List ℕ) (tally' : Tally) (r : R.Result S.Ending Refusal) → Ran
       (set (replicate WORK 0) WANTED wanted) b pairs block limit list tally list' tally' r → Wanted wanted b pairs block limit r
   wanted_so b pairs block limit list tally list' tally' r h = record {
     refused = λ number item v. (h.refused number item v).0;

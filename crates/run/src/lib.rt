@@ -1,59 +1,43 @@
 // The runs (paper 01, paper 02): the questions, the search, and the answer.
 #![tactic(auto)]
 
-ghost use Rattle.std.specs.Prelude.{◌≡◌};
+ghost use Rattle.std.specs.Prelude.{◌≡◌, Ok};
 ghost use Rattle.run.specs.Meaning.{means, said_enough};
 ghost use Rattle.run.specs.Calls.{CallRun, CallWith, CallLent, CallCounted, CallEnough};
 ghost use Rattle.run.specs.Inner.Tasks.{enough_none, enough_for};
-ghost use Rattle.run.specs.Inner.Whole.{Stopped, Answered, Wanted};
+ghost use Rattle.run.specs.Inner.Whole.{Answered, Wanted};
+ghost use Rattle.run_state.specs.{Meaning.ending_of, Inner.Cut.stop_of};
 
-use arrays::{
-    ALL, ITEM, NUMBER, NUMBERS, PLANS, REFUSED, SPENT, STACK, SUPPORTS, TABLES, WANTED, WORK, Work,
-};
-use run_state::{Ending, Tally};
-
-#[derive(Clone, Copy)]
-pub enum Answer {
-    Refused { number: u8, item: usize },
-    Ended(Ending),
-}
+use arrays::{NUMBERS, PLANS, STACK, SUPPORTS, TABLES, WANTED, WORK, Work};
+use model::refusals::Refusal;
+use run_state::{Cut, Ending, Tally};
 
 // Are there so many plans: yes, no, or spent before that is known; each carries the plans found and the nodes made.
-#[derive(Clone, Copy)]
+#[derive(Clone, Copy, Debug, PartialEq, Eq)]
 pub enum Enough {
-    Refused { number: u8, item: usize },
     Yes(usize, usize),
     No(usize, usize),
     Spent(usize, usize),
 }
 
 // A run's answer, and what it counted.
-#[derive(Clone, Copy)]
+#[derive(Clone, Copy, Debug, PartialEq, Eq)]
 pub struct CountedRun {
-    pub answer: Answer,
+    pub answer: Result<Ending, Refusal>,
     pub tally: Tally,
 }
 
-// The answer of a run that has stopped so, with what stands in `work` and this many nodes.
-pub fn answered(work: &Work, made: u32, stop: u8) -> Answer
-    requires { Stopped work.now stop }
-    ensures { Answered work.now made stop result }
+// The ending of a run that has stopped so, with the plans that stand in `work` and this many nodes.
+pub fn answered(work: &Work, made: u32, stop: Result<(), Cut>) -> Ending
+    ensures { Answered work.now made (stop_of stop) (ending_of result) }
 {
-    if stop == REFUSED {
-        return Answer::Refused {
-            number: work[NUMBER] as u8,
-            item: work[ITEM] as usize,
-        };
-    }
     let plans = work[PLANS] as usize;
     let nodes = made as usize;
-    if stop == ALL {
-        return Answer::Ended(Ending::Finished(plans, nodes));
+    match stop {
+        Ok(()) => Ending::Finished(plans, nodes),
+        Err(Cut::Spent) => Ending::Spent(plans, nodes),
+        Err(Cut::Full) => Ending::Full(plans, nodes),
     }
-    if stop == SPENT {
-        return Answer::Ended(Ending::Spent(plans, nodes));
-    }
-    Answer::Ended(Ending::Full(plans, nodes))
 }
 
 // A run that is lent a sheet, pairs and a block (paper 02, #108 and #111) and counts its nodes in a tally that is lent: the questions first, then the
@@ -66,7 +50,7 @@ pub fn run_lent(
     limit: u32,
     list: &mut [u8],
     tally: &mut Tally,
-) -> Answer
+) -> Result<Ending, Refusal>
     ensures { CallLent sheet.now pairs.now block.now limit list.old tally.old result
         list.new tally.new }
 {
@@ -87,12 +71,18 @@ pub fn run_lent(
         limit,
         list,
         tally,
-    );
-    answered(&work, run_state::nodes_made(tally), stop)
+    )?;
+    Ok(answered(&work, tally.nodes, stop))
 }
 
 // A run that counts up to one plan less than are asked for, with no list.
-fn run_wanted(sheet: &[u8], pairs: &[u8], block: &[u8], limit: u32, wanted: u64) -> Answer
+fn run_wanted(
+    sheet: &[u8],
+    pairs: &[u8],
+    block: &[u8],
+    limit: u32,
+    wanted: u64,
+) -> Result<Ending, Refusal>
     requires { wanted ≡ 0 → ⊥ }
     ensures { Wanted wanted sheet.now pairs.now block.now limit result }
 {
@@ -103,7 +93,7 @@ fn run_wanted(sheet: &[u8], pairs: &[u8], block: &[u8], limit: u32, wanted: u64)
     let mut numbers = [0u64; NUMBERS];
     let mut none = [0u8; 0];
     work[WANTED] = wanted;
-    let step = run_search::prepare(
+    let node = run_search::prepare(
         &mut stack,
         &mut work,
         &mut supports,
@@ -114,16 +104,20 @@ fn run_wanted(sheet: &[u8], pairs: &[u8], block: &[u8], limit: u32, wanted: u64)
         block,
         limit,
         0,
-    );
+    )?;
     let part = run_search::walk_tree(
-        &mut stack, &mut work, &supports, &tables, &numbers, &mut none, step,
+        &mut stack, &mut work, &supports, &tables, &numbers, &mut none, node,
     );
-    let counted = part.tally;
-    answered(&work, counted.nodes, part.stop)
+    Ok(answered(&work, part.tally.nodes, part.stop))
 }
 
 // A run of paper 01, which is lent neither pairs nor a block.
-pub fn run_with(sheet: &[u8], limit: u32, list: &mut [u8], tally: &mut Tally) -> Answer
+pub fn run_with(
+    sheet: &[u8],
+    limit: u32,
+    list: &mut [u8],
+    tally: &mut Tally,
+) -> Result<Ending, Refusal>
     ensures { CallWith sheet.now limit list.old tally.old result list.new tally.new }
 {
     let none = [0u8; 0];
@@ -140,56 +134,51 @@ pub fn run_counted(
 ) -> CountedRun
     ensures { CallCounted sheet.now pairs.now block.now limit list.old result list.new }
 {
-    let mut tally = run_state::no_nodes();
+    let mut tally = Tally::new();
     let answer = run_lent(sheet, pairs, block, limit, list, &mut tally);
-    CountedRun {
-        answer: answer,
-        tally: tally,
-    }
+    CountedRun { answer, tally }
 }
 
 // A run of paper 01 whose tally is not asked for.
-pub fn run(sheet: &[u8], limit: u32, list: &mut [u8]) -> Answer
+pub fn run(sheet: &[u8], limit: u32, list: &mut [u8]) -> Result<Ending, Refusal>
     ensures { CallRun sheet.now limit list.old result list.new }
 {
     let none = [0u8; 0];
-    let r = run_counted(sheet, &none, &none, limit, list);
-    let answer = r.answer;
-    answer
+    run_counted(sheet, &none, &none, limit, list).answer
 }
 
 // No plan is asked for: yes without a node, once the questions are passed.
-fn asked_for_none(sheet: &[u8], pairs: &[u8], block: &[u8]) -> Enough
+fn asked_for_none(sheet: &[u8], pairs: &[u8], block: &[u8]) -> Result<Enough, Refusal>
     ensures { said_enough result ≡ enough_none sheet.now pairs.now block.now }
 {
-    let verdict = run_input::question(sheet, pairs, block);
-    match verdict {
-        sheet::Answer::Accepted => Enough::Yes(0, 0),
-        sheet::Answer::Refused { number, item } => Enough::Refused { number, item },
-    }
+    run_input::question(sheet, pairs, block)?;
+    Ok(Enough::Yes(0, 0))
 }
 
 // What a run says that counted up to one plan less than are asked for: where one more was found, yes.
-fn judged(answer: Answer, m: usize) -> Enough
-    ensures { said_enough result ≡ enough_for (means answer) m }
+fn judged(ending: Ending, m: usize) -> Enough
+    ensures { said_enough (Ok result) ≡ enough_for (means (Ok ending)) m }
 {
-    match answer {
-        Answer::Refused { number, item } => Enough::Refused { number, item },
-        Answer::Ended(ending) => match ending {
-            Ending::Finished(plans, nodes) => Enough::No(plans, nodes),
-            Ending::Spent(plans, nodes) => Enough::Spent(plans, nodes),
-            Ending::Full(_, nodes) => Enough::Yes(m, nodes),
-        },
+    match ending {
+        Ending::Finished(plans, nodes) => Enough::No(plans, nodes),
+        Ending::Spent(plans, nodes) => Enough::Spent(plans, nodes),
+        Ending::Full(_, nodes) => Enough::Yes(m, nodes),
     }
 }
 
 // Are there at least m plans (paper 02, #101)? No list is lent.
-pub fn at_least(sheet: &[u8], pairs: &[u8], block: &[u8], m: usize, limit: u32) -> Enough
+pub fn at_least(
+    sheet: &[u8],
+    pairs: &[u8],
+    block: &[u8],
+    m: usize,
+    limit: u32,
+) -> Result<Enough, Refusal>
     ensures { CallEnough sheet.now pairs.now block.now limit m result }
 {
     if m == 0 {
         return asked_for_none(sheet, pairs, block);
     }
-    let answer = run_wanted(sheet, pairs, block, limit, m as u64);
-    judged(answer, m)
+    let ending = run_wanted(sheet, pairs, block, limit, m as u64)?;
+    Ok(judged(ending, m))
 }

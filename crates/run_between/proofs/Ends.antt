@@ -3,7 +3,7 @@ use Rattle.model.specs.Kit.{◌≡◌, refl, sym, ap, ◌∙◌, subst, Bool, tr
 use Rattle.model.specs.Kit.{length-take-le, eqb-true, eqb-false}
 use Rattle.model.specs.{Lists.at, Problem.Problem, Search.sets_at, Search.is_live, Run.Tally}
 use Rattle.model.proofs.Lists.{at_set, at_set_other, at_take, at_out}
-use Rattle.arrays.specs.Inner.Places.{ROOM, PLANS, LAST, DEEPER, WORK, MEMO}
+use Rattle.arrays.specs.Inner.Places.{ROOM, PLANS, LAST, ALL, DEEPER, WORK, MEMO}
 use Rattle.prune.specs.Inner.Node.{SetsHeld, Marked}
 use Rattle.prune.proofs.Marks.{marked_on}
 use Rattle.run_state.specs.{Inner.Walk.no_nodes, Inner.Pair.prefix_of, Inner.Pair.order_in, Inner.Pair.own_problem_in, Inner.Pair.Cleared, Inner.Pair.ListRoom, Inner.Pair.AtPrefix}
@@ -54,7 +54,7 @@ putting_done path work₀ work i end h n e l u =
       work_length = length-set work LAST end ∙ h.same;
     }
 
--- ---- what was prepared, copied, with the path in it
+-- ---- what was prepared, with the path in it
 pub record Begun (path work work' : List ℕ) : Type 0 where
   pub values : (i : ℕ) → i < length path → i < 12 → at work' i ≡ at path i
   pub last : at work' LAST ≡ min (length path) 12
@@ -121,18 +121,10 @@ pub valued_last : (work last : List ℕ) → at work LAST ≤ 12 → Valued work
 valued_last work last l h =
     prefix_is (take (at work LAST) last) work (at work LAST) (length-take-le (at work LAST) last (let z = h.twelve in omega arith)) (λ i m. at_take (at work LAST) last i m ∙ h.values i m)
 
--- ---- `copied`
-pub copying : (copy work : List ℕ) (i : ℕ) → length copy ≡ WORK → i < WORK → ((j : ℕ) → j < i → at copy j ≡ at work j) → (j : ℕ) → j < i + 1 → at (set copy i (at work i)) j ≡ at work j
-copying copy work i n l h j k = go (eqb j i) refl
-  where
-    go : (c : Bool) → eqb j i ≡ c → at (set copy i (at work i)) j ≡ at work j
-    go true e = let q = eqb-true j i e in ap (at (set copy i (at work i))) q ∙ at_set copy i (at work i) (omega arith) ∙ ap (at work) (sym q)
-    go false e = let q = eqb-false j i e in at_set_other copy i (at work i) j q ∙ h j (omega arith)
-
 -- ---- `walk_part`
 module _ (from upto stack work supports tables numbers list : List ℕ) (step : ℕ) where
-  pub parted_none : (step ≡ DEEPER → ⊥) → (tally : Tally) → Cleared tally → Parted from upto stack work supports tables numbers list step stack work list tally step
-  parted_none n tally t = record { none = λ z. (refl, t.is, refl, refl); some = λ z. absurd (n z) }
+  pub parted_none : step ≡ ALL → (tally : Tally) → Cleared tally → Parted from upto stack work supports tables numbers list step stack work list tally ALL
+  parted_none a tally t = record { none = λ z. (sym a, t.is, refl, refl); some = λ z. absurd (omega arith) }
 
   pub parted_asks : (tally : Tally) → Cleared tally → {p : Problem} → AtBelow p from stack work supports tables numbers list no_nodes 0 → AtBelow p from stack work supports tables numbers list tally 0
   parted_asks tally t {p} g = subst (λ (y : Tally). AtBelow p from stack work supports tables numbers list y 0) (sym t.is) g

@@ -1,42 +1,22 @@
 // The walk along the nodes of a tree that come after one path and not after another.
 #![tactic(auto)]
 
-ghost use Rattle.std.specs.Prelude.{◌≡◌, List, ℕ, ◌+◌, ◌-◌, ◌*◌, ◌≤◌, ◌<◌, min, length, drop};
+ghost use Rattle.std.specs.Prelude.{◌≡◌, List, ℕ, ◌+◌, ◌-◌, ◌*◌, ◌≤◌, ◌<◌, length, drop};
 ghost use Rattle.model.specs.Lists.{at};
 ghost use Rattle.model.specs.Problem.{Problem};
 ghost use Rattle.model.specs.Run as Run;
-ghost use Rattle.run_state.specs.Inner.Pair.{prefix_of, Countable, Counted, Walked};
-ghost use Rattle.run_state.specs.Meaning.{tally_in};
+ghost use Rattle.run_state.specs.Inner.Pair.{prefix_of, Walked};
+ghost use Rattle.run_state.specs.{Meaning.tally_in, Inner.Cut.stop_of, Inner.Cut.node_in};
 ghost use Rattle.run_ranges.specs.Inner.Within.{within, into_nodes, onto_nodes, up_to_nodes};
 ghost use Rattle.run_between.specs.Inner.Steps.{range_mask, AtStep, Stepped, AtPut, PutNode, AtBelow, AtInto, AtUpTo, AtOnto, PutPath, Valued, Parted};
 ghost use Rattle.arrays.specs.Inner.Places.{LAST, DEEPER, WORK};
 ghost use Rattle.arrays.specs.Inner.Places.{DIAGONAL};
 ghost use Rattle.run_state.specs.Inner.Walk.{no_nodes};
 
-use arrays::{
-    ALL, DEEPER, DIAGONAL, LAST, Numbers, SPENT, Stack, Supports, Tables, VARIABLES, Work,
-};
+use arrays::{DIAGONAL, LAST, Numbers, Stack, Supports, Tables, VARIABLES, Work};
 use model::{ValueSet, long};
-use run_state::Tally;
+use run_state::{Cut, Node, Tally};
 use run_tree::CountedPart;
-
-// The tally with one node more, which settles variable x.
-fn with_node(tally: Tally, x: usize) -> Tally
-    requires { Countable x (tally_in tally) }
-    ensures { Counted x (tally_in tally) (tally_in result) }
-{
-    let mut t = tally;
-    t.counts[x] = t.counts[x] + 1;
-    t.nodes = t.nodes + 1;
-    t
-}
-
-// A byte as a wider number.
-fn wide(x: u8) -> u16
-    ensures { (result ≡ x) × (result < 256) }
-{
-    x as u16
-}
 
 // The members from `low` up and below `high`.
 fn middle(set: ValueSet, low: u16, high: u16) -> ValueSet
@@ -55,8 +35,7 @@ fn values_within(stack: &Stack, k: usize, low: u16, high: u16) -> u16
     let set = ValueSet {
         bits: stack[DIAGONAL * k],
     };
-    let others = middle(set, low, high);
-    others.bits
+    middle(set, low, high).bits
 }
 
 // Goes one value down the path that stands in `work`: whether the set of variable k leaves its value, and the prefix with it is live.
@@ -123,13 +102,19 @@ fn into(
         numbers.now list.old (tally_in tally) k → Walked p
         (into_nodes p (p.variables - (k + 1)) (prefix_of work.old k) (at work.old k) from.now upto.now)
         stack.old work.old numbers.now list.old (tally_in tally) k stack.new work.new
-        list.new (tally_in result.tally) result.stop }
+        list.new (tally_in result.tally) (stop_of result.stop) }
 {
     if k + 1 == numbers[VARIABLES] as usize {
-        return CountedPart { stop: ALL, tally };
+        return CountedPart {
+            stop: Ok(()),
+            tally,
+        };
     }
     if !step(stack, work, supports, tables, numbers, k) {
-        return CountedPart { stop: ALL, tally };
+        return CountedPart {
+            stop: Ok(()),
+            tally,
+        };
     }
     below(
         stack,
@@ -163,22 +148,29 @@ fn onto(
     ensures { (p : Problem) → AtOnto p stack.old work.old supports.now tables.now numbers.now
         list.old (tally_in tally) k → Walked p (onto_nodes p (p.variables - (k + 1)) (prefix_of work.old k) v upto.now)
         stack.old work.old numbers.now list.old (tally_in tally) k stack.new work.new
-        list.new (tally_in result.tally) result.stop }
+        list.new (tally_in result.tally) (stop_of result.stop) }
 {
     let set = ValueSet {
         bits: stack[DIAGONAL * k],
     };
-    if !set.contains(wide(v)) {
-        return CountedPart { stop: ALL, tally };
+    if !set.contains(u16::from(v)) {
+        return CountedPart {
+            stop: Ok(()),
+            tally,
+        };
     }
     if tally.nodes == run_state::limit(numbers) {
-        return CountedPart { stop: SPENT, tally };
+        return CountedPart {
+            stop: Err(Cut::Spent),
+            tally,
+        };
     }
     let x = run_state::variable_at(numbers, k);
-    let next = with_node(tally, x);
+    let mut next = tally;
+    next.add_node(x);
     if !put_node(stack, work, supports, tables, numbers, k, v) {
         return CountedPart {
-            stop: ALL,
+            stop: Ok(()),
             tally: next,
         };
     }
@@ -216,17 +208,17 @@ fn up_to(
         tables.now numbers.now list.old (tally_in tally) k → Walked p
         (up_to_nodes p (p.variables - (k + 1)) (prefix_of work.old k) low (at upto.now 0) (drop 1 upto.now))
         stack.old work.old numbers.now list.old (tally_in tally) k stack.new work.new
-        list.new (tally_in result.tally) result.stop }
+        list.new (tally_in result.tally) (stop_of result.stop) }
 {
     let v = upto[0];
-    let high = wide(v);
+    let high = u16::from(v);
     if k + 1 == numbers[VARIABLES] as usize {
         let all = values_within(stack, k, low, high + 1);
         return run_tree::walk_counted(stack, work, supports, tables, numbers, list, tally, k, all);
     }
     let m = values_within(stack, k, low, high);
     let part = run_tree::walk_counted(stack, work, supports, tables, numbers, list, tally, k, m);
-    if part.stop != ALL {
+    if part.stop.is_err() {
         return part;
     }
     let counted = part.tally;
@@ -263,21 +255,27 @@ fn below(
         numbers.now list.old (tally_in tally) k → Walked p
         (within p (p.variables - k) (prefix_of work.old k) from.now upto.now) stack.old work.old
         numbers.now list.old (tally_in tally) k stack.new work.new list.new (tally_in result.tally)
-        result.stop }
+        (stop_of result.stop) }
 {
-    if upto.len() == 0 {
-        return CountedPart { stop: ALL, tally };
+    if upto.is_empty() {
+        return CountedPart {
+            stop: Ok(()),
+            tally,
+        };
     }
-    if from.len() == 0 {
+    if from.is_empty() {
         return up_to(
             stack, work, supports, tables, numbers, list, 0, upto, k, tally,
         );
     }
     let a = from[0];
-    let low = wide(a);
+    let low = u16::from(a);
     let b = upto[0];
     if b < a {
-        return CountedPart { stop: ALL, tally };
+        return CountedPart {
+            stop: Ok(()),
+            tally,
+        };
     }
     if a == b {
         return into(
@@ -306,7 +304,7 @@ fn below(
         k,
         tally,
     );
-    if part.stop != ALL {
+    if part.stop.is_err() {
         return part;
     }
     let counted = part.tally;
@@ -324,23 +322,14 @@ fn below(
     )
 }
 
-// The lesser of two numbers.
-fn lesser(a: usize, b: usize) -> usize
-    ensures { result ≡ min a b }
-{
-    if a <= b { a } else { b }
-}
-
 // Puts a path in `work`, of which twelve values are kept, as the last node made.
 pub fn put_path(work: &mut Work, path: &[u8])
     requires { length work.old ≡ WORK }
     ensures { PutPath path.now work.old work.new }
 {
-    let end = lesser(path.len(), 12);
-    let mut i = 0;
-    while i < end {
+    let end = path.len().min(12);
+    for i in 0..end {
         work[i] = long(path[i]);
-        i += 1;
     }
     work[LAST] = end as u64;
 }
@@ -352,15 +341,13 @@ pub fn last_values(work: &Work) -> [u8; 12]
 {
     let mut last = [0u8; 12];
     let length = work[LAST] as usize;
-    let mut i = 0;
-    while i < length {
+    for i in 0..length {
         last[i] = work[i] as u8;
-        i += 1;
     }
     last
 }
 
-// The walk along the part, where there are nodes: the step says whether there are.
+// The walk along the part, where nodes are below the empty prefix.
 pub fn walk_part(
     stack: &mut Stack,
     work: &mut Work,
@@ -370,16 +357,19 @@ pub fn walk_part(
     list: &mut [u8],
     from: &[u8],
     upto: &[u8],
-    step: u8,
+    node: Node,
 ) -> CountedPart
-    requires { step ≡ DEEPER → (p : Problem) × AtBelow p from.now stack.old work.old supports.now tables.now numbers.now
+    requires { node_in node ≡ DEEPER → (p : Problem) × AtBelow p from.now stack.old work.old supports.now tables.now numbers.now
         list.old no_nodes 0 }
     ensures { Parted from.now upto.now stack.old work.old supports.now tables.now
-        numbers.now list.old step stack.new work.new list.new (tally_in result.tally) result.stop }
+        numbers.now list.old (node_in node) stack.new work.new list.new (tally_in result.tally) (stop_of result.stop) }
 {
-    let tally = run_state::no_nodes();
-    if step != DEEPER {
-        return CountedPart { stop: step, tally };
+    let tally = Tally::new();
+    if let Node::Leaf = node {
+        return CountedPart {
+            stop: Ok(()),
+            tally,
+        };
     }
     below(
         stack, work, supports, tables, numbers, list, from, upto, 0, tally,

@@ -8,7 +8,7 @@ use Rattle.order.proofs.Reordered.{write_at, stand_place}
 use Rattle.arrays.specs.Inner.Places.{VARIABLES, ROOM, PLANS, ALL, FULL, ROWS, FIRST, WORK}
 use Rattle.run_alike.specs.Inner.Alike.{moved}
 use Rattle.run_passed.specs.Inner.Passed.{noted_all}
-use Rattle.run_state.specs.{Inner.Walk.State, Inner.Walk.no_nodes, Inner.Walk.noted, Inner.Walk.listed, Inner.Memo.Stand, Inner.Pair.prefix_of, Inner.Pair.settling, Inner.Pair.order_in}
+use Rattle.run_state.specs.{Inner.Walk.State, Inner.Walk.no_nodes, Inner.Walk.noted, Inner.Memo.Stand, Inner.Pair.prefix_of, Inner.Pair.settling, Inner.Pair.order_in}
 use Rattle.run_state.specs.Inner.Pair.{ListRoom, Listed}
 use Rattle.run_state.proofs.Walk.{noted_none, noted_over, length_noted, length_write, listed_kept, listed_full}
 use Rattle.run_state.proofs.{Memo.Stay, Prefix.length_prefix, Prefix.prefix_at, Prefix.prefix_is, Written.order_at, Written.length_order, Written.settling_inside}

@@ -42,7 +42,7 @@ pub fn is_same(
     if work[s + GOOD] != marks.good {
         return false;
     }
-    if numbers[LIMIT] - (made as u64) < work[s + NODES] {
+    if numbers[LIMIT] - u64::from(made) < work[s + NODES] {
         return false;
     }
     if numbers[ROOM] - work[PLANS] < work[s + ROWS] {
@@ -58,11 +58,9 @@ fn load(work: &mut Work, numbers: &Numbers, list: &mut [u8], k: usize, n: usize,
     ensures list_unchanged { list.new ≡ list.old }
 {
     let from = row * n;
-    let mut i = k;
-    while i < n {
+    for i in k..n {
         let x = numbers[ORDER + i] as usize;
         work[i] = list[from + x] as u64;
-        i += 1;
     }
 }
 
@@ -74,16 +72,15 @@ pub fn copy(work: &mut Work, numbers: &Numbers, list: &mut &mut [u8], k: usize, 
 {
     let rows = work[s + ROWS];
     if list.len() == 0 {
-        work[PLANS] = work[PLANS] + rows;
+        work[PLANS] += rows;
         return;
     }
     let n = numbers[VARIABLES] as usize;
     let first = work[s + FIRST] as usize;
-    let mut r = 0;
-    while r < rows {
+    for r in 0..rows {
         load(work, numbers, *list, k, n, first + r as usize);
-        run_state::list_plan(work, numbers, list);
-        r += 1;
+        // A plan that is listed once more has room.
+        let _ = run_state::list_plan(work, numbers, list);
     }
 }
 
@@ -92,10 +89,8 @@ pub fn take(work: &mut Work, k: usize, s: usize)
     requires { (k < 13) × (length work.old ≡ WORK) × Placed s }
     ensures { Taken work.old k s work.new }
 {
-    let mut x = k;
-    while x < 12 {
+    for x in k..12 {
         work[x] = work[s + ENDS + x];
-        x += 1;
     }
     let nodes = work[s + NODES];
     let vain = work[IDLE + k];
@@ -119,7 +114,7 @@ fn between(old: u32, new: u32) -> u64
     requires { old ≤ new }
     ensures { result ≡ new - old }
 {
-    (new - old) as u64
+    u64::from(new - old)
 }
 
 // Puts the sets of depth k, the last node and the nodes counted between two tallies into the entry at s.
@@ -130,12 +125,10 @@ fn put_figures(stack: &Stack, work: &mut Work, before: Tally, after: Tally, k: u
 {
     let old = before.counts;
     let new = after.counts;
-    let mut x = 0;
-    while x < 12 {
+    for x in 0..12 {
         work[s + SETS + x] = set_at(stack, k, x) as u64;
         work[s + ENDS + x] = work[x];
         work[s + COUNTS + x] = between(old[x], new[x]);
-        x += 1;
     }
 }
 

@@ -1,37 +1,34 @@
 -- The answers to the questions from those of the parts, and the compiled problem in the settling order. Assumes nothing.
-use Rattle.model.specs.Kit.{◌≡◌, refl, sym, ap, ◌∙◌, subst, Bool, List, [], ◌∷◌, ℕ, ◌≤◌, arith, T, eqb, length, take, length-map, eq-eqb, ne_eqb}
-use Rattle.model.specs.{Lists.at, Problem.Problem, Verdict.Verdict, Verdict.accepted, Verdict.ask, Verdict.is_accepted, Sheet.verdict_of, Sheet.problem_of}
+use Rattle.model.specs.Kit.{◌≡◌, refl, sym, ap, ◌∙◌, subst, List, [], ◌∷◌, ℕ, ◌≤◌, arith, T, length, take, length-map}
+use Rattle.model.specs.{Lists.at, Problem.Problem, Verdict.Verdict, Verdict.accepted, Verdict.is_accepted, Sheet.verdict_of, Sheet.problem_of}
 use Rattle.model.proofs.{Accepted.stated, Accepted.symmetries_are, Accepted.passed, Accepted.is_accepted_lem, Lists.never}
-use Rattle.order.specs.{Order.settling_order, Order.order_verdict, Order.Ordering, Reordered.symmetry_in, Reordered.reordered, Inner.Settled.Ordered}
+use Rattle.order.specs.{Order.settling_order, Order.order_verdict, Order.Ordering, Reordered.symmetry_in, Reordered.reordered, Inner.Settled.Ordered, Inner.Settled.followed}
 use Rattle.order.proofs.{Order.no_pairs, Reordered.well_reordered, LeadersBy.reordered_below}
 use Rattle.arrays.specs.{Inner.Layout.Compiled, Inner.Places.VARIABLES}
 use Rattle.arrays_order.specs.Inner.Reorder.{Movable, Moved}
-use Rattle.sheet.specs.{Inner.Form.Sized, Inner.Form.Compilation, Meaning.means, Meaning.and_then, declared.Answer.Answer, declared.Answer.TheVariants.Accepted, declared.Answer.TheVariants.Refused}
+use Rattle.std.specs.Prelude.{Result, Ok, Err}
+use Rattle.std.specs.Result.{is_ok}
+use Rattle.model.specs.{Refusals.verdict_from, Refusals.verdict_from_question, declared.refusals.Question.Question, declared.refusals.Refusal.Refusal}
+use Rattle.sheet.specs.{Inner.Form.Sized, Inner.Form.Compilation, Meaning.and_then}
 use Rattle.block.specs.Block.{block_lent}
 use Rattle.arrays_block.specs.Inner.Asked.{Held}
 use Rattle.run_input.specs.{Lent.verdict_lent, Lent.order_lent, Inner.Compile.WithinLimits, Inner.Compile.CompiledLent, Inner.Compile.Lendings, Inner.Compile.AskedLent}
 use Rattle.run_input.proofs.Lent.{lent_passed, well_sheet, ordering_lent}
 
--- a refusal is no acceptance
-never_so : (r : Answer) (number item : ℕ) → r ≡ Refused number item → r ≡ Accepted → ⊥
-never_so r number item e q = never (cc)
-
 -- ---- the pairs' and the block's questions
-module _ (n : ℕ) (pairs old new : List ℕ) (r : ℕ) (o : Ordered n pairs old new r) (long : length old ≡ 16) (block : List ℕ) (p : Problem) (same : n ≡ p.variables) where
-  asked : order_verdict p.variables pairs (block_lent p block) ≡ ask (eqb r 0) r 0 (block_lent p block)
-  asked = ap (λ (k : ℕ). order_verdict k pairs (block_lent p block)) (sym same) ∙ o.answer (block_lent p block)
+module _ (n : ℕ) (pairs old new : List ℕ) (r : Result Unit Question) (o : Ordered n pairs old new r) (long : length old ≡ 16) (block : List ℕ) (p : Problem) (same : n ≡ p.variables) where
+  asked : (s : Result Unit Question) → r ≡ s → order_verdict p.variables pairs (block_lent p block) ≡ followed (verdict_from_question s) (block_lent p block)
+  asked s e =
+      ap (λ (k : ℕ). order_verdict k pairs (block_lent p block)) (sym same) ∙ o.answer (block_lent p block)
+      ∙ ap (λ (x : Result Unit Question). followed (verdict_from_question x) (block_lent p block)) e
 
-  pub pairs_refused : (r ≡ 0 → ⊥) → Lendings p pairs block new (Refused r 0)
-  pairs_refused h = record {
-    answers = sym (asked ∙ ap (λ (t : Bool). ask t r 0 (block_lent p block)) (ne_eqb r 0 h));
-    order_is = λ q. absurd (never_so (Refused r 0) r 0 refl q);
-    order_length = o.size ∙ long;
-  }
+  pub pairs_refused : (q : Question) → r ≡ Err q → Lendings p pairs block new (Err (record { question = q; item = 0 }))
+  pairs_refused q e = record { answers = sym (asked (Err q) e); order_is = λ q. never (cc); order_length = o.size ∙ long }
 
-  pub block_answers : r ≡ 0 → (t : Answer) → means t ≡ block_lent p block → Lendings p pairs block new t
+  pub block_answers : r ≡ Ok tt → (t : Result Unit Refusal) → verdict_from t ≡ block_lent p block → Lendings p pairs block new t
   block_answers none t e = record {
-    answers = e ∙ sym (asked ∙ ap (λ (t : Bool). ask t r 0 (block_lent p block)) (eq-eqb r 0 none));
-    order_is = λ q. ap (λ (k : ℕ). take k new) (sym same) ∙ o.settled none ∙ ap (λ (k : ℕ). settling_order k pairs) same;
+    answers = e ∙ sym (asked (Ok tt) none);
+    order_is = λ q. ap (λ (k : ℕ). take k new) (sym same) ∙ o.settled (ap is_ok none) ∙ ap (λ (k : ℕ). settling_order k pairs) same;
     order_length = o.size ∙ long;
   }
 
@@ -43,20 +40,20 @@ pub variables_few : (p : Problem) (numbers supports : List ℕ) → Held p numbe
 variables_few p numbers supports h = subst (λ (k : ℕ). k ≤ 12) (sym (variables_are p numbers supports h)) h.well_formed.few
 
 -- ---- the sheet's questions first
-module _ (b numbers supports images : List ℕ) (r : Answer) (c : Compilation b numbers supports images r) where
-  pub sheet_refused : (pairs block order : List ℕ) (number item : ℕ) → r ≡ Refused number item → length order ≡ 16 → AskedLent b pairs block numbers supports images order r
+module _ (b numbers supports images : List ℕ) (r : Result Unit Refusal) (c : Compilation b numbers supports images r) where
+  pub sheet_refused : (pairs block order : List ℕ) (by : Refusal) → r ≡ Err by → length order ≡ 16 → AskedLent b pairs block numbers supports images order (Err by)
   unfolding verdict_lent
-  sheet_refused pairs block order number item e long = record {
-    answers = ap means e ∙ sym (ap (λ (v : Verdict). and_then v (order_verdict (problem_of b).variables pairs (block_lent (problem_of b) block))) (sym c.answers ∙ ap means e));
-    compiled = λ q. absurd (never_so r number item e q);
-    sizes = λ q. absurd (never_so r number item e q);
-    order_is = λ q. absurd (never_so r number item e q);
+  sheet_refused pairs block order by e long = record {
+    answers = sym (ap (λ (v : Verdict). and_then v (order_verdict (problem_of b).variables pairs (block_lent (problem_of b) block))) (sym c.answers ∙ ap verdict_from e));
+    compiled = λ q. never (cc);
+    sizes = λ q. never (cc);
+    order_is = λ q. never (cc);
     order_length = long;
   }
 
-  module _ (e : r ≡ Accepted) where
+  module _ (e : r ≡ Ok tt) where
     accepts : verdict_of b ≡ accepted
-    accepts = sym c.answers ∙ ap means e
+    accepts = sym c.answers ∙ ap verdict_from e
 
     pub held : Held (problem_of b) numbers supports
     held =
@@ -76,7 +73,7 @@ module _ (b numbers supports images : List ℕ) (r : Answer) (c : Compilation b 
           symmetries = omega arith;
         }
 
-    pub sheet_accepted : (pairs block order : List ℕ) (t : Answer) → Lendings (problem_of b) pairs block order t → AskedLent b pairs block numbers supports images order t
+    pub sheet_accepted : (pairs block order : List ℕ) (t : Result Unit Refusal) → Lendings (problem_of b) pairs block order t → AskedLent b pairs block numbers supports images order t
     unfolding verdict_lent
     sheet_accepted pairs block order t l = record {
       answers = l.answers ∙ sym (ap (λ (v : Verdict). and_then v (order_verdict (problem_of b).variables pairs (block_lent (problem_of b) block))) accepts);
@@ -87,24 +84,24 @@ module _ (b numbers supports images : List ℕ) (r : Answer) (c : Compilation b 
     }
 
 -- ---- the compiled problem in the order
-pub compiled_refused : (b pairs block numbers supports images order : List ℕ) (r : Answer) (number item : ℕ) → r ≡ Refused number item →
-    AskedLent b pairs block numbers supports images order r → CompiledLent b pairs block numbers supports images order r
-compiled_refused b pairs block numbers supports images order r number item e a = record {
-  answers = a.answers;
-  compiled = λ q. absurd (never_so r number item e q);
-  limits = λ q. absurd (never_so r number item e q);
-  sizes = λ q. absurd (never_so r number item e q);
-  order_is = λ q. absurd (never_so r number item e q);
-  ordering = λ q. absurd (never_so r number item e q);
+pub compiled_refused : (b pairs block numbers supports images order : List ℕ) (r : Result Unit Refusal) (by : Refusal) → r ≡ Err by →
+    AskedLent b pairs block numbers supports images order r → CompiledLent b pairs block numbers supports images order (Err by)
+compiled_refused b pairs block numbers supports images order r by e a = record {
+  answers = sym (ap verdict_from e) ∙ a.answers;
+  compiled = λ q. never (cc);
+  limits = λ q. never (cc);
+  sizes = λ q. never (cc);
+  order_is = λ q. never (cc);
+  ordering = λ q. never (cc);
   order_length = a.order_length;
 }
 
-module _ (b pairs block numbers supports images order : List ℕ) (r : Answer) (e : r ≡ Accepted) (a : AskedLent b pairs block numbers supports images order r) where
+module _ (b pairs block numbers supports images order : List ℕ) (r : Result Unit Refusal) (e : r ≡ Ok tt) (a : AskedLent b pairs block numbers supports images order r) where
   abbrev p : Problem
   p = problem_of b
 
   good : T (is_accepted (verdict_lent b pairs block))
-  good = is_accepted_lem (verdict_lent b pairs block) (sym a.answers ∙ ap means e)
+  good = is_accepted_lem (verdict_lent b pairs block) (sym a.answers ∙ ap verdict_from e)
 
   ordered : Ordering (problem_of b).variables (order_lent b pairs)
   ordered = ordering_lent b pairs block good
@@ -119,9 +116,9 @@ module _ (b pairs block numbers supports images order : List ℕ) (r : Answer) (
   }
 
   whole : (numbers' supports' images' : List ℕ) → Compiled (reordered (order_lent b pairs) (problem_of b)) numbers' supports' images' → Sized numbers' supports' images'
-      → CompiledLent b pairs block numbers' supports' images' order Accepted
+      → CompiledLent b pairs block numbers' supports' images' order (Ok tt)
   whole numbers' supports' images' c s = record {
-    answers = sym (ap means e) ∙ a.answers;
+    answers = sym (ap verdict_from e) ∙ a.answers;
     compiled = λ q. c;
     limits = λ q. limits;
     sizes = λ q. s;
@@ -141,7 +138,7 @@ module _ (b pairs block numbers supports images order : List ℕ) (r : Answer) (
   }
 
   pub compiled_moved : (numbers' supports' images' : List ℕ) → Moved (problem_of b) order numbers supports images numbers' supports' images'
-      → CompiledLent b pairs block numbers' supports' images' order Accepted
+      → CompiledLent b pairs block numbers' supports' images' order (Ok tt)
   compiled_moved numbers' supports' images' m =
       whole numbers' supports' images' (subst (λ (o : List ℕ). Compiled (reordered o p) numbers' supports' images') (a.order_is e) m.compiled)
       (record {
@@ -152,7 +149,7 @@ module _ (b pairs block numbers supports images order : List ℕ) (r : Answer) (
       })
 
   -- without pairs the order is 0, 1, .., and the problem is the sheet's own
-  pub compiled_same : length pairs ≡ 0 → CompiledLent b pairs block numbers supports images order Accepted
+  pub compiled_same : length pairs ≡ 0 → CompiledLent b pairs block numbers supports images order (Ok tt)
   compiled_same h =
       whole numbers supports images
       (subst (λ (q : Problem). Compiled q numbers supports images)

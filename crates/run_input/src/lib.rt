@@ -10,7 +10,7 @@ ghost use Rattle.run_input.specs.Calls.{CallQuestionLent};
 ghost use Rattle.run_input.specs.Inner.Compile.{Lendings, AskedLent, CompiledLent};
 
 use arrays::{IMAGES, Images, NUMBERS, Numbers, SUPPORTS, Supports, VARIABLES};
-use sheet::Answer;
+use model::refusals::Refusal;
 
 // Questions 28 to 30, and the order of the variables in the first bytes; then the block's questions.
 fn lendings(
@@ -19,15 +19,13 @@ fn lendings(
     numbers: &Numbers,
     supports: &Supports,
     order: &mut [u8; 16],
-) -> Answer
-    requires { ((p : Problem) × Held p numbers.now supports.now) × (length order.old ≡ 16) }
+) -> Result<(), Refusal>
+    requires { (p : Problem) × Held p numbers.now supports.now }
     ensures { (p : Problem) → Held p numbers.now supports.now → Lendings p pairs.now block.now
         order.new result }
 {
-    let number = order::settling_order(numbers[VARIABLES] as usize, pairs, order);
-    if number != 0 {
-        return Answer::Refused { number, item: 0 };
-    }
+    let n = numbers[VARIABLES] as usize;
+    order::settling_order(n, pairs, order).map_err(|question| Refusal { question, item: 0 })?;
     arrays_block::question(block, numbers, supports)
 }
 
@@ -40,20 +38,17 @@ pub fn ask(
     supports: &mut Supports,
     images: &mut Images,
     order: &mut [u8; 16],
-) -> Answer
+) -> Result<(), Refusal>
     requires { Zeros NUMBERS numbers.old × Zeros SUPPORTS supports.old × (length images.old ≡ IMAGES) × (length order.old ≡ 16) }
     ensures { AskedLent sheet.now pairs.now block.now numbers.new supports.new
         images.new order.new result }
 {
-    let first = sheet::compile(sheet, numbers, supports, images);
-    let Answer::Accepted = first else {
-        return first;
-    };
+    sheet::compile(sheet, numbers, supports, images)?;
     lendings(pairs, block, numbers, supports, order)
 }
 
 // All questions, in their order, to any bytes.
-pub fn question(sheet: &[u8], pairs: &[u8], block: &[u8]) -> Answer
+pub fn question(sheet: &[u8], pairs: &[u8], block: &[u8]) -> Result<(), Refusal>
     ensures { CallQuestionLent sheet.now pairs.now block.now result }
 {
     let mut numbers = [0u64; NUMBERS];
@@ -82,17 +77,14 @@ pub fn compile(
     supports: &mut Supports,
     images: &mut Images,
     order: &mut [u8; 16],
-) -> Answer
+) -> Result<(), Refusal>
     requires { Zeros NUMBERS numbers.old × Zeros SUPPORTS supports.old × (length images.old ≡ IMAGES) × (length order.old ≡ 16) }
     ensures { CompiledLent sheet.now pairs.now block.now numbers.new supports.new
         images.new order.new result }
 {
-    let answer = ask(sheet, pairs, block, numbers, supports, images, order);
-    let Answer::Accepted = answer else {
-        return answer;
-    };
-    if pairs.len() != 0 {
+    ask(sheet, pairs, block, numbers, supports, images, order)?;
+    if !pairs.is_empty() {
         arrays_order::reorder(order, numbers, supports, images);
     }
-    Answer::Accepted
+    Ok(())
 }

@@ -1,8 +1,9 @@
 -- Marks as bits, and the heads that are marked. Assumes nothing.
-use Rattle.model.specs.Kit.{◌≡◌, refl, sym, ap, ap₂, ◌∙◌, subst, Bool, true, false, not, List, ℕ, ◌+◌, ◌-◌, ◌/◌, ◌%◌, ◌≤◌, ◌<◌, arith, bit_or, T, eqb, ltb, length, set, replicate, length-set}
+use Rattle.model.specs.Kit.{◌≡◌, refl, sym, ap, ap₂, ◌∙◌, subst, Bool, true, false, not, List, ℕ, ◌+◌, ◌/◌, ◌%◌, ◌≤◌, ◌<◌, arith, bit_or, T, eqb, ltb, length, set, replicate, length-set}
 use Rattle.model.specs.Kit.{length-replicate, eq-eqb, ne_eqb, eqb-true, eqb-false, ltb-true, ltb-false}
+use Rattle.std.specs.Prelude.{Option, None, Some, MatchOption}
 use Rattle.model.specs.{Lists.at, Lists.both, Lists.either, ValueSets.has}
-use Rattle.model.proofs.{Lists.T_of, Lists.of_T, Lists.of_not, Lists.at_set, Lists.at_set_other, Lists.at_replicate, Lists.either_l, Masks.has_or, Members.either_no, Sets.has_none}
+use Rattle.model.proofs.{Lists.T_of, Lists.of_T, Lists.of_not, Lists.at_set, Lists.at_set_other, Lists.at_replicate, Lists.either_l, Lists.never, Masks.has_or, Members.either_no, Sets.has_none}
 use Rattle.run_join.specs.Inner.Inner.{marked, NoMarks, MarkedToo, Pending}
 
 pub marked_none : NoMarks (replicate 1024 0)
@@ -54,27 +55,19 @@ all_turn marks k marks' h m j i = go (ltb j k) refl
     go false e = let z : k ≡ j = (let f = ltb-false j k e in omega arith) in subst (λ (x : ℕ). marked marks' x ≡ true) z (too_itself marks k marks' m)
 
 -- ---- the first that is pending
-module _ (marks done : List ℕ) (n k : ℕ) where
-  abbrev waits : ℕ → Bool
-  waits j = both (marked marks j) (not (marked done j))
-
-  pub pending_one : k < n → waits k ≡ true → Pending marks done n (k + 1)
-  pending_one h e = record {
-    few = omega arith;
-    none = λ z. absurd (omega (arith, z));
-    one = λ d. let z : k ≡ k + 1 - 1 = omega arith in subst
-        (λ (j : ℕ). T (marked marks j) × (T (marked done j) → ⊥)) z (go (marked marks k) (marked done k) e);
-  }
-    where
-      go : (a b : Bool) → both a (not b) ≡ true → T a × (T b → ⊥)
-      go true false q = (tt, λ t. t)
-      go true true q = absurd (of_not false refl (T_of false q))
-      go false b q = absurd (of_not false refl (T_of false q))
-
-  pub pending_none : n ≤ k → ((j : ℕ) → j < k → waits j ≡ false) → Pending marks done n 0
-  pending_none h e = record { few = omega arith; none = λ z j i t. go (marked marks j) (marked done j) (e j (omega arith)) t; one = λ d. absurd (d refl) }
-    where
-      go : (a b : Bool) → both a (not b) ≡ false → T a → T b
-      go true true q t = tt
-      go true false q t = absurd (of_not true q tt)
-      go false b q t = absurd t
+pub pending_is : (marks done : List ℕ) (n : ℕ) (r : Option ℕ) → MatchOption r ((k : ℕ) → 0 ≤ k → k < n → both (marked marks k) (not (marked done k)) ≡ false)
+    (λ i. (0 ≤ i) × (i < n) × (both (marked marks i) (not (marked done i)) ≡ true) × ((k : ℕ) → 0 ≤ k → k < i → both (marked marks k) (not (marked done k)) ≡ false)) → Pending marks done n r
+pending_is marks done n None m = record { none = λ e k h t. go (marked marks k) (marked done k) (m k (omega arith) h) t; one = λ k e. never (cc) }
+  where
+    go : (a b : Bool) → both a (not b) ≡ false → T a → T b
+    go true true q t = tt
+    go true false q t = absurd (of_not true q tt)
+    go false b q t = absurd t
+pending_is marks done n (Some i) m =
+    let t = go (marked marks i) (marked done i) m.2 in
+    record { none = λ e. never (cc); one = λ k e. subst (λ (j : ℕ). (j < n) × T (marked marks j) × (T (marked done j) → ⊥)) (let z : i ≡ k = cc in z) (m.1, t.0, t.1) }
+  where
+    go : (a b : Bool) → both a (not b) ≡ true → T a × (T b → ⊥)
+    go true false q = (tt, λ t. t)
+    go true true q = absurd (of_not false refl (T_of false q))
+    go false b q = absurd (of_not false refl (T_of false q))

@@ -1,19 +1,17 @@
 -- The heads that lead to the last path. Assumes nothing.
-use Rattle.model.specs.Kit.{◌≡◌, refl, sym, ap, ◌∙◌, subst, Bool, true, false, not, ◌⊎◌, inl, inr, List, [], ◌∷◌, ℕ, zero, suc, ◌+◌, ◌-◌, ◌*◌, ◌≤◌, ◌<◌, arith, T, eqb, ltb, length, eq-eqb, ne_eqb}
+use Rattle.model.specs.Kit.{◌≡◌, refl, sym, ap, ◌∙◌, subst, Bool, true, false, not, ◌⊎◌, inl, inr, List, [], ◌∷◌, ℕ, zero, suc, ◌+◌, ◌≤◌, ◌<◌, arith, T, eqb, ltb, length}
 use Rattle.model.specs.Kit.{eqb-true, eqb-false, ltb-true, ltb-false}
-use Rattle.model.specs.Lists.{any, at, below, both, either, choose, keep, same, tabulate}
-use Rattle.model.proofs.Lists.{T_of, of_T, not_of, of_not, TExt, both_i, both_l, both_r, either_l, either_r, either_e, any_i, any_e, below_i, below_e, same_eq, same_refl}
+use Rattle.std.specs.Prelude.{None, Some}
+use Rattle.model.specs.Lists.{any, below, both, either, choose, keep, same}
+use Rattle.model.proofs.Lists.{T_of, of_T, of_not, TExt, both_i, both_l, both_r, either_l, either_r, either_e, any_i, any_e, below_i, below_e, same_eq}
 use Rattle.model.proofs.Members.{either_no}
 use Rattle.run_cut.specs.Parts.{after}
-use Rattle.run_join.specs.Join.{path_at, from_at, reach_place, reach_at, heads_in, goes_on, comes, joined, leads, may_take}
+use Rattle.run_join.specs.Join.{from_at, reach_at, heads_in, goes_on, comes, joined, leads, may_take}
 use Rattle.run_join.specs.Inner.Inner.{marked, NoMarks, MarkedToo, MarkedBack, Pending, Leading, Ways}
-use Rattle.run_join.proofs.{Fewer.keep_less, Fewer.further, Fewer.fewer, Fewer.further_few, Bits.too_itself, Bits.too_kept, Bits.too_other}
+use Rattle.run_join.proofs.{Slices.same_of, Fewer.keep_less, Fewer.further, Fewer.fewer, Fewer.further_few, Bits.too_itself, Bits.too_kept, Bits.too_other}
 
 abbrev end : List ℕ
 end = 255 ∷ []
-
-pub same_of : (a b : List ℕ) → a ≡ b → T (same a b)
-same_of a b e = subst (λ (x : List ℕ). T (same a x)) e (same_refl a)
 
 module _ (l : List ℕ) where
   -- ---- one head after another
@@ -138,31 +136,6 @@ module _ (s l : List ℕ) (k : ℕ) (marks old : List ℕ) (b : Back s l k marks
 pub back_all : (s l : List ℕ) (n k : ℕ) (marks new : List ℕ) → n ≤ k → Back s l k marks new → MarkedBack s l n marks new
 back_all s l n k marks new h b = record { long = b.0; bits = λ j i. b.1 j (omega arith) }
 
-module _ (l s : List ℕ) (k q : ℕ) (e : q ≡ reach_place l k) where
-  pub comes_no : same (path_at l q) s ≡ false → false ≡ both (same (reach_at l k) s) (goes_on l k)
-  comes_no f = sym (ap (λ (b : Bool). both b (goes_on l k)) (sym (ap (λ (p : ℕ). same (path_at l p) s) e) ∙ f))
-
-  pub comes_yes : same (path_at l q) s ≡ true → (r : Bool) → r ≡ after (from_at l k) (path_at l q) → r ≡ both (same (reach_at l k) s) (goes_on l k)
-  comes_yes f r g = g ∙ ap (λ (p : ℕ). after (from_at l k) (path_at l p)) e ∙ sym (ap (λ (b : Bool). both b (goes_on l k)) (sym (ap (λ (p : ℕ). same (path_at l p) s) e) ∙ f))
-
--- ---- a test of some head
-module _ (p : ℕ → Bool) (n k : ℕ) where
-  pub first_one : k < n → p k ≡ true → true ≡ any p (below n)
-  first_one h e = sym (of_T (any p (below n)) (any_i p (below n) k (below_i n k h) (T_of (p k) e)))
-
-  pub first_none : n ≤ k → ((j : ℕ) → j < k → p j ≡ false) → false ≡ any p (below n)
-  first_none h e = sym (not_of (any p (below n)) (λ t. let j = any_e p (below n) t in of_not (p j.0) (e j.0 (let i = below_e n j.0 j.1 in omega arith)) j.2))
-
--- a path is empty where its length is 0
-empty_is : (m : ℕ) (f : ℕ → ℕ) → eqb m 0 ≡ same (tabulate m f) []
-unfolding tabulate same
-empty_is zero f = eq-eqb 0 0 refl
-empty_is (suc m) f = ne_eqb (suc m) 0 (λ z. omega arith)
-
-pub first_is : (l : List ℕ) (k v : ℕ) (m : Bool) → v ≡ at l (115 * k + 76) → m ≡ true → eqb v 0 ≡ both m (same (from_at l k) [])
-unfolding path_at
-first_is l k v m e f = ap (λ (x : ℕ). eqb x 0) e ∙ empty_is (at l (115 * k + 76)) (λ i. at l (115 * k + 76 + 1 + i)) ∙ sym (ap (λ (b : Bool). both b (same (from_at l k) [])) f)
-
 -- ---- heads that lead are marked, one behind the other
 -- what is marked leads; marked are the heads that reach the last path, and those that reach where a head begins that is done
 pub record Marking (l : List ℕ) (n : ℕ) (marks done : List ℕ) : Type 0 where
@@ -205,16 +178,12 @@ module _ (l : List ℕ) (n : ℕ) (many : n ≡ heads_in l) where
       leading k (inl t) = absurd (of_not (marked marks k) (none.none k) t)
       leading k (inr (e, g)) = both_i (goes_on l k) (comes l (heads_in l) (reach_at l k)) g (comes_end l (heads_in l) (reach_at l k) (e ∙ z))
 
-  module _ (marks done : List ℕ) (m : Marking l n marks done) (next : ℕ) (p : Pending marks done n next) where
-    pub marking_inside : (next ≡ 0 → ⊥) → next - 1 < n
-    marking_inside d = go next d p.few
-      where
-        go : (i : ℕ) → (i ≡ 0 → ⊥) → i ≤ n → i - 1 < n
-        go zero e h = absurd (e refl)
-        go (suc i) e h = omega arith
+  module _ (marks done : List ℕ) (m : Marking l n marks done) (j : ℕ) (p : Pending marks done n (Some j)) where
+    pub marking_inside : j < n
+    marking_inside = (p.one j refl).0
 
-    pub marking_turn : (next ≡ 0 → ⊥) → (done' new : List ℕ) → MarkedToo done (next - 1) done' → MarkedBack (from_at l (next - 1)) l n marks new → Marking l n new done'
-    marking_turn d done' new t b =
+    pub marking_turn : (done' new : List ℕ) → MarkedToo done j done' → MarkedBack (from_at l j) l n marks new → Marking l n new done'
+    marking_turn done' new t b =
         record {
           long = b.long;
           wide = t.long;
@@ -223,11 +192,8 @@ module _ (l : List ℕ) (n : ℕ) (many : n ≡ heads_in l) where
           back = λ i h u k q e g. before i h u k q e g (eqb i j) refl;
         }
       where
-        j : ℕ
-        j = next - 1
-
         lead : T (leads l j)
-        lead = m.sound j (marking_inside d) (p.one d).0
+        lead = m.sound j marking_inside (p.one j refl).1
 
         leading : (k : ℕ) → k < n → T (marked marks k) ⊎ ((reach_at l k ≡ from_at l j) × T (goes_on l k)) → T (leads l k)
         leading k h (inl u) = m.sound k h u
@@ -235,7 +201,7 @@ module _ (l : List ℕ) (n : ℕ) (many : n ≡ heads_in l) where
             both_i (goes_on l k) (comes l (heads_in l) (reach_at l k)) g
             (comes_from l (reach_at l k) (
               j,
-              let i = marking_inside d in omega arith,
+              let i = marking_inside in omega arith,
               sym e,
               both_l (goes_on l j) (comes l (heads_in l) (reach_at l j)) lead,
               both_r (goes_on l j)
@@ -246,10 +212,10 @@ module _ (l : List ℕ) (n : ℕ) (many : n ≡ heads_in l) where
         before i h u k q e g true z = marked_back (from_at l j) marks new b k q (e ∙ ap (from_at l) (eqb-true i j z)) g
         before i h u k q e g false z = back_kept (from_at l j) marks new b k q (m.back i h (subst T (too_other done j done' t i (eqb-false i j z)) u) k q e g)
 
-    pub fewer_left : (next ≡ 0 → ⊥) → (done' : List ℕ) → MarkedToo done (next - 1) done' → left n done' < left n done
-    fewer_left d done' t =
-        keep_less (λ k. not (marked done k)) (λ k. not (marked done' k)) (λ k u. not_kept (marked done k) (marked done' k) (too_kept done (next - 1) done' t k) u) (below n) (next - 1)
-        (below_i n (next - 1) (marking_inside d)) (not_i (marked done (next - 1)) (p.one d).1) (not_e (marked done' (next - 1)) (too_itself done (next - 1) done' t))
+    pub fewer_left : (done' : List ℕ) → MarkedToo done j done' → left n done' < left n done
+    fewer_left done' t =
+        keep_less (λ k. not (marked done k)) (λ k. not (marked done' k)) (λ k u. not_kept (marked done k) (marked done' k) (too_kept done j done' t k) u) (below n) j
+        (below_i n j marking_inside) (not_i (marked done j) (p.one j refl).2) (not_e (marked done' j) (too_itself done j done' t))
       where
         not_e : (b : Bool) → b ≡ true → T (not b) → ⊥
         not_e true e u = u
@@ -263,20 +229,20 @@ module _ (l : List ℕ) (n : ℕ) (many : n ≡ heads_in l) where
         not_i true f = f tt
         not_i false f = tt
 
-    pub marking_end : next ≡ 0 → Leading l n marks
-    marking_end z = record {
-      long = m.long;
-      bits = λ k h. TExt (marked marks k) (leads l k) (m.sound k h)
-          (λ t. all (heads_in l) k h (both_l (goes_on l k) (comes l (heads_in l) (reach_at l k)) t) (both_r (goes_on l k) (comes l (heads_in l) (reach_at l k)) t));
-    }
-      where
-        all : (f k : ℕ) → k < n → T (goes_on l k) → T (comes l f (reach_at l k)) → T (marked marks k)
-        all zero k h g t = m.last k h (comes_zero l (reach_at l k) t) g
-        all (suc f) k h g t = go (all f) (comes_e l f (reach_at l k) t)
-          where
-            go : ((j : ℕ) → j < n → T (goes_on l j) → T (comes l f (reach_at l j)) → T (marked marks j)) → (reach_at l k ≡ end) ⊎ Next l f (reach_at l k) → T (marked marks k)
-            go ih (inl e) = m.last k h e g
-            go ih (inr (j, i, b, u, v)) = let w : j < n = omega arith in m.back j w (p.none z j w (ih j w u v)) k h (sym b) g
+  pub marking_end : (marks done : List ℕ) → Marking l n marks done → Pending marks done n None → Leading l n marks
+  marking_end marks done m p = record {
+    long = m.long;
+    bits = λ k h. TExt (marked marks k) (leads l k) (m.sound k h)
+        (λ t. all (heads_in l) k h (both_l (goes_on l k) (comes l (heads_in l) (reach_at l k)) t) (both_r (goes_on l k) (comes l (heads_in l) (reach_at l k)) t));
+  }
+    where
+      all : (f k : ℕ) → k < n → T (goes_on l k) → T (comes l f (reach_at l k)) → T (marked marks k)
+      all zero k h g t = m.last k h (comes_zero l (reach_at l k) t) g
+      all (suc f) k h g t = go (all f) (comes_e l f (reach_at l k) t)
+        where
+          go : ((j : ℕ) → j < n → T (goes_on l j) → T (comes l f (reach_at l j)) → T (marked marks j)) → (reach_at l k ≡ end) ⊎ Next l f (reach_at l k) → T (marked marks k)
+          go ih (inl e) = m.last k h e g
+          go ih (inr (j, i, b, u, v)) = let w : j < n = omega arith in m.back j w (p.none refl j w (ih j w u v)) k h (sym b) g
 
   -- ---- whether a marked head begins at the empty path
   pub ways_joined : (marks : List ℕ) → Leading l n marks → any (λ k. both (marked marks k) (same (from_at l k) [])) (below n) ≡ joined l

@@ -1,3 +1,4 @@
+pub mod Slices
 pub mod Orders
 pub mod Questions
 pub mod Turns

@@ -1,62 +1,60 @@
 -- What `join` answers, by what it called. Assumes nothing.
-use Rattle.model.specs.Kit.{◌≡◌, refl, sym, ap, ap₂, ◌∙◌, Bool, true, false, List, ℕ, zero, suc, ◌≤◌, arith, replicate}
-use Rattle.model.specs.{Lists.both, Lists.choose, Verdict.Verdict, Verdict.accepted, Verdict.refused}
-use Rattle.run_cut.specs.Parts.{after}
-use Rattle.model.proofs.Lists.{at_replicate, never}
-use Rattle.run_join.specs.Join.{join_verdict, heads_in, from_at, joined, stand_path, nearer, nearest_of, plans_of, nodes_of, count_of}
-use Rattle.run_join.specs.{Inner.Inner.Said, Inner.Inner.Summed, Inner.Inner.number_in, Calls.answer_for, Calls.figure_for, Calls.CallJoin, declared.Answer.Answer}
-use Rattle.run_join.specs.{declared.Answer.TheVariants.Refused, declared.Answer.TheVariants.Joined, declared.Answer.TheVariants.Missing}
+use Rattle.model.specs.Kit.{◌≡◌, refl, sym, ap, ap₂, ◌∙◌, subst, Bool, true, false, List, ℕ, ◌≤◌, arith}
+use Rattle.std.specs.Prelude.{Option, None, Some, Result, Ok, Err}
+use Rattle.model.specs.{Lists.choose, Verdict.Verdict, Verdict.accepted, Verdict.refused, Verdict.reply, Verdict.answered}
+use Rattle.model.specs.Refusals.{number_of}
+use Rattle.model.specs.declared.refusals.Question.{Question}
+use Rattle.run_join.specs.Join.{join_verdict, heads_in, head_number, joined, stand_path, stands, nearest, nearest_of, plans_of, nodes_of, count_of}
+use Rattle.run_join.specs.{Inner.Inner.Said, Inner.Inner.Summed, Calls.nothing_missing, Calls.missing, Calls.told_by, Calls.answer_for, Calls.figure_for, Calls.CallJoin}
+use Rattle.run_join.specs.declared.{Joining.Joining, Missing.Missing}
+use Rattle.model.proofs.Lists.{never}
 
-module _ (l : List ℕ) (stand : ℕ) where
-  nearest_few : (n : ℕ) → nearest_of l (stand_path l stand) n ≤ n
-  unfolding nearest_of
-  nearest_few zero = omega arith
-  nearest_few (suc k) = go (both (after (stand_path l stand) (from_at l k)) (nearer l (nearest_of l (stand_path l stand) k) (from_at l k))) (nearest_few k)
-    where
-      go : (b : Bool) → nearest_of l (stand_path l stand) k ≤ k → choose b (suc k) (nearest_of l (stand_path l stand) k) ≤ suc k
-      go true h = omega arith
-      go false h = omega arith
+pub said_missing : (l : List ℕ) (joins : Bool) (stand : ℕ) (from upto : Option ℕ) → joins ≡ false → head_number from ≡ stand → head_number upto ≡ nearest_of l (stand_path l stand) (heads_in l) →
+    head_number upto ≤ heads_in l → Said l joins stand (Some (record { from = from; upto = upto }))
+said_missing l joins stand from upto f a b c = record {
+  joined = λ t. never (let z : true ≡ false = sym t ∙ f in cc);
+  missing = λ g m e. subst (λ (m : Missing). (head_number m.from ≡ stand) × (head_number m.upto ≡ nearest_of l (stand_path l stand) (heads_in l)) × (head_number m.upto ≤ heads_in l))
+      (same m e) (a, b, c);
+  some = λ g e. never (cc);
+}
+  where
+    same : (m : Missing) → ◌≡◌ {A = Option Missing} (Some (record { from = from; upto = upto })) (Some m) → record { from = from; upto = upto } ≡ m
+    same m e = cc
 
-  pub said_joined : (joins : Bool) → joins ≡ true → Said l joins stand Joined
-  said_joined joins e = record { answers = sym (ap (λ (b : Bool). choose b Joined (Missing stand (nearest_of l (stand_path l stand) (heads_in l)))) e); near = nearest_few (heads_in l) }
-
-  pub said_missing : (joins : Bool) (n near : ℕ) → n ≡ heads_in l → near ≡ nearest_of l (stand_path l stand) n → joins ≡ false → Said l joins stand (Missing stand near)
-  said_missing joins n near z q e =
-      record {
-        answers = ap (Missing stand) (q ∙ ap (nearest_of l (stand_path l stand)) z) ∙ sym (ap (λ (b : Bool). choose b Joined (Missing stand (nearest_of l (stand_path l stand) (heads_in l)))) e);
-        near = nearest_few (heads_in l);
-      }
-
-module _ (l : List ℕ) (number : ℕ) (e : number ≡ number_in (join_verdict l)) where
-  refused_so : (v : Verdict) → (number ≡ 0 → ⊥) → number ≡ number_in v → (Refused number ≡ answer_for v l) × ((x : ℕ) → 0 ≡ figure_for v x)
-  unfolding answer_for
-  refused_so accepted d q = absurd (d q)
-  refused_so (refused n i) d q = (ap Refused q, λ x. refl)
-
-  pub said_refused : (number ≡ 0 → ⊥) → CallJoin l (record { answer = Refused number; plans = 0; nodes = 0; counts = replicate 12 0 })
-  said_refused d =
-      let f = refused_so (join_verdict l) d e in
-      record {
-        answers = f.0;
-        inside = λ s n q. never (cc);
-        plans = f.1 (plans_of l);
-        nodes = f.1 (nodes_of l);
-        counts = λ x h. at_replicate 12 x ∙ f.1
-            (count_of l x);
-      }
-
-pub said_all : (l : List ℕ) (answer : Answer) (joins : Bool) (stand p m : ℕ) (cs : List ℕ) → join_verdict l ≡ accepted → joins ≡ joined l → Summed l stand p m cs → Said l joins stand answer
-    → CallJoin l (record { answer = answer; plans = p; nodes = m; counts = cs })
+pub said_refused : (l : List ℕ) (q : Question) → refused (number_of q) 0 ≡ join_verdict l → CallJoin l (Err q)
 unfolding answer_for
-said_all l answer joins stand p m cs v j s a =
+said_refused l q e = record {
+  answers = ap (λ (v : Verdict). reply v (choose (joined l) nothing_missing (missing (stands l) (nearest l)))) e;
+  inside = λ j m r. never (cc);
+  plans = ap (λ (v : Verdict). figure_for v (plans_of l)) e;
+  nodes = ap (λ (v : Verdict). figure_for v (nodes_of l)) e;
+  counts = λ x h. ap (λ (v : Verdict). figure_for v (count_of l x)) e;
+}
+
+pub said_all : (l : List ℕ) (joins : Bool) (stand : ℕ) (j : Joining) → accepted ≡ join_verdict l → joins ≡ joined l → Summed l stand j.plans j.nodes j.counts → Said l joins stand j.missing →
+    CallJoin l (Ok j)
+unfolding answer_for
+said_all l joins stand j e z s a =
     record {
-      answers = a.answers ∙ ap₂ (λ (b : Bool) (i : ℕ). choose b Joined (Missing i (nearest_of l (stand_path l i) (heads_in l)))) j s.behind ∙ sym (ap (λ (x : Verdict). answer_for x l) v);
-      inside = λ i n q. named i n joins (sym q ∙ a.answers);
-      plans = s.plans ∙ sym (ap (λ (x : Verdict). figure_for x (plans_of l)) v);
-      nodes = s.nodes ∙ sym (ap (λ (x : Verdict). figure_for x (nodes_of l)) v);
-      counts = λ x h. s.counts x h ∙ sym (ap (λ (y : Verdict). figure_for y (count_of l x)) v);
+      answers =
+          ap answered (go joins j.missing refl refl ∙ ap₂ (λ (b : Bool) (i : ℕ). choose b nothing_missing (missing i (nearest_of l (stand_path l i) (heads_in l)))) z s.behind)
+          ∙ ap (λ (v : Verdict). reply v (choose (joined l) nothing_missing (missing (stands l) (nearest l)))) e;
+      inside = λ i m q r. within joins i m q refl (ap (λ (o : Joining). o.missing) (same_ok i j q) ∙ r);
+      plans = s.plans ∙ ap (λ (v : Verdict). figure_for v (plans_of l)) e;
+      nodes = s.nodes ∙ ap (λ (v : Verdict). figure_for v (nodes_of l)) e;
+      counts = λ x h. s.counts x h ∙ ap (λ (v : Verdict). figure_for v (count_of l x)) e;
     }
   where
-    named : (i n : ℕ) (b : Bool) → Missing i n ≡ choose b Joined (Missing stand (nearest_of l (stand_path l stand) (heads_in l))) → (i ≤ heads_in l) × (n ≤ heads_in l)
-    named i n true q = never (cc)
-    named i n false q = let u : i ≡ stand = cc in let v : n ≡ nearest_of l (stand_path l stand) (heads_in l) = cc in (omega (arith, s.inside), omega (arith, a.near))
+    same_ok : (i j : Joining) → ◌≡◌ {A = Result Joining Question} (Ok j) (Ok i) → j ≡ i
+    same_ok i j q = cc
+
+    go : (b : Bool) (r : Option Missing) → joins ≡ b → j.missing ≡ r → told_by r ≡ choose b nothing_missing (missing stand (nearest_of l (stand_path l stand) (heads_in l)))
+    go true None t r = refl
+    go true (Some m) t r = never (let n : j.missing ≡ None = a.joined t in cc)
+    go false None t r = absurd (a.some t r)
+    go false (Some m) t r = let f = a.missing t m r in ap₂ missing f.0 f.1
+
+    within : (b : Bool) (i : Joining) (m : Missing) → ◌≡◌ {A = Result Joining Question} (Ok j) (Ok i) → joins ≡ b → j.missing ≡ Some m →
+        (head_number m.from ≤ heads_in l) × (head_number m.upto ≤ heads_in l)
+    within true i m q t r = never (let n : j.missing ≡ None = a.joined t in cc)
+    within false i m q t r = let f = a.missing t m r in (omega (arith, f.0, s.inside), f.2)

@@ -2,9 +2,9 @@
 use Rattle.model.specs.Kit.{◌≡◌, refl, sym, ap, ap₂, ◌∙◌, subst, Bool, true, false, List, [], ◌∷◌, map, ℕ, zero, suc, ◌+◌, ◌-◌, ◌*◌, ◌/◌, ◌%◌, ◌^◌, ◌≤◌, ◌<◌, arith, eqb, ltb, leb, length, set}
 use Rattle.model.specs.Kit.{replicate, length-set, ltb-true, ltb-false, leb-true}
 use Rattle.model.specs.{Lists.all, Lists.at, Lists.below, Lists.total, Verdict.Verdict, Verdict.accepted, Verdict.ask}
-use Rattle.model.proofs.Lists.{at_set, at_set_other, at_replicate, both_second}
+use Rattle.model.proofs.Lists.{at_set, at_set_other, at_replicate, both_second, never}
 use Rattle.run_join.specs.Join.{four_at, kind_at, head_shaped, alike, heads_in, whole_heads, join_verdict, step_of, taken_from, taken, stand_after, stands, plans_of, nodes_of, count_of}
-use Rattle.run_join.specs.Inner.Inner.{Heads, AddedHead, Summed, number_in}
+use Rattle.run_join.specs.Inner.Inner.{Heads, AddedHead, Summed}
 use Rattle.run_join.proofs.Orders.{each_below}
 
 -- ---- twelve counts
@@ -84,12 +84,9 @@ module _ (l : List ℕ) where
       }
 
   module _ (n j stand p m : ℕ) (cs : List ℕ) (u : Underway n j stand p m cs) where
-    pub underway_turn : (next stand' p' m' : ℕ) (cs' : List ℕ) → j < n → next ≡ step_of l stand → (next ≡ 0 → ⊥) → next ≤ n → AddedHead p m cs l (next - 1) stand' p' m' cs' → Underway n
-        (j + 1) stand' p' m' cs'
+    pub underway_turn : (k stand' p' m' : ℕ) (cs' : List ℕ) → j < n → suc k ≡ step_of l stand → suc k ≤ n → AddedHead p m cs l k stand' p' m' cs' → Underway n (j + 1) stand' p' m' cs'
     unfolding stand_after total
-    underway_turn zero stand' p' m' cs' h e d i a = absurd (d refl)
-    underway_turn (suc k) stand' p' m' cs' h e d i a =
-        let z : suc k - 1 ≡ k = omega arith in
+    underway_turn k stand' p' m' cs' h e i a =
         let y : n - j ≡ suc (n - (j + 1)) = omega arith in
         let t : stand' ≡ suc k = omega (arith, a.at_head) in
         let left = taken_from l (n - (j + 1)) (suc k) in
@@ -101,18 +98,17 @@ module _ (l : List ℕ) where
           few_nodes = omega (arith, a.few_nodes, u.few_nodes);
           few = λ x q. omega (arith, a.counts.few x q, u.few x q);
           behind = ap₂ stand_after t next ∙ stood stand k left ∙ ap (stand_after stand) (sym rest) ∙ u.behind;
-          plans = moved (λ i. four_at l (115 * i + 4)) k left (suc k - 1) z p p' (taken_from l (n - j) stand) (taken_from l (n - (j + 1)) stand') (plans_of l) rest next a.plans u.plans;
-          nodes = moved (λ i. four_at l (115 * i + 8)) k left (suc k - 1) z m m' (taken_from l (n - j) stand) (taken_from l (n - (j + 1)) stand') (nodes_of l) rest next a.nodes u.nodes;
-          counts = λ x q. moved (λ i. four_at l (115 * i + 12 + 4 * x)) k left (suc k - 1) z (at cs x) (at cs' x) (taken_from l (n - j) stand) (taken_from l (n - (j + 1)) stand')
+          plans = moved (λ i. four_at l (115 * i + 4)) k left p p' (taken_from l (n - j) stand) (taken_from l (n - (j + 1)) stand') (plans_of l) rest next a.plans u.plans;
+          nodes = moved (λ i. four_at l (115 * i + 8)) k left m m' (taken_from l (n - j) stand) (taken_from l (n - (j + 1)) stand') (nodes_of l) rest next a.nodes u.nodes;
+          counts = λ x q. moved (λ i. four_at l (115 * i + 12 + 4 * x)) k left (at cs x) (at cs' x) (taken_from l (n - j) stand) (taken_from l (n - (j + 1)) stand')
               (count_of l x) rest next (a.counts.each x q) (u.counts x q);
         }
       where
         stood : (s k : ℕ) (ks : List ℕ) → stand_after (suc k) ks ≡ stand_after s (k ∷ ks)
         stood s k ks = refl
 
-        moved : (f : ℕ → ℕ) (k : ℕ) (left : List ℕ) (i : ℕ) → i ≡ k → (a b : ℕ) (ks js : List ℕ) (w : ℕ) → ks ≡ k ∷ left → js ≡ left → b ≡ a + f i → a + total (map f ks) ≡ w → b + total (map f js) ≡ w
-        moved f k left i z a b ks js w r s c v =
-            let o : f i ≡ f k = ap f z in
+        moved : (f : ℕ → ℕ) (k : ℕ) (left : List ℕ) (a b : ℕ) (ks js : List ℕ) (w : ℕ) → ks ≡ k ∷ left → js ≡ left → b ≡ a + f k → a + total (map f ks) ≡ w → b + total (map f js) ≡ w
+        moved f k left a b ks js w r s c v =
             let g : total (map f ks) ≡ f k + total (map f left) = ap (λ (x : List ℕ). total (map f x)) r in
             let q : total (map f js) ≡ total (map f left) = ap (λ (x : List ℕ). total (map f x)) s in
             omega arith
@@ -135,39 +131,24 @@ module _ (l : List ℕ) where
   none_left n j stand h = let z : n - j ≡ 0 = omega arith in ap (λ (f : ℕ). taken_from l f stand) z
 
 -- ---- no question said "no"
-passed : (c : Bool) (n : ℕ) (v : Verdict) → 0 < n → number_in (ask c n 0 v) ≡ 0 → (c ≡ true) × (number_in v ≡ 0)
-passed true n v h e = (refl, e)
-passed false n v h e = absurd (omega arith)
+passed : (c : Bool) (n : ℕ) (v : Verdict) → accepted ≡ ask c n 0 v → (c ≡ true) × (accepted ≡ v)
+passed true n v e = (refl, e)
+passed false n v e = never (cc)
 
-module _ (l : List ℕ) (e : number_in (join_verdict l) ≡ 0) where
-  abbrev c4 : Verdict
-  c4 = ask (all (λ k. leb (kind_at l k) 2) (below (heads_in l))) 44 0 accepted
-
-  abbrev c3 : Verdict
-  c3 = ask (all (alike l) (below (heads_in l))) 43 0 c4
-
-  abbrev c2 : Verdict
-  c2 = ask (all (head_shaped l) (below (heads_in l))) 42 0 c3
-
-  first : (whole_heads l ≡ true) × (number_in c2 ≡ 0)
+module _ (l : List ℕ) (e : accepted ≡ join_verdict l) where
+  first : (whole_heads l ≡ true)
+      × (accepted
+      ≡ ask (all (head_shaped l) (below (heads_in l))) 42 0 (ask (all (alike l) (below (heads_in l))) 43 0 (ask (all (λ k. leb (kind_at l k) 2) (below (heads_in l))) 44 0 accepted)))
   unfolding join_verdict
-  first = passed (whole_heads l) 41 c2 (omega arith) e
-
-  second : (all (head_shaped l) (below (heads_in l)) ≡ true) × (number_in c3 ≡ 0)
-  second = passed (all (head_shaped l) (below (heads_in l))) 42 c3 (omega arith) first.1
-
-  third : (all (alike l) (below (heads_in l)) ≡ true) × (number_in c4 ≡ 0)
-  third = passed (all (alike l) (below (heads_in l))) 43 c4 (omega arith) second.1
-
-  pub accepted_all : join_verdict l ≡ accepted
-  unfolding join_verdict
-  accepted_all =
-      let fourth = passed (all (λ k. leb (kind_at l k) 2) (below (heads_in l))) 44 accepted (omega arith) third.1 in
-      ap (λ (b : Bool). ask b 41 0 c2) first.0 ∙ ap (λ (b : Bool). ask b 42 0 c3) second.0 ∙ ap (λ (b : Bool). ask b 43 0 c4) third.0 ∙ ap (λ (b : Bool). ask b 44 0 accepted) fourth.0
+  first = passed (whole_heads l) 41 _ e
 
   not_many : length l / 115 ≤ 65536
   unfolding whole_heads
   not_many = leb-true (heads_in l) 65536 (both_second (eqb (length l % 115) 0) (leb (heads_in l) 65536) first.0)
 
   pub heads_all : Heads l (length l / 115)
-  heads_all = record { few = not_many; fits = omega arith; shaped = each_below (head_shaped l) (heads_in l) second.0 }
+  heads_all = record {
+    few = not_many;
+    fits = omega arith;
+    shaped = each_below (head_shaped l) (heads_in l) (passed (all (head_shaped l) (below (heads_in l))) 42 _ first.1).0;
+  }

@@ -1,6 +1,6 @@
 -- Parts of a run joined by their heads, which are lent one behind the other, 115 bytes each, in any order and with repeats. A head has, in bytes: 0 its kind (1 finished,
 -- 2 spent, 3 full), 4 its plans, 8 its nodes, 12 twelve counts, 60 the name of its problem, 76 where it begins, 89 where it was to end, 102 its last node.
-use Rattle.std.specs.Prelude.{Bool, true, false, List, [], ◌∷◌, map, ℕ, zero, suc, ◌+◌, ◌*◌, ◌/◌, ◌%◌, eqb, ltb, leb, length}
+use Rattle.std.specs.Prelude.{Bool, true, false, Option, None, Some, List, [], ◌∷◌, map, ℕ, zero, suc, ◌+◌, ◌*◌, ◌/◌, ◌%◌, eqb, ltb, leb, length}
 use Rattle.model.specs.{Lists.all, Lists.any, Lists.at, Lists.below, Lists.both, Lists.either, Lists.choose, Lists.same, Lists.tabulate, Lists.total, Verdict.Verdict, Verdict.accepted, Verdict.ask}
 pub use Rattle.model.specs.Bytes.{four_at}
 use Rattle.run_cut.specs.Parts.{after}
@@ -76,6 +76,11 @@ leads l k = both (goes_on l k) (comes l (heads_in l) (reach_at l k))
 -- those that may be: where the ranges join the heads that lead to the last path, else all
 unfoldable pub may_take : List ℕ → ℕ → Bool
 may_take l k = choose (joined l) (leads l k) true
+
+-- a head by its number: 0 for none, k + 1 for head k
+abbrev pub head_number : Option ℕ → ℕ
+head_number None = 0
+head_number (Some k) = suc k
 
 -- where one stands: 0 is the empty path, before any head; k + 1 where head k reaches
 abbrev pub stand_path : List ℕ → ℕ → List ℕ

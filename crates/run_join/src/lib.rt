@@ -4,74 +4,67 @@
 
 mod heads;
 mod marks;
-mod paths;
-pub mod steps;
+pub mod paths;
+mod steps;
 mod walks;
 mod ways;
 
 ghost use Rattle.std.specs.Prelude.{◌≡◌, ◌≤◌};
-ghost use Rattle.run_join.specs.Join.{heads_in};
+ghost use Rattle.run_join.specs.Join.{heads_in, head_number};
 ghost use Rattle.run_join.specs.Inner.Inner.{Heads, Said};
 ghost use Rattle.run_join.specs.Calls.{CallJoin};
 
 use crate::heads::question;
-use crate::steps::nearest;
+use crate::steps::{nearest, stand_path};
 use crate::walks::walk;
 use crate::ways::find_ways;
+use model::refusals::Question;
 
-// The number of a refusal; or the heads go from the first to the last path; or where one stands (0: at the empty path; k + 1: where head k reaches) and the
-// nearest beginning after it (0: the last path; k + 1: where head k begins).
-#[derive(Clone, Copy)]
-pub enum Answer {
-    Refused(u8),
-    Joined,
-    Missing(usize, usize),
+// The range that is missing: from the empty path, or where a head reaches, up to where a head begins, or the last path.
+#[derive(Clone, Copy, Debug, PartialEq, Eq)]
+pub struct Missing {
+    pub from: Option<usize>,
+    pub upto: Option<usize>,
 }
 
-// The answer, and the sums of the heads taken.
-#[derive(Clone, Copy)]
+// The missing range, none where the heads go from the first to the last path, and the sums of the heads taken.
+#[derive(Clone, Copy, Debug, PartialEq, Eq)]
 pub struct Joining {
-    pub answer: Answer,
+    pub missing: Option<Missing>,
     pub plans: u64,
     pub nodes: u64,
     pub counts: [u64; 12],
 }
 
-// That the ranges join, else what is missing.
-fn answered(l: &[u8], n: usize, joins: bool, stand: usize) -> Answer
-    requires { Heads l.now n × (n ≡ heads_in l.now) × (stand ≤ n) }
-    ensures { Said l.now joins stand result }
+// What is missing, where the ranges do not join.
+fn missing_range(l: &[u8], n: usize, joins: bool, stand: Option<usize>) -> Option<Missing>
+    requires { Heads l.now n × (n ≡ heads_in l.now) × (head_number stand ≤ n) }
+    ensures { Said l.now joins (head_number stand) result }
 {
     if joins {
-        return Answer::Joined;
+        return None;
     }
-    Answer::Missing(stand, nearest(l, n, stand))
+    Some(Missing {
+        from: stand,
+        upto: nearest(stand_path(l, stand), l, n),
+    })
 }
 
 // Joins heads.
-pub fn join(heads: &[u8]) -> Joining
+pub fn join(heads: &[u8]) -> Result<Joining, Question>
     ensures { CallJoin heads.now result }
 {
-    let number = question(heads);
-    if number != 0 {
-        let counts = [0u64; 12];
-        return Joining {
-            answer: Answer::Refused(number),
-            plans: 0,
-            nodes: 0,
-            counts,
-        };
-    }
+    question(heads)?;
     let n = heads.len() / 115;
     let mut marks = [0u64; 1024];
     let joins = find_ways(heads, n, &mut marks);
     let w = walk(heads, n, &marks);
-    let answer = answered(heads, n, joins, w.stand);
+    let missing = missing_range(heads, n, joins, w.stand);
     let counts = w.counts;
-    Joining {
-        answer,
+    Ok(Joining {
+        missing,
         plans: w.plans,
         nodes: w.nodes,
         counts,
-    }
+    })
 }

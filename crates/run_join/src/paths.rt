@@ -1,7 +1,9 @@
 // Numbers and paths in lent bytes.
 ghost use Rattle.std.specs.Prelude.{◌≡◌, ◌+◌, ◌*◌, ◌^◌, ◌≤◌, ◌<◌, length};
+ghost use Rattle.model.specs.Lists.{same};
+ghost use Rattle.run_cut.specs.Parts.{after};
 ghost use Rattle.run_join.specs.Join.{four_at, path_at, path_shaped};
-ghost use Rattle.run_join.specs.Inner.Inner.{Path, order_of};
+ghost use Rattle.run_join.specs.Inner.Inner.{Path};
 
 use model::long;
 
@@ -22,43 +24,29 @@ pub fn path_shaped(l: &[u8], o: usize) -> bool
     requires { o + 13 ≤ length l.now }
     ensures { result ≡ path_shaped l.now o }
 {
-    let length = long(l[o]) as usize;
-    if length > 12 {
-        return false;
-    }
-    let mut i = length;
-    while i < 12 {
-        if l[o + 1 + i] != 0 {
-            return false;
-        }
-        i += 1;
-    }
-    true
+    let length = usize::from(l[o]);
+    length <= 12 && (length..12).all(|i| l[o + 1 + i] == 0)
 }
 
-// 0 where two paths are the same, 1 where the second comes after the first, else 2.
-pub fn order(a: &[u8], o: usize, b: &[u8], p: usize) -> u8
-    requires { Path a.now o × Path b.now p }
-    ensures { result ≡ order_of (path_at a.now o) (path_at b.now p) }
+// The path there: as many values as the first byte says.
+pub fn path(l: &[u8], o: usize) -> &[u8]
+    requires { Path l.now o }
+    ensures { result.now ≡ path_at l.now o }
 {
-    let mut i = 0;
-    while i < 12 {
-        let x = long(a[o + 1 + i]);
-        let y = long(b[p + 1 + i]);
-        if x != y {
-            return compared(x, y);
-        }
-        i += 1;
-    }
-    compared(long(a[o]), long(b[p]))
+    let length = usize::from(l[o]);
+    &l[o + 1..o + 1 + length]
 }
 
-// 0 where two numbers are the same, 1 where the second is larger, else 2.
-fn compared(x: u64, y: u64) -> u8
-    ensures { (x ≡ y → result ≡ 0) × (x < y → result ≡ 1) × (y < x → result ≡ 2) }
+// Whether two paths are the same.
+pub fn are_same(a: &[u8], b: &[u8]) -> bool
+    ensures { result ≡ same a.now b.now }
 {
-    if x == y {
-        return 0;
-    }
-    if x < y { 1 } else { 2 }
+    a == b
+}
+
+// Whether the second of two paths comes after the first.
+pub fn comes_after(a: &[u8], b: &[u8]) -> bool
+    ensures { result ≡ after a.now b.now }
+{
+    a < b
 }

@@ -1,84 +1,65 @@
 // The heads that may be taken: of heads that join those that lead to the last path, else all.
 ghost use Rattle.std.specs.Prelude.{◌≡◌, [], ◌<◌, length};
 ghost use Rattle.model.specs.Lists.{any, below, both, same};
-ghost use Rattle.run_join.specs.Join.{path_at, from_at, reach_at, heads_in, goes_on};
-ghost use Rattle.run_join.specs.Inner.Inner.{Path, Heads, AtHead, marked, NoMarks, MarkedBack, Leading, Ways};
+ghost use Rattle.run_join.specs.Join.{from_at, reach_at, heads_in, goes_on};
+ghost use Rattle.run_join.specs.Inner.Inner.{HeadAt, Heads, marked, NoMarks, MarkedBack, Leading, Ways};
 
-use crate::marks::{is_marked, mark, mark_all, pending};
-use crate::paths::order;
-use crate::steps::reach_place;
-use model::long;
+use crate::marks::{Marks, is_marked, mark, mark_all, pending};
+use crate::paths::{are_same, comes_after};
+use crate::steps::{from, reach};
 
-// Whether head k goes on and reaches the path at o.
-fn comes_to(here: &[u8], o: usize, l: &[u8], n: usize, k: usize) -> bool
-    requires { AtHead here.now o l.now n 0 k }
-    ensures { result ≡ both (same (reach_at l.now k) (path_at here.now o)) (goes_on l.now k) }
+// Whether head k goes on and reaches the path given.
+fn comes_to(here: &[u8], l: &[u8], k: usize) -> bool
+    requires { HeadAt l.now k }
+    ensures { result ≡ both (same (reach_at l.now k) here.now) (goes_on l.now k) }
 {
-    let q = reach_place(l, k);
-    if order(l, q, here, o) != 0 {
-        return false;
-    }
-    order(l, 115 * k + 76, l, q) == 1
+    let end = reach(l, k);
+    are_same(end, here) && comes_after(from(l, k), end)
 }
 
-// Marks those of the first n heads that go on and reach the path at o.
-fn mark_back(here: &[u8], o: usize, l: &[u8], n: usize, marks: &mut [u64; 1024])
-    requires { Path here.now o × Heads l.now n × (length marks.old ≡ 1024) }
-    ensures { MarkedBack (path_at here.now o) l.now n marks.old marks.new }
+// Marks those of the first n heads that go on and reach the path given.
+fn mark_back(here: &[u8], l: &[u8], n: usize, marks: &mut Marks)
+    requires { Heads l.now n × (length marks.old ≡ 1024) }
+    ensures { MarkedBack here.now l.now n marks.old marks.new }
 {
-    let mut k = 0;
-    while k < n {
-        if comes_to(here, o, l, n, k) {
+    for k in 0..n {
+        if comes_to(here, l, k) {
             mark(marks, k);
         }
-        k += 1;
     }
 }
 
 // Marks the heads that lead to the last path: those that reach it, then, head by head, those that reach where a marked one begins.
-fn mark_leading(l: &[u8], n: usize, marks: &mut [u64; 1024])
+fn mark_leading(l: &[u8], n: usize, marks: &mut Marks)
     requires { Heads l.now n × (n ≡ heads_in l.now) × NoMarks marks.old }
     ensures { Leading l.now n marks.new }
 {
-    let end = [1u8, 255, 0, 0, 0, 0, 0, 0, 0, 0, 0, 0, 0];
-    mark_back(&end, 0, l, n, marks);
+    mark_back(&[255], l, n, marks);
     let mut done = [0u64; 1024];
-    let mut next = pending(marks, &done, n);
-    while next != 0 {
-        mark(&mut done, next - 1);
-        mark_back(l, 115 * (next - 1) + 76, l, n, marks);
-        next = pending(marks, &done, n);
+    while let Some(next) = pending(marks, &done, n) {
+        mark(&mut done, next);
+        mark_back(from(l, next), l, n, marks);
     }
 }
 
 // Whether head k is marked and begins at the empty path.
-fn is_first(l: &[u8], n: usize, marks: &[u64; 1024], k: usize) -> bool
-    requires { Heads l.now n × (k < n) }
+fn is_first(l: &[u8], marks: &Marks, k: usize) -> bool
+    requires { HeadAt l.now k × (k < 65536) }
     ensures { result ≡ both (marked marks.now k) (same (from_at l.now k) []) }
 {
-    if is_marked(marks, k) {
-        return long(l[115 * k + 76]) == 0;
-    }
-    false
+    is_marked(marks, k) && from(l, k).is_empty()
 }
 
 // Whether a marked head begins at the empty path.
-fn any_first(l: &[u8], n: usize, marks: &[u64; 1024]) -> bool
+fn any_first(l: &[u8], n: usize, marks: &Marks) -> bool
     requires { Heads l.now n }
     ensures { result ≡ any (λ k. both (marked marks.now k) (same (from_at l.now k) [])) (below n) }
 {
-    let mut k = 0;
-    while k < n {
-        if is_first(l, n, marks, k) {
-            return true;
-        }
-        k += 1;
-    }
-    false
+    (0..n).any(|k| is_first(l, marks, k))
 }
 
 // Marks the heads that may be taken; whether the ranges join.
-pub fn find_ways(l: &[u8], n: usize, marks: &mut [u64; 1024]) -> bool
+pub fn find_ways(l: &[u8], n: usize, marks: &mut Marks) -> bool
     requires { Heads l.now n × (n ≡ heads_in l.now) × NoMarks marks.old }
     ensures { Ways l.now n marks.new result }
 {

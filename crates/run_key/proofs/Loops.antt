@@ -1,6 +1,6 @@
 -- One turn of each of the loops. Assumes nothing.
-use Rattle.model.specs.Kit.{◌≡◌, refl, sym, ap, ap₂, ◌∙◌, subst, Bool, true, false, not, List, ℕ, ◌+◌, ◌-◌, ◌*◌, ◌%◌, ◌≤◌, ◌<◌, ℕ_discrete, arith, bit_and, bit_or, T, eqb, ltb, leb, eq-eqb, ne_eqb}
-use Rattle.model.specs.Kit.{ltb-true, ltb-false, lt-ltb, le-ltb, le-leb, lt-leb}
+use Rattle.model.specs.Kit.{◌≡◌, refl, sym, ap, ◌∙◌, subst, Bool, true, false, not, List, ℕ, ◌+◌, ◌*◌, ◌%◌, ◌≤◌, ◌<◌, ℕ_discrete, arith, bit_and, bit_or, T, eqb, ltb, leb, eq-eqb, ne_eqb}
+use Rattle.model.specs.Kit.{min, ltb-true, ltb-false, le-leb, lt-leb}
 use Rattle.model.specs.{Lists.at, Lists.either, Lists.choose, ValueSets.has}
 use Rattle.model.proofs.{Lists.both_i, Lists.either_l, Lists.either_r, Masks.has_and, Masks.has_or}
 use Rattle.arrays.specs.Inner.Places.{ENTAILED, OBEYED, SETS}
@@ -54,13 +54,13 @@ pub lowered_obeyed : (low mark : ℕ) → mark ≡ OBEYED → low ≡ lowered lo
 unfolding lowered
 lowered_obeyed low mark e = sym (ap (λ (a : Bool). choose a low (choose (ltb (mark % ENTAILED) low) (mark % ENTAILED) low)) (eq-eqb mark OBEYED e))
 
-pub lowered_lower : (low mark : ℕ) → (mark ≡ OBEYED → ⊥) → mark % ENTAILED < low → mark % ENTAILED ≡ lowered low mark
+pub lowered_passing : (low mark : ℕ) → (mark ≡ OBEYED → ⊥) → min low (mark % ENTAILED) ≡ lowered low mark
 unfolding lowered
-lowered_lower low mark e f = sym (ap₂ (λ (a b : Bool). choose a low (choose b (mark % ENTAILED) low)) (ne_eqb mark OBEYED e) (lt-ltb (mark % ENTAILED) low f))
-
-pub lowered_same : (low mark : ℕ) → (mark ≡ OBEYED → ⊥) → low ≤ mark % ENTAILED → low ≡ lowered low mark
-unfolding lowered
-lowered_same low mark e f = sym (ap₂ (λ (a b : Bool). choose a low (choose b (mark % ENTAILED) low)) (ne_eqb mark OBEYED e) (le-ltb (mark % ENTAILED) low f))
+lowered_passing low mark n = go (ltb (mark % ENTAILED) low) refl ∙ sym (ap (λ (a : Bool). choose a low (choose (ltb (mark % ENTAILED) low) (mark % ENTAILED) low)) (ne_eqb mark OBEYED n))
+  where
+    go : (b : Bool) → ltb (mark % ENTAILED) low ≡ b → min low (mark % ENTAILED) ≡ choose b (mark % ENTAILED) low
+    go true e = omega (arith, ltb-true (mark % ENTAILED) low e)
+    go false e = omega (arith, ltb-false (mark % ENTAILED) low e)
 
 pub either_yes : (low x : ℕ) (b : Bool) → low ≤ x → leb low x ≡ either (leb low x) b
 either_yes low x b l = le-leb low x l ∙ sym (ap (λ (a : Bool). either a b) (le-leb low x l))
@@ -71,10 +71,6 @@ either_no low x b n = sym (ap (λ (a : Bool). either a b) (lt-leb low x (omega a
 pub not_both : (b : Bool) → not b ≡ true → T b → ⊥
 not_both true e t = subst T (sym e) tt
 not_both false e t = t
-
-pub yes_of : (b : Bool) → not b ≡ false → b ≡ true
-yes_of true e = refl
-yes_of false e = absurd (subst T e tt)
 
 -- ---- the marks of a depth
 abbrev pub PassedBy : (ℕ → ℕ) → ℕ → ℕ → Type 0

@@ -18,12 +18,10 @@ pub fn pending_at(numbers: &Numbers, k: usize) -> u64
     let n = numbers[VARIABLES] as usize;
     let mut once = 0u64;
     let mut twice = 0u64;
-    let mut x = k;
-    while x < n {
+    for x in k..n {
         let touching = numbers[x];
-        twice = twice | (once & touching);
-        once = once | touching;
-        x += 1;
+        twice |= once & touching;
+        once |= touching;
     }
     twice
 }
@@ -43,8 +41,7 @@ fn lower(low: u64, mark: u64) -> u64
     if mark == OBEYED {
         return low;
     }
-    let passed = mark % 128;
-    if passed < low { passed } else { low }
+    low.min(mark % 128)
 }
 
 // What the marks of a depth say: up to which level the lists that are not obeyed for good say nothing more, and which lists are.
@@ -61,12 +58,10 @@ pub fn marks_at(work: &Work, g: usize, k: usize) -> Marks
 {
     let mut low = k as u64;
     let mut good = 0u64;
-    let mut e = 0;
-    while e < g {
+    for e in 0..g {
         let mark = work[16 * k + MARKS + e];
-        good = good | one_if(mark == OBEYED, e);
+        good |= one_if(mark == OBEYED, e);
         low = lower(low, mark);
-        e += 1;
     }
     Marks { low, good }
 }
@@ -94,10 +89,8 @@ pub fn entry_for(stack: &Stack, numbers: &Numbers, k: usize, low: u64) -> usize
 {
     let n = numbers[VARIABLES] as usize;
     let mut mixed = k as u64;
-    let mut x = low as usize;
-    while x < n {
-        mixed = mixed % 4294967296 * 1540483477 + set_at(stack, k, x) as u64;
-        x += 1;
+    for x in low as usize..n {
+        mixed = mixed % 4294967296 * 1540483477 + u64::from(set_at(stack, k, x));
     }
     MEMO + ENTRY * ((mixed / 67108864) as usize % ENTRIES)
 }
@@ -117,7 +110,7 @@ fn agrees(
     ensures { result ≡ true → T (compared numbers.now pending low x) → at stack.now (16 * k + x) ≡ at work.now
         (s + SETS + x) }
 {
-    if set_at(stack, k, x) as u64 == work[s + SETS + x] {
+    if u64::from(set_at(stack, k, x)) == work[s + SETS + x] {
         return true;
     }
     !is_compared(numbers, pending, low, x)
@@ -138,12 +131,10 @@ pub fn same_sets(
         (at numbers.now VARIABLES) pending low s }
 {
     let n = numbers[VARIABLES] as usize;
-    let mut x = 0;
-    while x < n {
+    for x in 0..n {
         if !agrees(stack, work, numbers, k, pending, low, s, x) {
             return false;
         }
-        x += 1;
     }
     true
 }

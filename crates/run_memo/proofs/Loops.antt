@@ -1,5 +1,5 @@
 -- One turn of each of the memo's loops. Assumes nothing.
-use Rattle.model.specs.Kit.{◌≡◌, sym, ap, ◌∙◌, subst, List, ℕ, ◌+◌, ◌-◌, ◌≤◌, ◌<◌, ℕ_discrete, arith, length, set, length-set}
+use Rattle.model.specs.Kit.{◌≡◌, sym, ap, ◌∙◌, subst, List, ℕ, ◌+◌, ◌≤◌, ◌<◌, ℕ_discrete, arith, length, set, length-set}
 use Rattle.model.specs.Lists.{at, tabulate}
 use Rattle.model.proofs.Lists.{at_set, at_set_other, at_ext, at_tabulate, length_tabulate}
 use Rattle.arrays.specs.Inner.Places.{MEMO, DEPTH, COUNTS}

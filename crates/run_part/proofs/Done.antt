@@ -1,8 +1,8 @@
 -- What a call of `run_part` holds (crate run_ranges). Assumes nothing.
-use Rattle.model.specs.Kit.{◌≡◌, refl, sym, ap, ap₂, ◌∙◌, subst, Bool, true, false, ◌⊎◌, inl, inr, List, [], map, Memᴰ, ℕ, suc, ◌+◌, ◌-◌, ◌*◌, ◌/◌, ◌^◌, ◌≤◌, ◌<◌, arith, eqb, length, take}
+use Rattle.model.specs.Kit.{◌≡◌, refl, sym, ap, ap₂, ◌∙◌, subst, Bool, true, false, ◌⊎◌, inl, inr, List, [], map, Memᴰ, ℕ, suc, ◌+◌, ◌-◌, ◌*◌, ◌/◌, ◌≤◌, ◌<◌, arith, eqb, length, take}
 use Rattle.model.specs.Kit.{eqb-true, eqb-false}
-use Rattle.model.specs.Run.{Ending, finished, spent, full, plans_in, nodes_in, Result, search, Answer, refusal, ended, written, Tally, settled_by, counts_by}
-use Rattle.model.specs.{Lists.at, Lists.choose, Lists.keep, Lists.flat, Problem.Problem, Search.nodes, Verdict.Verdict, Verdict.accepted, Verdict.reply, Sheet.problem_of}
+use Rattle.model.specs.Run.{plans_in, nodes_in, Result, search, Answer, ended, written, Tally, settled_by, counts_by}
+use Rattle.model.specs.{Lists.at, Lists.keep, Lists.flat, Problem.Problem, Search.nodes, Verdict.Verdict, Verdict.accepted, Verdict.reply, Sheet.problem_of}
 use native.Mathlib.Nat.{sub-zero}
 use Rattle.model.proofs.{Lists.keep_e, Lists.length_none, Accepted.is_accepted_lem}
 use Rattle.order.specs.Reordered.{write}
@@ -10,35 +10,35 @@ use Rattle.run_cut.specs.{Between.nodes_between, Parts.last_of}
 use Rattle.run_cut.proofs.{Resume.dead_below, Resume.last_in, Resume.taken, Resume.node_values, Counts.counts_none}
 use Rattle.run_input.specs.Lent.{verdict_lent, order_lent, problem_lent}
 use Rattle.run_input.proofs.Lent.{well_sheet, ordering_lent}
-use Rattle.arrays.specs.Inner.Places.{ROOM, PLANS, NUMBER, ITEM, LAST, ALL, SPENT, DEEPER, REFUSED, WANTED}
+use Rattle.arrays.specs.Inner.Places.{ROOM, PLANS, LAST, ALL, DEEPER, WANTED}
 use Rattle.run_state.specs.Inner.{Walk.no_nodes, Walk.State, Walk.walk, Walk.all_noted, Walk.stop_in, Walk.tally_by, Pair.prefix_of, Pair.order_in, Pair.state_of}
 use Rattle.run_state.proofs.{Prefix.prefix_zero, Prefix.prefix_at, Prefix.length_prefix, Outcome.outcome_on, Outcome.noted_all_none, Outcome.noted_all_over, Outcome.nothing_noted}
 use Rattle.run_task.specs.Inner.Task.{room_for}
-use Rattle.run_search.specs.Inner.Prepared.{Prepared}
+use Rattle.run_search.specs.Inner.Prepared.{Prepared, Refuses}
 use Rattle.run_search.proofs.Prepared.{room_fits, room_most}
-use Rattle.run.specs.{Meaning.means, Inner.Whole.Stopped, Inner.Whole.Answered}
-use Rattle.run.proofs.Whole.{nothing_of}
+use Rattle.run.specs.{Meaning.means, Inner.Whole.Answered}
+use Rattle.run.proofs.Whole.{nothing_of, ended_same}
 use Rattle.run_ranges.specs.{Ranges.result_part, Ranges.answer_part, Ranges.list_part, Ranges.nodes_said, Ranges.tally_part, Ranges.last_part, Claims.CallRange, Inner.Within.within}
 use Rattle.run_ranges.proofs.Within.{within_whole}
 use Rattle.run_between.specs.Inner.Steps.{AtBelow, Valued, Parted}
 use Rattle.run_between.proofs.Ends.{Begun, put_last, put_short, put_asks, valued_last}
 use Rattle.model.specs.Verdict as model
 use Rattle.model.proofs.Runs as R
-use Rattle.run.specs.declared.Answer as S
+use Rattle.std.specs.Prelude as P
+use Rattle.std.specs.Prelude.{Ok, Err}
+use Rattle.model.specs.declared.refusals.Refusal.{Refusal}
+use Rattle.run_state.specs.{Meaning.tally_in, Meaning.ending_of, declared.Tally.Tally as Counts}
+use Rattle.run_state.specs.declared.Ending as S
+use Rattle.run_part.specs.{Calls.CallPart, declared.PartRun.PartRun}
 
--- an ending is known by its figures and how it stopped
-abbrev ending_by : ℕ → ℕ → ℕ → Ending
-ending_by plans made stop = choose (eqb stop ALL) (finished plans made) (choose (eqb stop SPENT) (spent plans made) (full plans made))
-
-ending_by_lem : (e : Ending) → ending_by (plans_in e) (nodes_in e) (stop_in e) ≡ e
-ending_by_lem (finished k u) = refl
-ending_by_lem (spent k u) = refl
-ending_by_lem (full k u) = refl
-
-stop_in_lem : (e : Ending) → stop_in e < DEEPER
-stop_in_lem (finished k u) = omega arith
-stop_in_lem (spent k u) = omega arith
-stop_in_lem (full k u) = omega arith
+-- what a part says, from what it is made of
+pub stood : (b pairs block from upto : List ℕ) (limit : ℕ) (list list' : List ℕ) (r : PartRun) (a : P.Result S.Ending Refusal) (t : Counts) (n : ℕ) → r.answer ≡ a → r.tally ≡ t → r.length ≡ n →
+    CallRange b pairs block record { from = from; upto = upto; limit = limit; out = list; answer = means a; list = list'; tally = tally_in t; last = take n r.last } →
+    CallPart b pairs block from upto limit list r list'
+stood b pairs block from upto limit list list' r a t n p q s h =
+    let Says : P.Result S.Ending Refusal → Counts → ℕ → Type 0 = λ x y z.
+    CallRange b pairs block record { from = from; upto = upto; limit = limit; out = list; answer = means x; list = list'; tally = tally_in y; last = take z r.last } in
+    subst (λ (x : P.Result S.Ending Refusal). Says x r.tally r.length) (sym p) (subst (λ (y : Counts). Says a y r.length) (sym q) (subst (λ (z : ℕ). Says a t z) (sym s) h))
 
 abbrev zeroth : List ℕ → List ℕ → State
 zeroth last list = record { tally = no_nodes; plans = 0; stop = ALL; list = list; last = last }
@@ -114,15 +114,15 @@ module _ (task b pairs block from upto : List ℕ) (limit : ℕ) (list : List �
   part_asks e = put_asks from work work₁ put (h.live e list refl)
 
   module _ (stack₂ work₂ list₂ : List ℕ) (tally₂ : Tally) (stop : ℕ) (q : Parted from upto stack work₁ supports tables numbers list step stack₂ work₂ list₂ tally₂ stop) where
-    good : (step ≡ REFUSED → ⊥) → verdict_lent b pairs block ≡ accepted
-    good z = h.accepted z
+    good : verdict_lent b pairs block ≡ accepted
+    good = h.accepted
 
-    begun : (step ≡ REFUSED → ⊥) → at work₁ PLANS ≡ 0
-    begun z = put.others PLANS (omega arith) (omega arith) (λ e. omega arith) ∙ h.begun z
+    begun : at work₁ PLANS ≡ 0
+    begun = put.others PLANS (omega arith) (omega arith) (λ e. omega arith) ∙ h.begun
 
-    came : (step ≡ REFUSED → ⊥) → state_of tally₂ work₂ stop list₂ ≡ walk p order limit (length list / n) ts (zeroth (take 12 from) list)
+    came : state_of tally₂ work₂ stop list₂ ≡ walk p order limit (length list / n) ts (zeroth (take 12 from) list)
     unfolding walk nodes_between nodes keep
-    came z = go (eqb step DEEPER) refl
+    came = go (eqb step DEEPER) refl
       where
         go : (c : Bool) → eqb step DEEPER ≡ c → state_of tally₂ work₂ stop list₂ ≡ walk p order limit (length list / n) ts (zeroth (take 12 from) list)
         go true c =
@@ -132,7 +132,7 @@ module _ (task b pairs block from upto : List ℕ) (limit : ℕ) (list : List �
             ∙ ap₂ (λ (k : ℕ) (us : List (List ℕ)). walk p (order_in numbers n) k (at numbers ROOM) us (state_of no_nodes work₁ ALL list)) (h.bounded e)
             (ap₂ (λ (j : ℕ) (t : List ℕ). within p j t from upto) (sub-zero n) (prefix_zero work₁) ∙ within_whole p from upto)
             ∙ ap₂ (λ (o : List ℕ) (k : ℕ). walk p o limit k ts (state_of no_nodes work₁ ALL list)) (h.order e) (h.roomy e ∙ ap (λ (i : ℕ). room_for i n (length list)) listing)
-            ∙ ap₂ (λ (k : ℕ) (t : List ℕ). walk p order limit (length list / n) ts (record { tally = no_nodes; plans = k; stop = ALL; list = list; last = t })) (begun z) (put_last from work work₁ put)
+            ∙ ap₂ (λ (k : ℕ) (t : List ℕ). walk p order limit (length list / n) ts (record { tally = no_nodes; plans = k; stop = ALL; list = list; last = t })) begun (put_last from work work₁ put)
         go false c =
             let d = eqb-false step DEEPER c in
             let a : step ≡ ALL = all_step d in
@@ -140,7 +140,7 @@ module _ (task b pairs block from upto : List ℕ) (limit : ℕ) (list : List �
             let none : ts ≡ [] = ap (keep _) (dead_below p n [] (h.dead a)) in
             ap₂ (λ (t : Tally) (s : ℕ). state_of t work₂ s list₂) o.1 (o.0 ∙ a)
             ∙ ap₂ (λ (w l : List ℕ). state_of no_nodes w ALL l) o.2 o.3
-            ∙ ap₂ (λ (k : ℕ) (t : List ℕ). record { tally = no_nodes; plans = k; stop = ALL; list = list; last = t }) (begun z) (put_last from work work₁ put)
+            ∙ ap₂ (λ (k : ℕ) (t : List ℕ). record { tally = no_nodes; plans = k; stop = ALL; list = list; last = t }) begun (put_last from work work₁ put)
             ∙ sym (ap (λ (us : List (List ℕ)). walk p order limit (length list / n) us (zeroth (take 12 from) list)) none)
           where
             all_step : (step ≡ DEEPER → ⊥) → step ≡ ALL
@@ -148,15 +148,15 @@ module _ (task b pairs block from upto : List ℕ) (limit : ℕ) (list : List �
               where
                 go2 : (c : Bool) → eqb step ALL ≡ c → step ≡ ALL
                 go2 true c = eqb-true step ALL c
-                go2 false c = absurd (d (h.known z (eqb-false step ALL c)))
+                go2 false c = absurd (d (h.known (eqb-false step ALL c)))
 
-    sized : (step ≡ REFUSED → ⊥) → length order ≡ p.variables
-    sized z = (ordering_lent b pairs block (is_accepted_lem (verdict_lent b pairs block) (good z))).sized
+    sized : length order ≡ p.variables
+    sized = (ordering_lent b pairs block (is_accepted_lem (verdict_lent b pairs block) good)).sized
 
-    some : (step ≡ REFUSED → ⊥) → 0 < n
-    some z = (well_sheet b pairs block (is_accepted_lem (verdict_lent b pairs block) (good z))).some
+    some : 0 < n
+    some = (well_sheet b pairs block (is_accepted_lem (verdict_lent b pairs block) good)).some
 
-    ended_so : (step ≡ REFUSED → ⊥) → state_of tally₂ work₂ stop list₂
+    ended_so : state_of tally₂ work₂ stop list₂
         ≡ record {
           tally = tally_by order ts (nodes_in x.ending);
           plans = plans_in x.ending;
@@ -165,24 +165,15 @@ module _ (task b pairs block from upto : List ℕ) (limit : ℕ) (list : List �
           last = last_of
               (take 12 from) (take (nodes_in x.ending) ts);
         }
-    ended_so z = came z ∙ outcome_of p order (sized z) limit (length list / n) (length list) list (take 12 from) (room_fits 0 n (length list) (some z)) (room_most 0 n (length list) (some z))
+    ended_so = came ∙ outcome_of p order sized limit (length list / n) (length list) list (take 12 from) (room_fits 0 n (length list) some) (room_most 0 n (length list) some)
         (λ o. refl) ts
 
     -- ---- where it stands
     stands_so : prefix_of work₂ (at work₂ LAST) ≡ last_of (take 12 from) (take (nodes_said (answer_part b pairs block from upto limit list)) ts)
     unfolding answer_part result_part last_of
-    stands_so = go (eqb step REFUSED) refl
-      where
-        go : (c : Bool) → eqb step REFUSED ≡ c → prefix_of work₂ (at work₂ LAST) ≡ last_of (take 12 from) (take (nodes_said (answer_part b pairs block from upto limit list)) ts)
-        go true c =
-            let e = eqb-true step REFUSED c in
-            let o = q.none (λ d. omega arith) in
-            ap (λ (w : List ℕ). prefix_of w (at w LAST)) o.2 ∙ put_last from work work₁ put
-            ∙ sym (ap (λ (v : Verdict). last_of (take 12 from) (take (nodes_said (reply v (result_part b pairs block from upto limit (length list)).ending)) ts)) (h.refused e).verdict)
-        go false c =
-            let z = eqb-false step REFUSED c in
-            ap (λ (s : State). s.last) (ended_so z)
-            ∙ sym (ap (λ (v : Verdict). last_of (take 12 from) (take (nodes_said (reply v (result_part b pairs block from upto limit (length list)).ending)) ts)) (good z))
+    stands_so =
+        ap (λ (s : State). s.last) ended_so
+        ∙ sym (ap (λ (v : Verdict). last_of (take 12 from) (take (nodes_said (reply v (result_part b pairs block from upto limit (length list)).ending)) ts)) good)
 
     -- ---- the last node's values are bytes, twelve at most
     abbrev Bytes : List ℕ → Type 0
@@ -196,32 +187,26 @@ module _ (task b pairs block from upto : List ℕ) (limit : ℕ) (list : List �
           λ i l. let k : i < at work₁ LAST = subst (λ (y : ℕ). i < y) m l in subst (λ (v : ℕ). v < 256) (sym (prefix_at work₁ (at work₁ LAST) i k) ∙ ap (λ (t : List ℕ). at t i) e) (put.bytes i k),
         )
 
-    node_bytes : (step ≡ REFUSED → ⊥) → (t : List ℕ) → Memᴰ t (nodes p) → Bytes t
-    node_bytes z t m =
-        let few = (well_sheet b pairs block (is_accepted_lem (verdict_lent b pairs block) (good z))).few in
+    node_bytes : (t : List ℕ) → Memᴰ t (nodes p) → Bytes t
+    node_bytes t m =
+        let few = (well_sheet b pairs block (is_accepted_lem (verdict_lent b pairs block) good)).few in
         let s = node_values p t m in
         let l = s.1 in
         (omega arith, λ i k. let v = s.0 i k in omega arith)
 
-    last_bytes : (step ≡ REFUSED → ⊥) → (k : ℕ) → Bytes (last_of (take 12 from) (take k ts))
+    last_bytes : (k : ℕ) → Bytes (last_of (take 12 from) (take k ts))
     unfolding nodes_between
-    last_bytes z k = go (last_in p (take 12 from) (take k ts))
+    last_bytes k = go (last_in p (take 12 from) (take k ts))
       where
         l : List ℕ
         l = last_of (take 12 from) (take k ts)
 
         go : (l ≡ take 12 from) ⊎ Memᴰ l (take k ts) → Bytes l
         go (inl e) = subst Bytes (sym e) from_bytes
-        go (inr m) = node_bytes z l (keep_e _ (nodes p) l (taken p k ts l m)).0
+        go (inr m) = node_bytes l (keep_e _ (nodes p) l (taken p k ts l m)).0
 
     stands_bytes : Bytes (prefix_of work₂ (at work₂ LAST))
-    stands_bytes = go (eqb step REFUSED) refl
-      where
-        go : (c : Bool) → eqb step REFUSED ≡ c → Bytes (prefix_of work₂ (at work₂ LAST))
-        go true c =
-            let e = eqb-true step REFUSED c in
-            subst Bytes (sym (ap (λ (w : List ℕ). prefix_of w (at w LAST)) (q.none (λ d. omega arith)).2 ∙ put_last from work work₁ put)) from_bytes
-        go false c = let z = eqb-false step REFUSED c in subst Bytes (sym (ap (λ (s : State). s.last) (ended_so z))) (last_bytes z (nodes_in x.ending))
+    stands_bytes = subst Bytes (sym (ap (λ (s : State). s.last) ended_so)) (last_bytes (nodes_in x.ending))
 
     pub part_short : at work₂ LAST ≤ 12
     part_short = subst (λ (k : ℕ). k ≤ 12) (length_prefix work₂ (at work₂ LAST)) stands_bytes.0
@@ -229,82 +214,50 @@ module _ (task b pairs block from upto : List ℕ) (limit : ℕ) (list : List �
     pub part_bytes : (i : ℕ) → i < at work₂ LAST → at work₂ i < 256
     part_bytes i l = subst (λ (v : ℕ). v < 256) (prefix_at work₂ (at work₂ LAST) i l) (stands_bytes.1 i (subst (λ (k : ℕ). i < k) (sym (length_prefix work₂ (at work₂ LAST))) l))
 
-    -- ---- how it stopped
-    stop_so : (step ≡ REFUSED → ⊥) → stop ≡ stop_in x.ending
-    stop_so z = ap (λ (s : State). s.stop) (ended_so z)
-
-    pub part_stopped : Stopped work₂ stop
-    part_stopped = go (eqb step REFUSED) refl
-      where
-        go : (c : Bool) → eqb step REFUSED ≡ c → Stopped work₂ stop
-        go true c =
-            let e = eqb-true step REFUSED c in
-            let o = q.none (λ d. omega arith) in
-            record {
-              number = λ y. subst (λ (k : ℕ). k < 2 ^ 8) (sym (ap (λ (w : List ℕ). at w NUMBER) o.2 ∙ put.others NUMBER (omega arith) (omega arith) (λ d. omega arith))) (h.refused e).number;
-              known = λ y. absurd (y (o.0 ∙ e));
-            }
-        go false c =
-            let z = eqb-false step REFUSED c in
-            let k = stop_in_lem x.ending in
-            let w = stop_so z in
-            record { number = λ y. absurd (omega arith); known = λ y. omega arith }
-
     -- ---- the call
-    module _ (made : ℕ) (is : made ≡ tally₂.nodes) (r : S.Answer) (a : Answered work₂ made stop r) (last : List ℕ) (v : Valued work₂ last) where
-      same_ending : (step ≡ REFUSED → ⊥) → means r ≡ ended x.ending
+    module _ (made : ℕ) (is : made ≡ tally₂.nodes) (e : S.Ending) (a : Answered work₂ made stop (ending_of e)) (last : List ℕ) (v : Valued work₂ last) where
+      same_ending : means (Ok e) ≡ ended x.ending
       unfolding tally_by
-      same_ending z =
-          let w = stop_so z in
-          let k = stop_in_lem x.ending in
-          let f = a.ended (λ y. omega arith) in
-          let m : nodes_in f.0 ≡ nodes_in x.ending = f.3 ∙ is ∙ ap (λ (s : State). s.tally.nodes) (ended_so z) in
-          let g : plans_in f.0 ≡ plans_in x.ending = f.2 ∙ ap (λ (s : State). s.plans) (ended_so z) in
-          f.1 ∙ ap ended (sym (ending_by_lem f.0) ∙ ap₂ (λ (i j : ℕ). ending_by i j (stop_in f.0)) g m ∙ ap (ending_by (plans_in x.ending) (nodes_in x.ending)) (f.4 ∙ w) ∙ ending_by_lem x.ending)
+      same_ending =
+          let m : nodes_in (ending_of e) ≡ nodes_in x.ending = a.nodes ∙ is ∙ ap (λ (s : State). s.tally.nodes) ended_so in
+          let g : plans_in (ending_of e) ≡ plans_in x.ending = a.plans ∙ ap (λ (s : State). s.plans) ended_so in
+          ap ended (ended_same (ending_of e) x.ending g m (a.stopped ∙ ap (λ (s : State). s.stop) ended_so))
 
-      answers_so : means r ≡ answer_part b pairs block from upto limit list
+      answers_so : means (Ok e) ≡ answer_part b pairs block from upto limit list
       unfolding answer_part result_part
-      answers_so = go (eqb step REFUSED) refl
-        where
-          go : (c : Bool) → eqb step REFUSED ≡ c → means r ≡ reply (verdict_lent b pairs block) (result_part b pairs block from upto limit (length list)).ending
-          go true c =
-              let e = eqb-true step REFUSED c in
-              let o = q.none (λ d. omega arith) in
-              a.refused (o.0 ∙ e)
-              ∙ ap₂ refusal (ap (λ (w : List ℕ). at w NUMBER) o.2 ∙ put.others NUMBER (omega arith) (omega arith) (λ d. omega arith))
-              (ap (λ (w : List ℕ). at w ITEM) o.2 ∙ put.others ITEM (omega arith) (omega arith) (λ d. omega arith))
-              ∙ sym (ap (λ (u : Verdict). reply u (result_part b pairs block from upto limit (length list)).ending) (h.refused e).verdict)
-          go false c = let z = eqb-false step REFUSED c in same_ending z ∙ sym (ap (λ (u : Verdict). reply u (result_part b pairs block from upto limit (length list)).ending) (good z))
+      answers_so = same_ending ∙ sym (ap (λ (u : Verdict). reply u (result_part b pairs block from upto limit (length list)).ending) good)
 
       leaves_so : list₂ ≡ list_part b pairs block from upto limit list
       unfolding list_part result_part
-      leaves_so = go (eqb step REFUSED) refl
-        where
-          go : (c : Bool) → eqb step REFUSED ≡ c → list₂ ≡ model.kept (verdict_lent b pairs block) list (written (result_part b pairs block from upto limit (length list)).rows list)
-          go true c =
-              let e = eqb-true step REFUSED c in
-              (q.none (λ d. omega arith)).3 ∙ sym (ap (λ (u : Verdict). model.kept u list (written (result_part b pairs block from upto limit (length list)).rows list)) (h.refused e).verdict)
-          go false c =
-              let z = eqb-false step REFUSED c in
-              ap (λ (s : State). s.list) (ended_so z) ∙ kept_so p order limit list ts (some z) ∙ sym
-              (ap (λ (u : Verdict). model.kept u list (written (result_part b pairs block from upto limit (length list)).rows list)) (good z))
+      leaves_so =
+          ap (λ (s : State). s.list) ended_so ∙ kept_so p order limit list ts some ∙ sym
+          (ap (λ (u : Verdict). model.kept u list (written (result_part b pairs block from upto limit (length list)).rows list)) good)
 
       counts_so : tally₂ ≡ tally_part b pairs block from upto limit list
       unfolding tally_part answer_part result_part tally_by
-      counts_so = go (eqb step REFUSED) refl
+      counts_so = ap (λ (s : State). s.tally) ended_so ∙ sym (ap (λ (u : Verdict). told (reply u (result_part b pairs block from upto limit (length list)).ending)) good)
         where
           told : Answer → Tally
           told y = record { nodes = nodes_said y; counts = counts_by (λ t. at order (settled_by t)) (take (nodes_said y) ts) }
 
-          go : (c : Bool) → eqb step REFUSED ≡ c → tally₂ ≡ told (reply (verdict_lent b pairs block) (result_part b pairs block from upto limit (length list)).ending)
-          go true c =
-              let e = eqb-true step REFUSED c in
-              (q.none (λ d. omega arith)).1 ∙ sym (ap (λ (cs : List ℕ). let t : Tally = record { nodes = 0; counts = cs } in t) (counts_none (λ (t : List ℕ). at order (settled_by t))))
-              ∙ sym (ap (λ (u : Verdict). told (reply u (result_part b pairs block from upto limit (length list)).ending)) (h.refused e).verdict)
-          go false c =
-              let z = eqb-false step REFUSED c in
-              ap (λ (s : State). s.tally) (ended_so z) ∙ sym (ap (λ (u : Verdict). told (reply u (result_part b pairs block from upto limit (length list)).ending)) (good z))
-
-      pub part_call : CallRange b pairs block record { from = from; upto = upto; limit = limit; out = list; answer = means r; list = list₂; tally = tally₂; last = take (at work₂ LAST) last }
+      pub part_call : CallRange b pairs block record { from = from; upto = upto; limit = limit; out = list; answer = means (Ok e); list = list₂; tally = tally₂; last = take (at work₂ LAST) last }
       unfolding last_part
       part_call = record { answers = answers_so; leaves = leaves_so; counts = counts_so; stands = valued_last work₂ last part_short v ∙ stands_so }
+
+-- ---- what is lent is refused
+module _ (b pairs block from upto : List ℕ) (limit : ℕ) (list : List ℕ) (by : Refusal) (h : Refuses b pairs block by) (work work₁ : List ℕ) (put : Begun from work work₁) where
+  abbrev told : Answer → Tally
+  told y = record { nodes = nodes_said y; counts = counts_by (λ t. at (order_lent b pairs) (settled_by t)) (take (nodes_said y) (nodes_between (problem_lent b pairs block) from upto)) }
+
+  pub refused_call : (last : List ℕ) → Valued work₁ last →
+      CallRange b pairs block record { from = from; upto = upto; limit = limit; out = list; answer = means (Err by); list = list; tally = no_nodes; last = take (at work₁ LAST) last }
+  unfolding answer_part result_part list_part tally_part last_part last_of
+  refused_call last v = record {
+    answers = sym (ap (λ (u : Verdict). reply u (result_part b pairs block from upto limit (length list)).ending) h);
+    leaves = sym (ap (λ (u : Verdict). model.kept u list (written (result_part b pairs block from upto limit (length list)).rows list)) h);
+    counts = sym (ap (λ (cs : List ℕ). let t : Tally = record { nodes = 0; counts = cs } in t) (counts_none (λ (t : List ℕ). at (order_lent b pairs) (settled_by t))))
+        ∙ sym (ap (λ (u : Verdict). told (reply u (result_part b pairs block from upto limit (length list)).ending)) h);
+    stands = valued_last work₁ last (put_short from work work₁ put) v ∙ put_last from work work₁ put
+        ∙ sym (ap (λ (u : Verdict). last_of (take 12 from) (take (nodes_said (reply u (result_part b pairs block from upto limit (length list)).ending))
+        (nodes_between (problem_lent b pairs block) from upto))) h);
+  }

@@ -2,35 +2,36 @@
 // its own. Parts that join are the run (crate run_ranges).
 #![tactic(auto)]
 
-ghost use Rattle.std.specs.Prelude.{◌≡◌, ℕ, ◌<◌, length};
+ghost use Rattle.std.specs.Prelude.{◌≡◌, ℕ, ◌≤◌, ◌<◌};
 ghost use Rattle.model.specs.Lists.{at};
 ghost use Rattle.run_part.specs.Calls.{CallPart};
-ghost use Rattle.arrays.specs.Inner.Places.{WORK};
+ghost use Rattle.arrays.specs.Inner.Places.{LAST};
+ghost use Rattle.run_between.specs.Inner.Steps.{Valued};
 
 use arrays::{LAST, NUMBERS, STACK, SUPPORTS, TABLES, WORK, Work};
-use run::Answer;
-use run_state::Tally;
+use model::refusals::Refusal;
+use run_state::{Ending, Tally};
 
 // What a part answers, what it counted, and where it stands: the last node that it made, else where it began, as many of the values as the length says.
-#[derive(Clone, Copy)]
+#[derive(Clone, Copy, Debug, PartialEq, Eq)]
 pub struct PartRun {
-    pub answer: Answer,
+    pub answer: Result<Ending, Refusal>,
     pub tally: Tally,
     pub length: usize,
     pub last: [u8; 12],
 }
 
-// The numbers of `work` in an array of their own, whose length is known.
-fn copied(work: &Work) -> Work
-    ensures { (length result ≡ WORK) × ((i : ℕ) → i < WORK → at result i ≡ at work.now i) }
+// What a part has come to whose last node stands in `work`.
+fn stands(work: &Work, answer: Result<Ending, Refusal>, tally: Tally) -> PartRun
+    requires { (at work.now LAST ≤ 12) × ((i : ℕ) → i < at work.now LAST → at work.now i < 256) }
+    ensures { (result.answer ≡ answer) × (result.tally ≡ tally) × (result.length ≡ at work.now LAST) × Valued work.now result.last }
 {
-    let mut copy = [0u64; WORK];
-    let mut i = 0;
-    while i < WORK {
-        copy[i] = work[i];
-        i += 1;
+    PartRun {
+        answer,
+        tally,
+        length: work[LAST] as usize,
+        last: run_between::last_values(work),
     }
-    copy
 }
 
 // The part of the run whose nodes come after `from` and not after `upto`.
@@ -51,7 +52,7 @@ pub fn run_part(
     let mut supports = [0u16; SUPPORTS];
     let mut tables = [0u16; TABLES];
     let mut numbers = [0u64; NUMBERS];
-    let step = run_search::prepare(
+    let prepared = run_search::prepare(
         &mut stack,
         &mut work,
         &mut supports,
@@ -63,19 +64,14 @@ pub fn run_part(
         limit,
         list.len(),
     );
-    let mut begun = copied(&work);
-    run_between::put_path(&mut begun, from);
+    run_between::put_path(&mut work, from);
+    let node = match prepared {
+        Ok(node) => node,
+        Err(refusal) => return stands(&work, Err(refusal), Tally::new()),
+    };
     let part = run_between::walk_part(
-        &mut stack, &mut begun, &supports, &tables, &numbers, list, from, upto, step,
+        &mut stack, &mut work, &supports, &tables, &numbers, list, from, upto, node,
     );
-    let counted = part.tally;
-    let answer = run::answered(&begun, counted.nodes, part.stop);
-    let length = begun[LAST] as usize;
-    let last = run_between::last_values(&begun);
-    PartRun {
-        answer,
-        tally: counted,
-        length,
-        last,
-    }
+    let ending = run::answered(&work, part.tally.nodes, part.stop);
+    stands(&work, Ok(ending), part.tally)
 }

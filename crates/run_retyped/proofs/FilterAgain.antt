@@ -1,10 +1,12 @@
 -- What callers of the filter hold of a second call and of calls by turns (specs/FilterAgain). Assumes nothing.
 use Rattle.model.specs.Kit.{◌≡◌, refl, sym, ap, ◌∙◌, subst, List, ℕ, eqb, leb, length}
-use Rattle.model.specs.Nogood.{Entry, filtered, FilterAnswer, refusal, answered, failed, entailed, consistent, entries, first_wrong, filter_verdict, filter_answer, sets_after}
-use Rattle.model.specs.{Lists.both, Verdict.Verdict, Verdict.accepted, Verdict.refused, Verdict.ask}
+use Rattle.model.specs.Nogood.{Entry, filtered, FilterEnding, filter_ending, answered, failed, entailed, consistent, entries, first_wrong, filter_verdict, filter_answer, sets_after}
+use Rattle.model.specs.{Lists.both, Verdict.Verdict, Verdict.accepted, Verdict.refused, Verdict.ask, Verdict.reply}
 use Rattle.model.proofs.Filter.{length_filtered}
-use Rattle.filter.specs.declared.Answer.TheVariants.{Failed, Entailed, Consistent, Refused}
-use Rattle.filter.specs.{Meaning.means, FilterCalls.CallFilter, FilterCalls.ListsRight, declared.Answer.Answer}
+use Rattle.std.specs.Prelude.{Result, Ok}
+use Rattle.model.specs.declared.refusals.Refusal.{Refusal}
+use Rattle.filter.specs.declared.Ending.TheVariants.{Failed, Entailed, Consistent}
+use Rattle.filter.specs.{Meaning.ending_of, FilterCalls.CallFilter, FilterCalls.ListsRight, declared.Ending.Ending}
 use Rattle.filter.proofs.FilterCalls.{right_accepted}
 use Rattle.run_retyped.specs.FilterAgain.{TwiceCalls, WithinCalls, Turned, none, first, second, Still, TurnsHeld, TurnsCalls}
 use Rattle.run_retyped.specs.{Retyped.Within, Inner.Turns.by_turns, Inner.Turns.Applied}
@@ -20,7 +22,7 @@ verdict_sized ds rs xs es us l =
     (ask (eqb (first_wrong n xs es us) (length xs)) 19 (first_wrong n xs es us) accepted))) l
 
 -- what is left, by the verdict
-left : (v : Verdict) (ds xs es us : List ℕ) (r : Answer) (rs : List ℕ) → CallFilter ds xs es us r rs → filter_verdict ds xs es us ≡ v → rs ≡ sets_after v ds (entries xs es us)
+left : (v : Verdict) (ds xs es us : List ℕ) (r : Result Ending Refusal) (rs : List ℕ) → CallFilter ds xs es us r rs → filter_verdict ds xs es us ≡ v → rs ≡ sets_after v ds (entries xs es us)
 left v ds xs es us r rs c e = c.leaves ∙ ap (λ (u : Verdict). sets_after u ds (entries xs es us)) e
 
 after_sized : (v : Verdict) (ds : List ℕ) (es : List Entry) → length (sets_after v ds es) ≡ length ds
@@ -59,30 +61,32 @@ within_calls ds ds₂ xs es us w r rs c r₂ rs₂ d = go (filter_verdict ds₂ 
         subst (λ (l : List ℕ). Within l rs₂) (sym l) (subst (Within (sets_after v ds (entries xs es us))) (sym l₂) (after_within v ds ds₂ (entries xs es us) w))
 
 -- ---- by turns
--- the answer that is meant
-meant : FilterAnswer → Answer
-meant (refusal number item) = Refused number item
-meant (answered failed) = Failed
-meant (answered entailed) = Entailed
-meant (answered consistent) = Consistent
+-- the ending that is meant
+meant : FilterEnding → Ending
+meant failed = Failed
+meant entailed = Entailed
+meant consistent = Consistent
 
-meant_so : (a : FilterAnswer) → means (meant a) ≡ a
+meant_so : (e : FilterEnding) → ending_of (meant e) ≡ e
 unfolding meant
-meant_so (refusal number item) = refl
-meant_so (answered failed) = refl
-meant_so (answered entailed) = refl
-meant_so (answered consistent) = refl
+meant_so failed = refl
+meant_so entailed = refl
+meant_so consistent = refl
 
 -- a list that is right for as many sets
 module _ (ds xs es us : List ℕ) (right : ListsRight ds xs es us) (rs : List ℕ) (sized : length rs ≡ length ds) where
   good : filter_verdict rs xs es us ≡ accepted
   good = verdict_sized ds rs xs es us sized ∙ right_accepted ds xs es us right
 
-  call_of : CallFilter rs xs es us (meant (filter_answer rs xs es us)) (filtered rs (entries xs es us))
-  unfolding sets_after
-  call_of = record { answers = meant_so (filter_answer rs xs es us); leaves = sym (ap (λ (v : Verdict). sets_after v rs (entries xs es us)) good) }
+  call_of : CallFilter rs xs es us (Ok (meant (filter_ending rs (entries xs es us)))) (filtered rs (entries xs es us))
+  unfolding sets_after filter_answer
+  call_of = record {
+    answers = ap answered (meant_so (filter_ending rs (entries xs es us))) ∙ sym (ap (λ (v : Verdict). reply v (filter_ending rs (entries xs es us))) good);
+    leaves =
+        sym (ap (λ (v : Verdict). sets_after v rs (entries xs es us)) good);
+  }
 
-  leaves_of : (r : Answer) (ts : List ℕ) → CallFilter rs xs es us r ts → ts ≡ filtered rs (entries xs es us)
+  leaves_of : (r : Result Ending Refusal) (ts : List ℕ) → CallFilter rs xs es us r ts → ts ≡ filtered rs (entries xs es us)
   unfolding sets_after
   leaves_of r ts c = left accepted rs xs es us r ts c good
 
@@ -118,10 +122,10 @@ module _ (xs es us xs₂ es₂ us₂ ds : List ℕ) (right : ListsRight ds xs es
   called rs A.none = (none, refl)
   called rs (A.first {rs = qs} a) =
       let c = called qs a in
-      (first qs (filtered qs one) (meant (filter_answer qs xs es us)) c.0 (call_of ds xs es us right qs c.1), length_filtered qs one ∙ c.1)
+      (first qs (filtered qs one) (Ok (meant (filter_ending qs (entries xs es us)))) c.0 (call_of ds xs es us right qs c.1), length_filtered qs one ∙ c.1)
   called rs (A.second {rs = qs} a) =
       let c = called qs a in
-      (second qs (filtered qs two) (meant (filter_answer qs xs₂ es₂ us₂)) c.0 (call_of ds xs₂ es₂ us₂ right₂ qs c.1), length_filtered qs two ∙ c.1)
+      (second qs (filtered qs two) (Ok (meant (filter_ending qs (entries xs₂ es₂ us₂)))) c.0 (call_of ds xs₂ es₂ us₂ right₂ qs c.1), length_filtered qs two ∙ c.1)
 
   still : Still xs es us xs₂ es₂ us₂ (by_turns one two ds)
   still =
@@ -129,10 +133,10 @@ module _ (xs es us xs₂ es₂ us₂ ds : List ℕ) (right : ListsRight ds xs es
       let l = (called rs (turns_applied one two ds)).1 in
       let f = turns_largest one two ds in
       record {
-        answer = meant (filter_answer rs xs es us);
-        first = subst (CallFilter rs xs es us (meant (filter_answer rs xs es us))) f.first (call_of ds xs es us right rs l);
-        answer₂ = meant (filter_answer rs xs₂ es₂ us₂);
-        second = subst (CallFilter rs xs₂ es₂ us₂ (meant (filter_answer rs xs₂ es₂ us₂))) f.second (call_of ds xs₂ es₂ us₂ right₂ rs l);
+        answer = Ok (meant (filter_ending rs (entries xs es us)));
+        first = subst (CallFilter rs xs es us (Ok (meant (filter_ending rs (entries xs es us))))) f.first (call_of ds xs es us right rs l);
+        answer₂ = Ok (meant (filter_ending rs (entries xs₂ es₂ us₂)));
+        second = subst (CallFilter rs xs₂ es₂ us₂ (Ok (meant (filter_ending rs (entries xs₂ es₂ us₂))))) f.second (call_of ds xs₂ es₂ us₂ right₂ rs l);
       }
 
   held : TurnsHeld xs es us xs₂ es₂ us₂ ds

@@ -5,7 +5,7 @@ use Rattle.model.specs.{Lists.at, Problem.Problem, Search.is_live, Search.nodes,
 use native.Mathlib.Nat.{sub-zero}
 use Rattle.run_input.specs.Lent.{verdict_lent, order_lent, problem_lent}
 use Rattle.run_input.proofs.Lent.{well_sheet, ordering_lent}
-use Rattle.arrays.specs.Inner.Places.{LIMIT, ROOM, PLANS, LAST, ALL, DEEPER, REFUSED, WANTED, DIAGONAL}
+use Rattle.arrays.specs.Inner.Places.{LIMIT, ROOM, PLANS, LAST, ALL, DEEPER, WANTED, DIAGONAL}
 use Rattle.run_state.specs.{Inner.Walk.no_nodes, Inner.Walk.State, Inner.Walk.walk, Inner.Walk.stop_in, Inner.Pair.prefix_of, Inner.Pair.order_in, Inner.Pair.Cleared, Inner.Pair.state_of}
 use Rattle.run_state.specs.Inner.Pair.{ListRoom, AtPrefix, AtValues, Walked, tried}
 use Rattle.run_task.specs.Inner.Task.{room_for}
@@ -30,8 +30,8 @@ stop_in_lem (full k u) = omega arith
 
 -- ---- `walk_tree`
 module _ (stack work supports tables numbers list : List ℕ) (step : ℕ) where
-  pub ended_none : (step ≡ DEEPER → ⊥) → (tally : Tally) → Cleared tally → Ended stack work supports tables numbers list step stack work list tally step
-  ended_none n tally t = record { none = λ z. (refl, t.is, refl, refl, refl); some = λ e. absurd (n e) }
+  pub ended_none : step ≡ ALL → (tally : Tally) → Cleared tally → Ended stack work supports tables numbers list step stack work list tally ALL
+  ended_none a tally t = record { none = λ z. (sym a, t.is, refl, refl, refl); some = λ e. absurd (omega arith) }
 
   module _ (e : step ≡ DEEPER) (tally : Tally) (none : Cleared tally) (values : ℕ) (all : values ≡ at stack (DIAGONAL * 0)) where
     pub tree_asks : (p : Problem) → AtPrefix p stack work supports tables numbers list no_nodes 0 → AtValues p stack work supports tables numbers list tally 0 values
@@ -115,15 +115,6 @@ module _ (p : Problem) (order : List ℕ) (sized : length order ≡ p.variables)
 -- ---- the search of a lending
 module _ (task b pairs block : List ℕ) (limit : ℕ) (list stack work supports tables numbers : List ℕ) (step : ℕ) (unlisted : (at task WANTED ≡ 0 → ⊥) → length list ≡ 0)
     (h : Prepared task b pairs block limit (length list) stack work supports tables numbers step) where
-  pub explored_refused : (tally : Tally) (stop : ℕ) → step ≡ REFUSED → stop ≡ REFUSED → Explored task b pairs block limit list tally work list tally stop
-  explored_refused tally stop e s = record {
-    refused = λ z. (h.refused e, refl, refl);
-    accepted = λ z. absurd (z s);
-    ended = λ z. absurd (z s);
-    summed = λ z. absurd (z s);
-    known = λ z. absurd (z s);
-  }
-
   abbrev tree : Problem
   tree = problem_lent b pairs block
 
@@ -133,26 +124,22 @@ module _ (task b pairs block : List ℕ) (limit : ℕ) (list stack work supports
   abbrev n : ℕ
   n = (problem_of b).variables
 
-  sized : (step ≡ REFUSED → ⊥) → length by ≡ tree.variables
-  sized z = (ordering_lent b pairs block (is_accepted_lem (verdict_lent b pairs block) (h.accepted z))).sized
+  sized : length by ≡ tree.variables
+  sized = (ordering_lent b pairs block (is_accepted_lem (verdict_lent b pairs block) h.accepted)).sized
 
-  some : (step ≡ REFUSED → ⊥) → 0 < (problem_of b).variables
-  some z = (well_sheet b pairs block (is_accepted_lem (verdict_lent b pairs block) (h.accepted z))).some
+  some : 0 < (problem_of b).variables
+  some = (well_sheet b pairs block (is_accepted_lem (verdict_lent b pairs block) h.accepted)).some
 
   abbrev w : ℕ
   w = at task WANTED
 
-  pub explored_dead : (tally tally' : Tally) (stop : ℕ) → step ≡ ALL → stop ≡ ALL → Cleared tally' → Explored task b pairs block limit list tally work list tally' stop
-  explored_dead tally tally' stop e s t =
-      let z : step ≡ REFUSED → ⊥ = λ f. omega arith in
-      record {
-        refused = λ z. absurd (omega arith);
-        accepted = λ y. h.accepted z;
-        ended = λ y. ran_dead tree by (sized z) limit (room_for w n (length list)) (bytes_for w n (length list)) list (room_fits w n (length list) (some z)) (room_most w n (length list) (some z))
-            (room_lent w n (length list) unlisted) work (h.begun z) (h.dead e) tally' stop t.is s;
-        summed = λ z. t.summed;
-        known = λ z. omega arith;
-      }
+  pub explored_dead : (tally' : Tally) (stop : ℕ) → step ≡ ALL → stop ≡ ALL → Cleared tally' → Explored task b pairs block limit list work list tally' stop
+  explored_dead tally' stop e s t = record {
+    accepted = h.accepted;
+    ended = ran_dead tree by sized limit (room_for w n (length list)) (bytes_for w n (length list)) list (room_fits w n (length list) some) (room_most w n (length list) some)
+        (room_lent w n (length list) unlisted) work h.begun (h.dead e) tally' stop t.is s;
+    summed = t.summed;
+  }
 
   module _ (e : step ≡ DEEPER) (count : Tally) (none : Cleared count) (values : ℕ) (all : values ≡ at stack (DIAGONAL * 0)) where
     abbrev given : AtPrefix tree stack work supports tables numbers list count 0
@@ -161,44 +148,31 @@ module _ (task b pairs block : List ℕ) (limit : ℕ) (list stack work supports
     pub start_asks : AtValues tree stack work supports tables numbers list count 0 values
     start_asks = subst (AtValues tree stack work supports tables numbers list count 0) (sym all) (values_ask tree stack work supports tables numbers list count 0 given)
 
-    module _ (tally : Tally) (stack' work' list' : List ℕ) (tally' : Tally) (stop : ℕ) (q : Walked tree (tried tree work 0 values) stack work numbers list count 0 stack' work' list' tally' stop) where
-      abbrev ended_so : RunTo tree by (result_for task b pairs block limit (length list)) list work' list' tally' stop
-      ended_so =
-          let z : step ≡ REFUSED → ⊥ = λ f. omega arith in
-          ran_walked tree by (sized z) limit (room_for w n (length list)) (bytes_for w n (length list)) list (room_fits w n (length list) (some z)) (room_most w n (length list) (some z))
-          (room_lent w n (length list) unlisted) work (h.begun z)
-          stack supports tables numbers count none.is given (h.bounded e) (h.roomy e) (h.order e) values all stack' work' list' tally' stop q
-
-      stop_known : stop < DEEPER
-      stop_known = let s = stop_in_lem (result_for task b pairs block limit (length list)).ending in let q = ended_so.stopped in omega arith
-
-      pub explored : Explored task b pairs block limit list tally work' list' tally' stop
-      explored = record {
-        refused = λ z. absurd (let k = stop_known in omega arith);
-        accepted = λ z. h.accepted (λ f. omega arith);
-        ended = λ z. ended_so;
-        summed = λ z. q.summed;
-        known = λ z. stop_known;
-      }
+    pub explored : (stack' work' list' : List ℕ) (tally' : Tally) (stop : ℕ) → Walked tree (tried tree work 0 values) stack work numbers list count 0 stack' work' list' tally' stop
+        → Explored task b pairs block limit list work' list' tally' stop
+    explored stack' work' list' tally' stop q = record {
+      accepted = h.accepted;
+      ended = ran_walked tree by sized limit (room_for w n (length list)) (bytes_for w n (length list)) list (room_fits w n (length list) some) (room_most w n (length list) some)
+          (room_lent w n (length list) unlisted) work h.begun stack supports tables numbers count none.is given (h.bounded e) (h.roomy e) (h.order e) values all stack' work' list' tally' stop q;
+      summed = q.summed;
+    }
 
   -- by `walk_tree`
-  pub explored_tree : (tally : Tally) (stack' work' list' : List ℕ) (tally' : Tally) (stop : ℕ) → Ended stack work supports tables numbers list step stack' work' list' tally' stop
-      → tally ≡ no_nodes → Explored task b pairs block limit list tally work' list' tally' stop
-  explored_tree tally stack' work' list' tally' stop q t = go (eqb step DEEPER) refl
+  pub explored_tree : (stack' work' list' : List ℕ) (tally' : Tally) (stop : ℕ) → Ended stack work supports tables numbers list step stack' work' list' tally' stop
+      → Explored task b pairs block limit list work' list' tally' stop
+  explored_tree stack' work' list' tally' stop q = go (eqb step DEEPER) refl
     where
       Left : List ℕ → List ℕ → Tally → Type 0
-      Left x y u = Explored task b pairs block limit list tally x y u stop
+      Left x y u = Explored task b pairs block limit list x y u stop
 
-      go : (c : Bool) → eqb step DEEPER ≡ c → Explored task b pairs block limit list tally work' list' tally' stop
-      go true c = let e = eqb-true step DEEPER c in explored e no_nodes none_cleared (at stack (DIAGONAL * 0)) refl tally stack' work' list' tally' stop (q.some e tree (h.live e list refl))
+      go : (c : Bool) → eqb step DEEPER ≡ c → Explored task b pairs block limit list work' list' tally' stop
+      go true c = let e = eqb-true step DEEPER c in explored e no_nodes none_cleared (at stack (DIAGONAL * 0)) refl stack' work' list' tally' stop (q.some e tree (h.live e list refl))
       go false c =
-          let o = q.none (eqb-false step DEEPER c) in
-          subst₂ (λ (x y : List ℕ). Left x y tally') (sym o.3) (sym o.4) (subst (Left work list) (sym o.1) (other (eqb step REFUSED) refl))
+          let d = eqb-false step DEEPER c in
+          let o = q.none d in
+          let a = is_all (eqb step ALL) refl d in
+          subst₂ (λ (x y : List ℕ). Left x y tally') (sym o.3) (sym o.4) (subst (Left work list) (sym o.1) (explored_dead no_nodes stop a (o.0 ∙ a) none_cleared))
         where
-          other : (d : Bool) → eqb step REFUSED ≡ d → Left work list no_nodes
-          other true d = let e = eqb-true step REFUSED d in subst (Left work list) t (explored_refused tally stop e ((q.none (λ f. omega arith)).0 ∙ e))
-          other false d = all (eqb step ALL) refl
-            where
-              all : (f : Bool) → eqb step ALL ≡ f → Left work list no_nodes
-              all true f = let e = eqb-true step ALL f in explored_dead tally no_nodes stop e ((q.none (λ g. omega arith)).0 ∙ e) none_cleared
-              all false f = absurd (eqb-false step DEEPER c (h.known (eqb-false step REFUSED d) (eqb-false step ALL f)))
+          is_all : (c : Bool) → eqb step ALL ≡ c → (step ≡ DEEPER → ⊥) → step ≡ ALL
+          is_all true c d = eqb-true step ALL c
+          is_all false c d = absurd (d (h.known (eqb-false step ALL c)))

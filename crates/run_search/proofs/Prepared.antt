@@ -1,6 +1,8 @@
 -- What is made of an accepted lending before the search. Assumes nothing.
+use Rattle.std.specs.Prelude.{Result, Ok}
 use Rattle.model.specs.Kit.{◌≡◌, refl, sym, ap, ap₂, ◌∙◌, subst, subst₂, Bool, true, false, List, ℕ, suc, ◌-◌, ◌*◌, ◌/◌, ◌%◌, ◌^◌, ◌≤◌, ◌<◌, arith, T, eqb, eqb-false, length, set, length-set}
-use Rattle.model.specs.{Lists.at, Lists.choose, Problem.Problem, Problem.with_symmetries, Verdict.accepted, Verdict.refused, Verdict.is_accepted, Inner.Filling.Gathered, Sheet.problem_of}
+use Rattle.model.specs.{Lists.at, Lists.choose, Problem.Problem, Problem.with_symmetries, Verdict.accepted, Verdict.refused, Verdict.is_accepted}
+use Rattle.model.specs.{Inner.Filling.Gathered, Sheet.problem_of, Refusals.verdict_from, declared.refusals.Refusal.Refusal}
 use native.Mathlib.Nat.{div-add-mod', mod-lt}
 use Rattle.model.proofs.{Lists.at_set, Lists.at_set_other, Accepted.is_accepted_lem}
 use Rattle.order.specs.Reordered.{reordered}
@@ -8,21 +10,19 @@ use Rattle.block.specs.Block.{in_lent}
 use Rattle.run_input.specs.{Lent.verdict_lent, Lent.order_lent, Lent.problem_with, Lent.problem_lent, Inner.Compile.WithinLimits, Inner.Compile.CompiledLent}
 use Rattle.order.proofs.Reordered.{well_reordered, respected_reordered}
 use Rattle.run_input.proofs.{Lent.well_lent, Lent.respected_lent, Lent.ordering_lent, Blocked.own_first, Blocked.block_walked, Blocked.block_inside}
-use Rattle.arrays.specs.Inner.{Places.VARIABLES, Places.LIMIT, Places.ROOM, Places.PLANS, Places.NUMBER, Places.ITEM, Places.REFUSED, Places.NUMBERS, Places.WORK, Places.WANTED, Layout.Compiled}
-use Rattle.sheet.specs.{declared.Answer.Answer as Verdicts, declared.Answer.TheVariants.Accepted}
+use Rattle.arrays.specs.Inner.{Places.VARIABLES, Places.LIMIT, Places.ROOM, Places.PLANS, Places.NUMBERS, Places.WORK, Places.WANTED, Layout.Compiled}
 use Rattle.run_state.specs.Inner.Pair.{ListRoom}
 use Rattle.run_task.specs.Inner.Task.{room_for}
 use Rattle.run_search.specs.{Inner.Begun.Laid, Inner.Begun.Begun, Inner.Prepared.bytes_for, Inner.Prepared.Prepared}
 use Rattle.run_search.proofs.Begun.{numbers_kept}
-use Rattle.sheet.specs.Meaning as S
 
 -- `compile` has answered, and no question with "no"
-module _ (b pairs block : List ℕ) (numbers supports images bytes : List ℕ) (r : Verdicts) (left : CompiledLent b pairs block numbers supports images bytes r) (is : r ≡ Accepted) where
+module _ (b pairs block : List ℕ) (numbers supports images bytes : List ℕ) (r : Result Unit Refusal) (left : CompiledLent b pairs block numbers supports images bytes r) (is : r ≡ Ok tt) where
   abbrev sheets : Problem
   sheets = reordered (order_lent b pairs) (problem_of b)
 
   accepts : verdict_lent b pairs block ≡ accepted
-  accepts = sym left.answers ∙ ap S.means is
+  accepts = sym left.answers ∙ ap verdict_from is
 
   abbrev fits₀ : WithinLimits sheets
   fits₀ = left.limits is
@@ -99,7 +99,7 @@ room_lent wanted n size u o = go (eqb wanted 0) refl
     go false e = absurd (o (u (eqb-false wanted 0 e)))
 
 -- all that the search reads is made of an accepted lending
-module _ (b pairs block : List ℕ) (numbers supports images bytes : List ℕ) (r : Verdicts) (left : CompiledLent b pairs block numbers supports images bytes r) (is : r ≡ Accepted) (limit : ℕ)
+module _ (b pairs block : List ℕ) (numbers supports images bytes : List ℕ) (r : Result Unit Refusal) (left : CompiledLent b pairs block numbers supports images bytes r) (is : r ≡ Ok tt) (limit : ℕ)
     (small : limit < 2 ^ 32) (task : List ℕ) (size room : ℕ)
     (rooms : room ≡ room_for (at task WANTED) (at numbers VARIABLES) size) (narrow : room < 2 ^ 64) (unlisted : (at task WANTED ≡ 0 → ⊥) → size ≡ 0) (bounded : List ℕ)
     (put : bounded ≡ set (set numbers LIMIT limit) ROOM room) (none : at task PLANS ≡ 0) where
@@ -129,35 +129,12 @@ module _ (b pairs block : List ℕ) (numbers supports images bytes : List ℕ) (
   pub prepared : (stack' work' tables' numbers' : List ℕ) (step : ℕ) → Begun (problem_lent b pairs block) (order_lent b pairs) bounded task stack' work' supports tables' numbers' step
       → Prepared task b pairs block limit size stack' work' supports tables' numbers' step
   prepared stack' work' tables' numbers' step h = record {
-    refused = λ z. absurd (step_known z);
-    accepted = λ z. accepts b pairs block numbers supports images bytes r left is;
-    begun = λ z. h.same PLANS (omega arith) ∙ none;
+    accepted = accepts b pairs block numbers supports images bytes r left is;
+    begun = h.same PLANS (omega arith) ∙ none;
     dead = h.dead;
-    known = λ z. h.known;
+    known = h.known;
     bounded = λ z. h.first LIMIT (omega arith) ∙ limit_is;
     roomy = λ z. h.first ROOM (omega arith) ∙ room_is ∙ rooms_is;
     order = λ z. h.order_is;
     live = λ z list same. h.live z (subst (λ (k : ℕ). k < 2 ^ 32) (sym limit_is) small) list (subst₂ (λ (k m : ℕ). ListRoom n k list m) (sym room_is) (sym none) (empty_room list same));
   }
-    where
-      step_known : step ≡ REFUSED → ⊥
-      step_known z = let y = h.known (λ e. omega arith) in omega arith
-
-pub prepared_refused : (task b pairs block : List ℕ) (limit size number item : ℕ) (stack work supports tables numbers : List ℕ) → verdict_lent b pairs block ≡ refused number item → number < 2 ^ 8
-    → length work ≡ WORK →
-    Prepared task b pairs block limit size stack (set (set work NUMBER number) ITEM item) supports tables numbers REFUSED
-prepared_refused task b pairs block limit size number item stack work supports tables numbers v small long =
-    let l = length-set work NUMBER number in
-    let e : at (set (set work NUMBER number) ITEM item) NUMBER ≡ number = at_set_other (set work NUMBER number) ITEM item NUMBER (λ z. omega arith) ∙ at_set work NUMBER number (omega arith) in
-    let f : at (set (set work NUMBER number) ITEM item) ITEM ≡ item = at_set (set work NUMBER number) ITEM item (omega arith) in
-    record {
-      refused = λ z. record { verdict = v ∙ ap₂ refused (sym e) (sym f); number = subst (λ (k : ℕ). k < 2 ^ 8) (sym e) small };
-      accepted = λ z. absurd (z refl);
-      begun = λ z. absurd (z refl);
-      dead = λ z. absurd (omega arith);
-      known = λ z. absurd (z refl);
-      bounded = λ z. absurd (omega arith);
-      roomy = λ z. absurd (omega arith);
-      order = λ z. absurd (omega arith);
-      live = λ z. absurd (omega arith);
-    }

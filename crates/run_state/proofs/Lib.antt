@@ -4,3 +4,4 @@ pub mod Prefix
 pub mod Memo
 pub mod Written
 pub mod Listing
+pub mod Stops

@@ -2,3 +2,4 @@
 pub mod Walk
 pub mod Memo
 pub mod Pair
+pub mod Cut

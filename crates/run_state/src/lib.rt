@@ -12,71 +12,67 @@ ghost use Rattle.arrays.specs.Inner.Places.{DIAGONAL};
 ghost use Rattle.run_state.specs.Inner.Walk.{noted};
 ghost use Rattle.run_state.specs.Inner.Pair.{prefix_of, settling, order_in, Countable, Counted, Cleared, ListRoom, Listed};
 ghost use Rattle.loans.specs.Inner.Slices.{SameSlice};
+ghost use Rattle.run_state.specs.Inner.Cut.{stop_of};
 ghost use Rattle.run_state.specs.Meaning.{tally_in};
 
-use arrays::{ALL, DIAGONAL, FULL, LIMIT, Numbers, ORDER, PLANS, ROOM, Stack, VARIABLES, Work};
+use arrays::{DIAGONAL, LIMIT, Numbers, ORDER, PLANS, ROOM, Stack, VARIABLES, Work};
 use model::ValueSet;
 
 // How a run ends; each ending carries the plans listed and the nodes made.
-#[derive(Clone, Copy)]
+#[derive(Clone, Copy, Debug, PartialEq, Eq)]
 pub enum Ending {
     Finished(usize, usize),
     Spent(usize, usize),
     Full(usize, usize),
 }
 
+// How a part of a run is cut short: as many nodes as it may make were made, or a plan was found that has no room.
+#[derive(Clone, Copy, Debug, PartialEq, Eq)]
+pub enum Cut {
+    Spent,
+    Full,
+}
+
+// What stands below a node that was made: nothing, or nodes of the next variable.
+#[derive(Clone, Copy, Debug, PartialEq, Eq)]
+pub enum Node {
+    Leaf,
+    Inner,
+}
+
 // What a run counts (the paper's tally): the nodes made (its trials), and of these the nodes that settle each of twelve variables.
-#[derive(Clone, Copy)]
+#[derive(Clone, Copy, Debug, PartialEq, Eq)]
 pub struct Tally {
     pub nodes: u32,
     pub counts: [u32; 12],
 }
 
-// Adds a node that settles variable x.
-pub fn add_node(t: &mut Tally, x: usize)
-    requires { Countable x (tally_in t.old) }
-    ensures { Counted x (tally_in t.old) (tally_in t.new) }
-{
-    t.counts[x] = t.counts[x] + 1;
-    t.nodes = t.nodes + 1;
-}
-
-// The tally of nothing.
-pub fn no_nodes() -> Tally
-    ensures { Cleared (tally_in result) }
-{
-    Tally {
-        nodes: 0,
-        counts: [0; 12],
+impl Tally {
+    // The tally of nothing.
+    pub fn new() -> Self
+        ensures { Cleared (tally_in result) }
+    {
+        Tally {
+            nodes: 0,
+            counts: [0; 12],
+        }
     }
-}
 
-// Sets a tally to nothing.
-pub fn reset(t: &mut Tally)
-    ensures { Cleared (tally_in t.new) }
-{
-    *t = no_nodes();
-}
+    // Adds a node that settles variable x.
+    pub fn add_node(&mut self, x: usize)
+        requires { Countable x (tally_in self.old) }
+        ensures { Counted x (tally_in self.old) (tally_in self.new) }
+    {
+        self.counts[x] += 1;
+        self.nodes += 1;
+    }
 
-// The nodes made.
-pub fn nodes_made(t: &Tally) -> u32
-    ensures { result ≡ t.now.nodes }
-{
-    t.nodes
-}
-
-// What was counted, by value.
-pub fn counted(t: &Tally) -> Tally
-    ensures { result ≡ t.now }
-{
-    *t
-}
-
-// Sets a tally to what was counted.
-pub fn put_tally(t: &mut Tally, new: Tally)
-    ensures { t.new ≡ new }
-{
-    *t = new;
+    // Sets the tally to nothing.
+    pub fn reset(&mut self)
+        ensures { Cleared (tally_in self.new) }
+    {
+        *self = Tally::new();
+    }
 }
 
 // Writes the first n numbers of `work`, each a byte, over the list from `start` on: a variable's value at the variable's number.
@@ -85,11 +81,9 @@ fn keep(list: &mut [u8], work: &[u64], numbers: &Numbers, n: usize, start: usize
     requires by_index { ((i : ℕ) → i < n → at work.now i < 256) × Ordering n (order_in numbers.now n) }
     ensures { list.new ≡ placed list.old start (write (order_in numbers.now n) (prefix_of work.now n)) }
 {
-    let mut i = 0;
-    while i < n {
+    for i in 0..n {
         let x = numbers[ORDER + i] as usize;
         list[start + x] = work[i] as u8;
-        i += 1;
     }
 }
 
@@ -103,30 +97,30 @@ fn note(list: &mut [u8], work: &[u64], numbers: &Numbers, plans: usize)
         (write (order_in numbers.now (at numbers.now VARIABLES)) (prefix_of work.now (at numbers.now VARIABLES)))
         list.old }
 {
-    if list.len() == 0 {
+    if list.is_empty() {
         return;
     }
     let n = numbers[VARIABLES] as usize;
     keep(list, work, numbers, n, plans * n);
 }
 
-// A plan was found: FULL where it has no room, else it is counted, and listed in a list that isn't empty.
-pub fn list_plan(work: &mut Work, numbers: &Numbers, list: &mut &mut [u8]) -> u8
+// A plan was found: full where it has no room, else it is counted, and listed in a list that isn't empty.
+pub fn list_plan(work: &mut Work, numbers: &Numbers, list: &mut &mut [u8]) -> Result<(), Cut>
     requires list_room { ListRoom (at numbers.now VARIABLES) (at numbers.now ROOM) list.old.now (at work.old PLANS) }
     requires numbers_bound { (at numbers.now VARIABLES ≤ 12) × ((i : ℕ) → i < at numbers.now VARIABLES → at work.old i < 256) × (length work.old ≡ WORK)
         × Ordering (at numbers.now VARIABLES) (order_in numbers.now (at numbers.now VARIABLES)) }
     ensures listed { Listed (at numbers.now VARIABLES) (at numbers.now ROOM)
         (order_in numbers.now (at numbers.now VARIABLES)) work.old list.old.now work.new
-        list.new.now result }
+        list.new.now (stop_of result) }
     ensures same_slice { SameSlice list.old list.new }
 {
     let plans = work[PLANS] as usize;
     if plans == numbers[ROOM] as usize {
-        return FULL;
+        return Err(Cut::Full);
     }
     note(*list, work, numbers, plans);
     work[PLANS] = (plans + 1) as u64;
-    ALL
+    Ok(())
 }
 
 // The values of the set of variable k at depth k.
@@ -141,9 +135,7 @@ pub fn candidates(stack: &Stack, k: usize) -> u16
 pub fn rest(m: u16) -> u16
     ensures { result ≡ without_mask m (lowest_of m) }
 {
-    let values = ValueSet { bits: m };
-    let others = values.without_lowest();
-    others.bits
+    ValueSet { bits: m }.without_lowest().bits
 }
 
 // The number of nodes that a run may make.

@@ -23,10 +23,8 @@ pub fn put_order(numbers: &mut [u64], order: &[u8; 16])
     requires { ORDER + 12 ≤ length numbers.old }
     ensures { numbers.new ≡ ordered order.now 12 numbers.old }
 {
-    let mut k = 0;
-    while k < 12 {
+    for k in 0..12 {
         numbers[ORDER + k] = long(order[k]);
-        k += 1;
     }
 }
 
@@ -55,9 +53,7 @@ pub fn by_position(order: &mut [u8; 16])
     requires { length order.old ≡ 16 }
     ensures { (length order.new ≡ 16) × ((k : ℕ) → k < 16 → at order.new k ≡ k) }
 {
-    let mut k = 0;
-    while k < 16 {
+    for k in 0..16 {
         order[k] = k as u8;
-        k += 1;
     }
 }

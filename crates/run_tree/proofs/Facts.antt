@@ -1,14 +1,14 @@
--- The facts that `settle` and `try_value` need at each call. Assumes nothing.
+-- The facts that `settle_variable` and `try_value` need at each call. Assumes nothing.
 use Rattle.model.specs.Kit.{◌≡◌, sym, ap, ◌∙◌, subst, List, ℕ, ◌+◌, ◌-◌, ◌*◌, ◌^◌, ◌≤◌, ◌<◌, arith, length}
 use Rattle.model.specs.{Lists.at, ValueSets.without_mask, ValueSets.lowest_of, Problem.Problem, Search.nodes_below, Run.Tally}
 use Rattle.arrays.specs.Inner.Places.{PLANS, ALL, DEEPER, WORK, DIAGONAL, ASKS, VAIN}
 use Rattle.run_state.specs.Inner.Walk.{with_node}
-use Rattle.run_state.specs.Inner.Pair.{prefix_of, settling, Countable, Counted, AtPrefix, AtValues, AtValue, Walked, Entered, tried, lowest_tried}
+use Rattle.run_state.specs.Inner.Pair.{prefix_of, settling, Countable, Counted, AtValues, AtValue, Walked, Entered, tried, lowest_tried}
 use Rattle.run_memo.specs.Inner.Steps.{AtLook, grown_by, Looked, AtNote, Noted}
 use Rattle.run_state.proofs.Written.{settling_inside}
 use Rattle.run_tree.proofs.Turns.{turn_asks, turn_goes, values_ask, tried_all, μ_settle, rest_falls}
 
--- ---- `settle`: the values but the lowest are j
+-- ---- `settle_variable`: the values but the lowest are j
 module _ (p : Problem) (stack work supports tables numbers list : List ℕ) (tally : Tally) (k m : ℕ) (h : AtValues p stack work supports tables numbers list tally k m) (some : 0 < m)
     (small : m < 2 ^ 16)
     (stack' work' list' : List ℕ) (tally' : Tally) (stop : ℕ) (d : Walked p (lowest_tried p work k m) stack work numbers list tally k stack' work' list' tally' stop) (j : ℕ)
@@ -25,6 +25,13 @@ module _ (p : Problem) (stack work supports tables numbers list : List ℕ) (tal
 
 pub others_fall : (k m j : ℕ) → 0 < m → m < 2 ^ 16 → j ≡ without_mask m (lowest_of m) → μ_settle k j < μ_settle k m
 others_fall k m j some small is = subst (λ (i : ℕ). μ_settle k i < μ_settle k m) (sym is) (rest_falls k m some small)
+
+-- nodes are below the lowest value's node: they are those of the next variable's values
+pub record Inside (p : Problem) (stack work supports tables numbers list : List ℕ) (tally : Tally) (k m : ℕ) (stack' work' list' : List ℕ) (tally' : Tally) (values : ℕ) : Type 0 where
+  pub asks : AtValues p stack' work' supports tables numbers list' tally' (k + 1) values
+  pub all : values ≡ at stack' (DIAGONAL * (k + 1))
+  pub goes : (stack'' work'' list'' : List ℕ) (tally'' : Tally) (stop : ℕ) → Walked p (tried p work' (k + 1) values) stack' work' numbers list' tally' (k + 1) stack'' work'' list'' tally'' stop →
+      Walked p (lowest_tried p work k m) stack work numbers list tally k stack'' work'' list'' tally'' stop
 
 -- ---- `try_value`: x is the variable of its depth, the tally has one node of it more, and `enter` has answered
 module _ (p : Problem) (stack work supports tables numbers list : List ℕ) (tally : Tally) (k m : ℕ) (g : AtValue p stack work supports tables numbers list tally k m) where
@@ -53,62 +60,60 @@ module _ (p : Problem) (stack work supports tables numbers list : List ℕ) (tal
         pub next_few : k + 1 < 12
         next_few = let i = (w.next e).inner in let f = g.values.prefix.ready.well_formed.few in omega arith
 
-        module _ (values : ℕ) (all : values ≡ at stack' (DIAGONAL * (k + 1))) where
-          pub next_asks : AtValues p stack' work' supports tables numbers list' tally' (k + 1) values
-          next_asks =
-              subst (λ (t : Tally). AtValues p stack' work' supports tables numbers list' t (k + 1) values) (sym is_next)
-              (subst (AtValues p stack' work' supports tables numbers list' next (k + 1)) (sym all) (values_ask p stack' work' supports tables numbers list' next (k + 1) (w.next e)))
-
-          pub next_goes : (stack'' work'' list'' : List ℕ) (tally'' : Tally) (stop : ℕ) →
-              Walked p (tried p work' (k + 1) values) stack' work' numbers list' tally' (k + 1) stack'' work'' list'' tally'' stop →
-              Walked p (lowest_tried p work k m) stack work numbers list tally k stack'' work'' list'' tally'' stop
-          next_goes stack'' work'' list'' tally'' stop v =
-              w.then e stack'' work'' list'' tally'' stop
+        pub inside : (values : ℕ) → values ≡ at stack' (DIAGONAL * (k + 1)) → Inside p stack work supports tables numbers list tally k m stack' work' list' tally' values
+        inside values all = record {
+          asks = subst (λ (t : Tally). AtValues p stack' work' supports tables numbers list' t (k + 1) values) (sym is_next)
+              (subst (AtValues p stack' work' supports tables numbers list' next (k + 1)) (sym all) (values_ask p stack' work' supports tables numbers list' next (k + 1) (w.next e)));
+          all = all;
+          goes = λ stack'' work'' list'' tally'' stop v. w.then e stack'' work'' list'' tally'' stop
               (subst (λ (t : Tally). Walked p (tried p work' (k + 1) (at stack' (DIAGONAL * (k + 1)))) stack' work' numbers list' t (k + 1) stack'' work'' list'' tally'' stop) is_next
-              (subst (λ (i : ℕ). Walked p (tried p work' (k + 1) i) stack' work' numbers list' tally' (k + 1) stack'' work'' list'' tally'' stop) all v))
+              (subst (λ (i : ℕ). Walked p (tried p work' (k + 1) i) stack' work' numbers list' tally' (k + 1) stack'' work'' list'' tally'' stop) all v));
+        }
 
-          -- the memo is asked for the nodes below the node
-          next_prefix : AtPrefix p stack' work' supports tables numbers list' tally' (k + 1)
-          next_prefix = next_asks.prefix
+-- ---- the memo is asked for the nodes below the node
+module _ {p : Problem} {stack work supports tables numbers list : List ℕ} {tally : Tally} {k m : ℕ} {stack' work' list' : List ℕ} {tally' : Tally} {values : ℕ}
+    (i : Inside p stack work supports tables numbers list tally k m stack' work' list' tally' values) where
+  pub inside_few : k + 1 < 12
+  inside_few = let j = i.asks.prefix.inner in let f = i.asks.prefix.ready.well_formed.few in omega arith
 
-          pub turn_asks_for : (k + 1 < 12) × (length work' ≡ WORK)
-          turn_asks_for = (next_few, next_prefix.ready.work_length)
+  pub turn_asks_for : (k + 1 < 12) × (length work' ≡ WORK)
+  turn_asks_for = (inside_few, i.asks.prefix.ready.work_length)
 
-          below_is : tried p work' (k + 1) values ≡ nodes_below p (p.variables - (k + 1)) (prefix_of work' (k + 1))
-          below_is = ap (tried p work' (k + 1)) all ∙ tried_all p stack' work' supports tables numbers list' tally' (k + 1) next_prefix
+  below_is : tried p work' (k + 1) values ≡ nodes_below p (p.variables - (k + 1)) (prefix_of work' (k + 1))
+  below_is = ap (tried p work' (k + 1)) i.all ∙ tried_all p stack' work' supports tables numbers list' tally' (k + 1) i.asks.prefix
 
-          pub look_asks : (at numbers ASKS ≡ 0 → ⊥) → AtLook p stack' work' supports tables numbers list' tally' (k + 1)
-          look_asks asks = record { prefix = next_prefix; some = omega arith; asks = asks }
+  pub look_asks : (at numbers ASKS ≡ 0 → ⊥) → AtLook p stack' work' supports tables numbers list' tally' (k + 1)
+  look_asks asks = record { prefix = i.asks.prefix; some = omega arith; asks = asks }
 
-          pub found_goes : (work'' list'' : List ℕ) (place : ℕ) (tally'' : Tally) → Looked p stack' work' numbers list' tally' (k + 1) work'' list'' place → place < VAIN →
-              tally'' ≡ grown_by tally' work'' place → Walked p (lowest_tried p work k m) stack work numbers list tally k stack' work'' list'' tally'' ALL
-          found_goes work'' list'' place tally'' l n q =
-              next_goes stack' work'' list'' tally'' ALL
-              (subst (λ (t : Tally). Walked p (tried p work' (k + 1) values) stack' work' numbers list' tally' (k + 1) stack' work'' list'' t ALL) (sym q)
-              (subst (λ (ts : List (List ℕ)). Walked p ts stack' work' numbers list' tally' (k + 1) stack' work'' list'' (grown_by tally' work'' place) ALL) (sym below_is) (l.found n)))
+  module _ {work'' list'' : List ℕ} {place : ℕ} (l : Looked p stack' work' numbers list' tally' (k + 1) work'' list'' place) where
+    pub found_goes : (tally'' : Tally) → place < VAIN → tally'' ≡ grown_by tally' work'' place → Walked p (lowest_tried p work k m) stack work numbers list tally k stack' work'' list'' tally'' ALL
+    found_goes tally'' n q =
+        i.goes stack' work'' list'' tally'' ALL
+        (subst (λ (t : Tally). Walked p (tried p work' (k + 1) values) stack' work' numbers list' tally' (k + 1) stack' work'' list'' t ALL) (sym q)
+        (subst (λ (ts : List (List ℕ)). Walked p ts stack' work' numbers list' tally' (k + 1) stack' work'' list'' (grown_by tally' work'' place) ALL) (sym below_is) (l.found n)))
 
-          -- they are not kept, and then are walked along, and noted
-          module _ (work'' list'' : List ℕ) (place : ℕ) (l : Looked p stack' work' numbers list' tally' (k + 1) work'' list'' place) (vain : VAIN ≤ place) where
-            pub again_asks : AtValues p stack' work'' supports tables numbers list'' tally' (k + 1) values
-            again_asks =
-                subst (λ (u : List ℕ). AtValues p stack' u supports tables numbers list'' tally' (k + 1) values) (sym (l.missed vain).0)
-                (subst (λ (u : List ℕ). AtValues p stack' work' supports tables numbers u tally' (k + 1) values) (sym (l.missed vain).1) next_asks)
+    -- they are not kept, and then are walked along, and noted
+    module _ (vain : VAIN ≤ place) where
+      pub again_asks : AtValues p stack' work'' supports tables numbers list'' tally' (k + 1) values
+      again_asks =
+          subst (λ (u : List ℕ). AtValues p stack' u supports tables numbers list'' tally' (k + 1) values) (sym (l.missed vain).0)
+          (subst (λ (u : List ℕ). AtValues p stack' work' supports tables numbers u tally' (k + 1) values) (sym (l.missed vain).1) i.asks)
 
-            module _ (stack₃ work₃ list₃ : List ℕ) (tally₃ : Tally) (stop : ℕ) where
-              pub note_asks : (turn : ℕ) → turn ≡ at work' PLANS + 1 → Walked p (tried p work'' (k + 1) values) stack' work'' numbers list'' tally' (k + 1) stack₃ work₃ list₃ tally₃ stop →
-                  AtNote p stack' work' supports tables numbers list' tally' (k + 1) stack₃ work₃ list₃ tally₃ turn place stop
-              note_asks turn is v = record {
-                prefix = next_prefix;
-                walked = subst (λ (ts : List (List ℕ)). Walked p ts stack' work' numbers list' tally' (k + 1) stack₃ work₃ list₃ tally₃ stop) below_is
-                    (subst (λ (u : List ℕ). Walked p (tried p u (k + 1) values) stack' u numbers list' tally' (k + 1) stack₃ work₃ list₃ tally₃ stop) (l.missed vain).0
-                    (subst (λ (u : List ℕ). Walked p (tried p work'' (k + 1) values) stack' work'' numbers u tally' (k + 1) stack₃ work₃ list₃ tally₃ stop) (l.missed vain).1 v));
-                some = omega arith;
-                turn_is = is;
-                vain = vain;
-                placed = (l.missed vain).2;
-              }
+      pub note_asks : (stack₃ work₃ list₃ : List ℕ) (tally₃ : Tally) (stop turn : ℕ) → turn ≡ at work' PLANS + 1 →
+          Walked p (tried p work'' (k + 1) values) stack' work'' numbers list'' tally' (k + 1) stack₃ work₃ list₃ tally₃ stop →
+          AtNote p stack' work' supports tables numbers list' tally' (k + 1) stack₃ work₃ list₃ tally₃ turn place stop
+      note_asks stack₃ work₃ list₃ tally₃ stop turn is v = record {
+        prefix = i.asks.prefix;
+        walked = subst (λ (ts : List (List ℕ)). Walked p ts stack' work' numbers list' tally' (k + 1) stack₃ work₃ list₃ tally₃ stop) below_is
+            (subst (λ (u : List ℕ). Walked p (tried p u (k + 1) values) stack' u numbers list' tally' (k + 1) stack₃ work₃ list₃ tally₃ stop) (l.missed vain).0
+            (subst (λ (u : List ℕ). Walked p (tried p work'' (k + 1) values) stack' work'' numbers u tally' (k + 1) stack₃ work₃ list₃ tally₃ stop) (l.missed vain).1 v));
+        some = omega arith;
+        turn_is = is;
+        vain = vain;
+        placed = (l.missed vain).2;
+      }
 
-              pub note_goes : Noted p stack' work' numbers list' tally' (k + 1) stack₃ work₃ list₃ tally₃ stop → Walked p
-                  (lowest_tried p work k m) stack work numbers list tally k stack₃ work₃ list₃ tally₃ stop
-              note_goes v = next_goes stack₃ work₃ list₃ tally₃ stop (subst (λ (ts : List (List ℕ)). Walked p ts stack' work' numbers list' tally' (k + 1) stack₃ work₃ list₃ tally₃ stop)
-                  (sym below_is) v)
+  pub note_goes : (stack₃ work₃ list₃ : List ℕ) (tally₃ : Tally) (stop : ℕ) → Noted p stack' work' numbers list' tally' (k + 1) stack₃ work₃ list₃ tally₃ stop → Walked p
+      (lowest_tried p work k m) stack work numbers list tally k stack₃ work₃ list₃ tally₃ stop
+  note_goes stack₃ work₃ list₃ tally₃ stop v =
+      i.goes stack₃ work₃ list₃ tally₃ stop (subst (λ (ts : List (List ℕ)). Walked p ts stack' work' numbers list' tally' (k + 1) stack₃ work₃ list₃ tally₃ stop) (sym below_is) v)

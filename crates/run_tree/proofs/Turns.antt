@@ -1,4 +1,4 @@
--- One turn of `settle` and of `try_value`, as statements about what they are given and what they leave: nothing to try, no node left, and a value
+-- One turn of `settle_variable` and of `try_value`, as statements about what they are given and what they leave: nothing to try, no node left, and a value
 -- whose node is dead, a plan, or has nodes below it. Assumes nothing.
 use Rattle.model.specs.Kit.{◌≡◌, refl, sym, ap, ap₂, ◌∙◌, subst, Bool, true, false, List, [], ◌∷◌, ◌++◌, ℕ, suc, ◌+◌, ◌-◌, ◌*◌, ◌^◌, ◌≤◌, ◌<◌, add-one, arith, T, not-true, not-false, length, take}
 use Rattle.model.specs.Kit.{set, length-set}

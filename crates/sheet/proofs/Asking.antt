@@ -3,7 +3,7 @@ use Rattle.model.specs.Kit.{◌≡◌, ap, ◌∙◌, subst, List, Bool, true, f
 use Rattle.model.specs.{Lists.both, Verdict.Verdict, Verdict.refused, Verdict.ask, Sheet.header_of, Sheet.header_verdict, Sheet.Header as Numbers}
 use Rattle.model.proofs.Lists.{both_r, T_of, of_T}
 use Rattle.reader.specs.{Inner.Read.stated, declared.Header.Header}
-use Rattle.sheet.specs.{Meaning.Answers, Inner.Parts.header_asked, declared.Answer.Answer}
+use Rattle.sheet.specs.{Meaning.Answers, Inner.Parts.header_asked}
 
 -- a question passed, and one that is not
 pub pass : (c : Bool) (n i : ℕ) (v w : Verdict) → c ≡ true → v ≡ w → ask c n i v ≡ w
@@ -16,5 +16,5 @@ pub in_range : (n : ℕ) → both (leb 1 n) (leb n 12) ≡ true → n ≤ 12
 in_range n e = leb-true n 12 (of_T (leb n 12) (both_r (leb 1 n) (leb n 12) (T_of (both (leb 1 n) (leb n 12)) e)))
 
 -- what was asked of the header as read was asked of the sheet's
-pub heading : (h : Header) (b : List ℕ) (r : Answer) → stated h ≡ header_of b → Answers (header_verdict (stated h) (length b)) r → Answers (header_asked b) r
-heading h b r e a = subst (λ (k : Numbers). Answers (header_verdict k (length b)) r) e a
+pub heading : (h : Header) (b : List ℕ) (v : Verdict) → stated h ≡ header_of b → Answers (header_verdict (stated h) (length b)) v → Answers (header_asked b) v
+heading h b v e a = subst (λ (k : Numbers). Answers (header_verdict k (length b)) v) e a

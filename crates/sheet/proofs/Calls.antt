@@ -1,23 +1,16 @@
 -- What a caller of `question` holds (specs/Calls). Assumes nothing.
-use Rattle.model.specs.Kit.{◌≡◌, refl, sym, ap, ◌∙◌, ℕ}
-use Rattle.model.specs.{Verdict.Verdict, Verdict.accepted, Verdict.refused, Sheet.verdict_of}
-use Rattle.model.proofs.{OneMoreAccepted.one_more_accepted, Lists.never}
+use Rattle.model.specs.Kit.{◌≡◌, sym, ap, ◌∙◌}
+use Rattle.model.specs.{Verdict.Verdict, Sheet.verdict_of}
+use Rattle.model.proofs.{OneMoreAccepted.one_more_accepted, Numbering.is_accepted_answer, Numbering.is_refused, Numbering.refused_said}
 use Rattle.sheet.specs.Calls.{Says, QuestionCalls, OneMoreCalls}
-use Rattle.sheet.specs.{Meaning.means, declared.Answer.Answer, declared.Answer.TheVariants.Accepted, declared.Answer.TheVariants.Refused}
+use Rattle.std.specs.Prelude.{Result}
+use Rattle.model.specs.{Refusals.verdict_from, declared.refusals.Refusal.Refusal}
 
-is_accepted_lem : (r : Answer) → means r ≡ accepted → r ≡ Accepted
-is_accepted_lem Accepted e = refl
-is_accepted_lem (Refused n i) e = never (cc)
-
-is_refused : (r : Answer) (number item : ℕ) → means r ≡ refused number item → r ≡ Refused number item
-is_refused Accepted number item e = never (cc)
-is_refused (Refused n i) number item e = cc
-
--- an answer says what it means
-pub says : (r : Answer) (v : Verdict) → means r ≡ v → Says r v
+-- an answer says its verdict
+pub says : (r : Result Unit Refusal) (v : Verdict) → verdict_from r ≡ v → Says r v
 says r v e = record {
-  accepts = (λ q. sym e ∙ ap means q, λ q. is_accepted_lem r (e ∙ q));
-  refuses = λ number item. (λ q. sym e ∙ ap means q, λ q. is_refused r number item (e ∙ q));
+  accepts = (λ q. sym e ∙ ap verdict_from q, λ q. is_accepted_answer r (e ∙ q));
+  refuses = λ number item. (λ n. sym e ∙ refused_said r number item n, λ q. is_refused r number item (e ∙ q));
 }
 
 pub question_calls : QuestionCalls

@@ -3,8 +3,9 @@ use Rattle.model.specs.Kit.{◌≡◌, refl, sym, ap, ap₂, ◌∙◌, subst, B
 use Rattle.model.specs.{Verdict.Verdict, Verdict.refused, Verdict.ask, Sheet.header_of, Sheet.after_at, Sheet.constraint_verdict, Sheet.constraints_verdict}
 use Rattle.model.proofs.Lists.{never}
 use Rattle.sheet.specs.Inner.Steps.{step_then, ConstraintAsked, offset_at, numbers_to, supports_to, ConstraintsAsked}
-use Rattle.sheet.specs.{Inner.Fill.numbers_with, Inner.Fill.supports_with, declared.Answer.TheVariants.Accepted, declared.Answer.TheVariants.Refused as RefusedBy, declared.constraints.Step.Step}
-use Rattle.sheet.specs.{declared.constraints.Step.TheVariants.Next, declared.constraints.Step.TheVariants.Refused}
+use Rattle.std.specs.Prelude.{Result, Ok, Err}
+use Rattle.model.specs.{Refusals.number_of, declared.refusals.Question.Question, declared.refusals.Question.TheVariants.ConstraintEnd}
+use Rattle.sheet.specs.{Inner.Fill.numbers_with, Inner.Fill.supports_with}
 
 -- k constraints were asked, and the next stands at an offset
 pub record ConstraintsTo (b : List ℕ) (c : ℕ) (numbers supports : List ℕ) (k o : ℕ) (numbers' supports' : List ℕ) : Type 0 where
@@ -32,17 +33,17 @@ module _ (b : List ℕ) (c : ℕ) (numbers supports : List ℕ) (k o : ℕ) (num
   unfolding constraints_verdict
   open_one later = t.passed later ∙ ap (λ (m : ℕ). constraints_verdict b (header_of b) m k o later) (let z : c - k ≡ suc (c - (k + 1)) = omega arith in z)
 
-  pub constraints_no : (number : ℕ) (n s : List ℕ) (w : Step) → c ≡ (header_of b).constraints → w ≡ Refused number → ConstraintAsked b o k numbers' supports' n s w
-      → ConstraintsAsked b numbers supports n s (RefusedBy number k)
-  constraints_no number n s w e f a' =
-      let a = subst (λ (x : Step). ConstraintAsked b o k numbers' supports' n s x) f a' in
+  pub constraints_no : (asked : Question) (n s : List ℕ) (w : Result ℕ Question) → c ≡ (header_of b).constraints → w ≡ Err asked → ConstraintAsked b o k numbers' supports' n s w
+      → ConstraintsAsked b numbers supports n s (Err (record { question = asked; item = k }))
+  constraints_no asked n s w e f a' =
+      let a = subst (λ (x : Result ℕ Question). ConstraintAsked b o k numbers' supports' n s x) f a' in
       record {
-        answers = λ later. (let q = open_one later ∙ a.answers _ in subst (λ (m : ℕ). constraints_verdict b (header_of b) m 0 (header_of b).second later ≡ refused number k) e q);
+        answers = λ later. (let q = open_one later ∙ a.answers _ in subst (λ (m : ℕ). constraints_verdict b (header_of b) m 0 (header_of b).second later ≡ refused (number_of asked) k) e q);
         scoped = λ q. never (cc);
         supported = λ q. never (cc);
       }
 
-  pub constraints_more : (o' : ℕ) (n s : List ℕ) (w : Step) → w ≡ Next o' → ConstraintAsked b o k numbers' supports' n s w → ConstraintsTo b c numbers supports (k + 1) o' n s
+  pub constraints_more : (o' : ℕ) (n s : List ℕ) (w : Result ℕ Question) → w ≡ Ok o' → ConstraintAsked b o k numbers' supports' n s w → ConstraintsTo b c numbers supports (k + 1) o' n s
   unfolding offset_at numbers_to supports_to
   constraints_more o' n s w f a =
       let z : suc k ≡ k + 1 = omega arith in
@@ -52,7 +53,7 @@ module _ (b : List ℕ) (c : ℕ) (numbers supports : List ℕ) (k o : ℕ) (num
         inside = a.inside o' f;
         scoped = a.scoped o' f ∙ ap₂ (λ (q : ℕ) (m : List ℕ). numbers_with b q k m) t.here t.scoped ∙ ap (λ (j : ℕ). numbers_to b (header_of b).second j numbers) z;
         supported = a.supported o' f ∙ ap₂ (λ (q : ℕ) (m : List ℕ). supports_with b q k m) t.here t.supported ∙ ap (λ (j : ℕ). supports_to b (header_of b).second j supports) z;
-        passed = λ later. open_one later ∙ a.answers _ ∙ ap (λ (x : Step). step_then x k (constraints_verdict b (header_of b) (c - (k + 1)) (suc k) (after_at b o) later)) f ∙ ap₂
+        passed = λ later. open_one later ∙ a.answers _ ∙ ap (λ (x : Result ℕ Question). step_then x k (constraints_verdict b (header_of b) (c - (k + 1)) (suc k) (after_at b o) later)) f ∙ ap₂
             (λ (j q : ℕ). constraints_verdict b (header_of b) (c - (k + 1)) j q later) z (sym e);
       }
 
@@ -64,7 +65,7 @@ module _ (b : List ℕ) (c : ℕ) (numbers supports : List ℕ) (k o : ℕ) (num
       ap (λ (j : ℕ). constraints_verdict b (header_of b) j 0 (header_of b).second later) (sym e) ∙ t.passed later
       ∙ ap (λ (j : ℕ). constraints_verdict b (header_of b) j k o later) (let z : c - k ≡ 0 = omega arith in z)
 
-  pub constraints_short : (third : ℕ) → third ≡ (header_of b).third → (o ≡ third → ⊥) → ConstraintsAsked b numbers supports numbers' supports' (RefusedBy 9 c)
+  pub constraints_short : (third : ℕ) → third ≡ (header_of b).third → (o ≡ third → ⊥) → ConstraintsAsked b numbers supports numbers' supports' (Err (record { question = ConstraintEnd; item = c }))
   constraints_short third q h =
       record {
         answers = λ later. ended later ∙ ap (λ (s : Bool). ask s 9 k later) (ne_eqb o (header_of b).third (λ z. h (z ∙ sym q))) ∙ ap (refused 9) (let z : k ≡ c = omega arith in z);
@@ -72,7 +73,7 @@ module _ (b : List ℕ) (c : ℕ) (numbers supports : List ℕ) (k o : ℕ) (num
         supported = λ q. never (cc);
       }
 
-  pub constraints_end : (third : ℕ) → third ≡ (header_of b).third → o ≡ third → ConstraintsAsked b numbers supports numbers' supports' Accepted
+  pub constraints_end : (third : ℕ) → third ≡ (header_of b).third → o ≡ third → ConstraintsAsked b numbers supports numbers' supports' (Ok tt)
   constraints_end third q h =
       let z : k ≡ (header_of b).constraints = omega arith in
       record {

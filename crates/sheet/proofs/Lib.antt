@@ -1,4 +1,5 @@
 pub mod Asking
+pub mod Mapped
 pub mod SetsTurn
 pub mod Words
 pub mod RowTurn

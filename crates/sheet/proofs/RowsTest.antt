@@ -1,8 +1,10 @@
 -- What was asked of the rows one by one is what questions 12 and 13 ask of them together. Assumes nothing.
 use Rattle.model.specs.Kit.{◌≡◌, refl, sym, ap₂, ◌∙◌, subst, Bool, true, false, ◌⊎◌, inl, inr, List, map, ℕ, zero, suc, ◌+◌, ◌*◌, ◌≤◌, ◌<◌, arith, T, eqb, ltb, ltb→lt, lt→ltb, ltb-true, ltb-false}
 use Rattle.model.specs.Kit.{lt-ltb, eqb-true, eqb-false}
+use Rattle.std.specs.Prelude.{Ok, Err}
+use Rattle.model.specs.declared.refusals.Question.TheVariants.{RowOrder}
 use Rattle.model.specs.{Lists.all, Lists.below, Lists.earlier, Lists.rows_ascend, Lists.choose, Sheet.word, Sheet.words}
-use Rattle.model.proofs.{Lists.T_of, Lists.of_T, Lists.not_of, Accepted.length_words}
+use Rattle.model.proofs.{Lists.T_of, Lists.of_T, Lists.not_of, Lists.never, Accepted.length_words}
 use Rattle.sheet.specs.Inner.Fill.{row_key, row_fits, least_key, order}
 use Rattle.sheet.proofs.{Words.map_all_i, Words.map_all_e, Words.words_all_i, Words.words_all_e, Keys.Digits, Keys.key_earlier, Keys.key_words, Ascend.rows_i, Ascend.rows_e}
 
@@ -23,37 +25,38 @@ module _ (b : List ℕ) (from a d : ℕ) (d16 : d ≤ 16) where
       ∙ sym (ap₂ ltb (key_words b o a) (key_words b u a))
 
   -- question 13 was passed by each row in turn
-  order_e : (n : ℕ) → order b from a n ≡ 0 → (j : ℕ) → j < n → least_key b from a j ≤ row_key b from a j
+  order_e : (n : ℕ) → order b from a n ≡ Ok tt → (j : ℕ) → j < n → least_key b from a j ≤ row_key b from a j
   unfolding order
   order_e zero e j l = absurd (omega arith)
   order_e (suc n) e j l = go (order_e n) (ltb (row_key b from a n) (least_key b from a n)) refl e (eqb j n) refl
     where
-      go : (order b from a n ≡ 0 → (j : ℕ) → j < n → least_key b from a j ≤ row_key b from a j) → (t : Bool) → ltb (row_key b from a n) (least_key b from a n) ≡ t →
-          choose t 13 (order b from a n) ≡ 0 → (s : Bool) → eqb j n ≡ s → least_key b from a j ≤ row_key b from a j
-      go ih true u q s v = absurd (omega arith)
+      go : (order b from a n ≡ Ok tt → (j : ℕ) → j < n → least_key b from a j ≤ row_key b from a j) → (t : Bool) → ltb (row_key b from a n) (least_key b from a n) ≡ t →
+          choose t (Err RowOrder) (order b from a n) ≡ Ok tt → (s : Bool) → eqb j n ≡ s → least_key b from a j ≤ row_key b from a j
+      go ih true u q s v = never (cc)
       go ih false u q true v = subst (λ (k : ℕ). least_key b from a k ≤ row_key b from a k) (sym (eqb-true j n v)) (ltb-false (row_key b from a n) (least_key b from a n) u)
       go ih false u q false v = let w : j ≡ n → ⊥ = eqb-false j n v in ih q j (omega arith)
 
-  order_i : (n : ℕ) → ((j : ℕ) → j < n → least_key b from a j ≤ row_key b from a j) → order b from a n ≡ 0
+  order_i : (n : ℕ) → ((j : ℕ) → j < n → least_key b from a j ≤ row_key b from a j) → order b from a n ≡ Ok tt
   unfolding order
   order_i zero h = refl
   order_i (suc n) h = go (order_i n (λ j l. h j (omega arith))) (ltb (row_key b from a n) (least_key b from a n)) refl
     where
-      go : order b from a n ≡ 0 → (t : Bool) → ltb (row_key b from a n) (least_key b from a n) ≡ t → choose t 13 (order b from a n) ≡ 0
+      go : order b from a n ≡ Ok tt → (t : Bool) → ltb (row_key b from a n) (least_key b from a n) ≡ t → choose t (Err RowOrder) (order b from a n) ≡ Ok tt
       go ih true u = absurd (let w : row_key b from a n < least_key b from a n = ltb-true (row_key b from a n) (least_key b from a n) u in omega (arith, h n (omega arith)))
       go ih false u = ih
 
-  pub order_two : (n : ℕ) → (order b from a n ≡ 0) ⊎ (order b from a n ≡ 13)
+  pub order_two : (n : ℕ) → (order b from a n ≡ Ok tt) ⊎ (order b from a n ≡ Err RowOrder)
   unfolding order
   order_two zero = inl refl
   order_two (suc n) = go (order_two n) (ltb (row_key b from a n) (least_key b from a n))
     where
-      go : (order b from a n ≡ 0) ⊎ (order b from a n ≡ 13) → (t : Bool) → (choose t 13 (order b from a n) ≡ 0) ⊎ (choose t 13 (order b from a n) ≡ 13)
+      go : (order b from a n ≡ Ok tt) ⊎ (order b from a n ≡ Err RowOrder) → (t : Bool) →
+          (choose t (Err RowOrder) (order b from a n) ≡ Ok tt) ⊎ (choose t (Err RowOrder) (order b from a n) ≡ Err RowOrder)
       go ih true = inr refl
       go ih false = ih
 
   module _ (n : ℕ) (fits : (i : ℕ) → i < n → T (row_fits b from a d i)) where
-    rises : order b from a n ≡ 0 → (j : ℕ) → suc j < n → T (earlier (words b (from + 2 * (j * a)) a) (words b (from + 2 * (suc j * a)) a))
+    rises : order b from a n ≡ Ok tt → (j : ℕ) → suc j < n → T (earlier (words b (from + 2 * (j * a)) a) (words b (from + 2 * (suc j * a)) a))
     unfolding least_key
     rises e j l =
         T_of (earlier (words b (from + 2 * (j * a)) a) (words b (from + 2 * (suc j * a)) a))
@@ -68,12 +71,12 @@ module _ (b : List ℕ) (from a d : ℕ) (d16 : d ≤ 16) where
         ltb→lt (row_key b from a j) (row_key b from a (suc j)) (subst T (row_earlier j (suc j) (fits j (omega arith)) (fits (suc j) l)) (h j l)) in
         omega arith
 
-    pub rows_ascend_lem : order b from a n ≡ 0 → rows_ascend (map (λ i. words b (from + 2 * (i * a)) a) (below n)) ≡ true
+    pub rows_ascend_lem : order b from a n ≡ Ok tt → rows_ascend (map (λ i. words b (from + 2 * (i * a)) a) (below n)) ≡ true
     rows_ascend_lem e =
         of_T (rows_ascend (map (λ i. words b (from + 2 * (i * a)) a) (below n)))
         (rows_i (λ i. words b (from + 2 * (i * a)) a) n (rises e))
 
-    pub rows_fall : (order b from a n ≡ 0 → ⊥) → rows_ascend (map (λ i. words b (from + 2 * (i * a)) a) (below n)) ≡ false
+    pub rows_fall : (order b from a n ≡ Ok tt → ⊥) → rows_ascend (map (λ i. words b (from + 2 * (i * a)) a) (below n)) ≡ false
     rows_fall h =
         not_of (rows_ascend (map (λ i. words b (from + 2 * (i * a)) a) (below n)))
         (λ t. h (order_i n (least_of (rows_e (λ i. words b (from + 2 * (i * a)) a) n t))))

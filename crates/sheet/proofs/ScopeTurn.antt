@@ -51,12 +51,12 @@ module _ (b : List ℕ) (from a n k : ℕ) (old : List ℕ) (i : ℕ) (new : Lis
   unfolding least_at
   after j q = t.floor ∙ ap (least_at b from) (sym q)
 
-  pub scope_more : (next : List ℕ) → next ≡ touch k x new → least ≤ x → x < n → n ≤ 12 → ScopeTo b from a n k old (i + 1) next (pack + x * unit) (256 * unit) (x + 1)
+  pub scope_more : (next : List ℕ) → next ≡ touch k x new → least ≤ x → x < n → n ≤ 12 → ScopeTo b from a n k old (i + 1) next (pack + x * unit) (unit * 256) (x + 1)
   unfolding packed least_at touched
   scope_more next en l m f =
       let z : suc i ≡ i + 1 = omega arith in
       record {
-        power = (let p : 256 ^ suc (suc i) ≡ 256 ^ suc i * 256 = pow-suc 256 (suc i) in let q : 256 * unit ≡ 256 ^ suc (suc i) = omega (arith, t.power) in q ∙ ap (λ (j : ℕ). 256 ^ suc j) z);
+        power = (let p : 256 ^ suc (suc i) ≡ 256 ^ suc i * 256 = pow-suc 256 (suc i) in let q : unit * 256 ≡ 256 ^ suc (suc i) = omega (arith, t.power) in q ∙ ap (λ (j : ℕ). 256 ^ suc j) z);
         packs = ap₂ (λ (y : ℕ) (v : ℕ). y + v * unit) t.packs e ∙ ap (λ (u : ℕ). packed b from a i + word b (from + 2 * i) * u) t.power ∙ ap (packed b from a) z;
         small = omega (arith, t.small, part x unit (omega arith));
         floor = ap (λ (v : ℕ). v + 1) e ∙ ap (least_at b from) z;

@@ -5,7 +5,9 @@ use Rattle.model.specs.Sheet.{Header, word, header_of, sets_verdict}
 use Rattle.model.specs.{Lists.both, Lists.below, Lists.up_from, ValueSets.full_mask, Verdict.Verdict, Verdict.refused, Verdict.ask, Inner.Filling.Filled}
 use Rattle.model.proofs.{Masks.shl_one, Masks.shl_pos, Masks.full_op, Masks.full_all, Filling.filled_turn, Lists.never}
 use Rattle.arrays.specs.Inner.Places.{NUMBERS}
-use Rattle.sheet.specs.{Inner.Parts.ZeroSets, Inner.Parts.AllSets, Inner.Parts.SetsAsked, declared.Answer.TheVariants.Accepted, declared.Answer.TheVariants.Refused}
+use Rattle.std.specs.Prelude.{Ok, Err}
+use Rattle.model.specs.declared.refusals.Question.TheVariants.{InitialSet}
+use Rattle.sheet.specs.{Inner.Parts.ZeroSets, Inner.Parts.AllSets, Inner.Parts.SetsAsked}
 
 -- ---- the question
 -- the variables before x passed
@@ -61,7 +63,7 @@ unfolding sets_verdict up_from
 passed_all b h n x l p later = p later ∙ ap (λ (k : ℕ). sets_verdict b h (up_from x k) later) (let e : n - x ≡ 0 = omega arith in e)
 
 pub sets_refused : (b : List ℕ) (n x : ℕ) (old new : List ℕ) → n ≡ (header_of b).variables → ((later : Verdict) → sets_verdict b (header_of b) (below n) later ≡ refused 8 x) → SetsAsked b n old new
-    (Refused 8 x)
+    (Err (record { question = InitialSet; item = x }))
 sets_refused b n x old new e p =
     record {
       answers = subst (λ (m : ℕ). (later : Verdict) → sets_verdict b (header_of b) (below m) later ≡ refused 8 x) e p;
@@ -69,7 +71,7 @@ sets_refused b n x old new e p =
     }
 
 pub sets_accepted : (b : List ℕ) (n : ℕ) (old new : List ℕ) → n ≡ (header_of b).variables → ((later : Verdict) → sets_verdict b (header_of b) (below n) later ≡ later) → AllSets b n old new
-    → SetsAsked b n old new Accepted
+    → SetsAsked b n old new (Ok tt)
 sets_accepted b n old new e p f =
     record {
       answers = subst (λ (m : ℕ). (later : Verdict) → sets_verdict b (header_of b) (below m) later ≡ later) e p;

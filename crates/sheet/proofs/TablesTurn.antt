@@ -4,7 +4,10 @@ use Rattle.model.specs.Sheet.{header_of, words, table_at, problem_of, permutes_p
 use Rattle.model.specs.{Lists.up_from, Lists.below, Verdict.Verdict, Verdict.accepted, Verdict.refused, Verdict.ask, Problem.respects}
 use Rattle.arrays.specs.Inner.Layout.{Numbers}
 use Rattle.sheet_table.specs.Inner.Table.{TableAt, Asked, table_of, answer_of, table_answer}
-use Rattle.sheet.specs.{Meaning.means, Inner.Form.Formed, declared.Answer.TheVariants.Accepted, declared.Answer.TheVariants.Refused}
+use Rattle.std.specs.Prelude.{Result, Ok, Err}
+use Rattle.model.specs.{Refusals.number_of, declared.refusals.Question.Question, declared.refusals.Question.TheVariants.PairsPermuted, declared.refusals.Question.TheVariants.Respected}
+use Rattle.model.proofs.Lists.{never}
+use Rattle.sheet.specs.{Inner.Form.Formed}
 use Rattle.sheet.proofs.Stating.{form_passed}
 
 -- the offset of a table
@@ -41,15 +44,15 @@ pub table_is : (b : List ℕ) (e o : ℕ) → o ≡ table_offset b e → table_o
 unfolding problem_of table_at
 table_is b e o q = ap (λ (x : ℕ). words b x ((header_of b).variables * (header_of b).values)) q
 
-asked_both : (s t : Bool) (e k : ℕ) (later : Verdict) → k ≡ answer_of s t → k ≡ 0 → ask s 15 e (ask t 16 e later) ≡ later
-asked_both true true e k later q z = refl
-asked_both true false e k later q z = absurd (omega arith)
-asked_both false t e k later q z = absurd (omega arith)
+asked_both : (s t : Bool) (e : ℕ) (later : Verdict) → answer_of s t ≡ Ok tt → ask s 15 e (ask t 16 e later) ≡ later
+asked_both true true e later q = refl
+asked_both true false e later q = never (cc)
+asked_both false t e later q = never (cc)
 
-asked_no : (s t : Bool) (e k : ℕ) (later : Verdict) → k ≡ answer_of s t → (k ≡ 0 → ⊥) → ask s 15 e (ask t 16 e later) ≡ refused k e
-asked_no true true e k later q z = absurd (z q)
-asked_no true false e k later q z = ap (λ (x : ℕ). refused x e) (sym q)
-asked_no false t e k later q z = ap (λ (x : ℕ). refused x e) (sym q)
+asked_no : (s t : Bool) (e : ℕ) (asked : Question) (later : Verdict) → answer_of s t ≡ Err asked → ask s 15 e (ask t 16 e later) ≡ refused (number_of asked) e
+asked_no true true e asked later q = never (cc)
+asked_no true false e asked later q = ap (λ (x : Question). refused (number_of x) e) (let z : Respected ≡ asked = cc in z)
+asked_no false t e asked later q = ap (λ (x : Question). refused (number_of x) e) (let z : PairsPermuted ≡ asked = cc in z)
 
 -- what question 15 asks, and what both do
 pub table_framed : (b numbers : List ℕ) (e o : ℕ) → form_verdict b accepted ≡ accepted → Numbers (problem_of b) numbers → o ≡ table_offset b e → e < (header_of b).symmetries → TableAt
@@ -67,7 +70,7 @@ table_asked b numbers supports e o f t l =
     let r = table_framed b numbers e o f.passed f.numbered t.here l in
     record { ready = record { framed = r.framed; supported = f.supported }; whole = r.whole }
 
-module _ (b : List ℕ) (e o : ℕ) (t : TablesTo b e o) (l : e < (header_of b).symmetries) (k : ℕ) (q : k ≡ table_answer (problem_of b) b o) where
+module _ (b : List ℕ) (e o : ℕ) (t : TablesTo b e o) (l : e < (header_of b).symmetries) (k : Result Unit Question) (q : k ≡ table_answer (problem_of b) b o) where
   rest : (header_of b).symmetries - e ≡ suc ((header_of b).symmetries - (e + 1))
   rest = omega arith
 
@@ -79,10 +82,11 @@ module _ (b : List ℕ) (e o : ℕ) (t : TablesTo b e o) (l : e < (header_of b).
   answer_is : k ≡ answer_of (permutes_pairs (problem_of b) (table_at b (header_of b) e)) (respects (problem_of b) (table_at b (header_of b) e))
   answer_is = q ∙ ap (λ (x : List ℕ). answer_of (permutes_pairs (problem_of b) x) (respects (problem_of b) x)) (table_is b e o t.here)
 
-  pub tables_no : (k ≡ 0 → ⊥) → means (Refused k e) ≡ symmetries_verdict (problem_of b) 0 (problem_of b).symmetries
-  tables_no z = sym (open_one ∙ asked_no (permutes_pairs (problem_of b) (table_at b (header_of b) e)) (respects (problem_of b) (table_at b (header_of b) e)) e k _ answer_is z)
+  pub tables_no : (asked : Question) → k ≡ Err asked → refused (number_of asked) e ≡ symmetries_verdict (problem_of b) 0 (problem_of b).symmetries
+  tables_no asked z =
+      sym (open_one ∙ asked_no (permutes_pairs (problem_of b) (table_at b (header_of b) e)) (respects (problem_of b) (table_at b (header_of b) e)) e asked _ (sym answer_is ∙ z))
 
-  pub tables_more : (n d : ℕ) → n ≡ (header_of b).variables → d ≡ (header_of b).values → k ≡ 0 → TablesTo b (e + 1) (o + 2 * (n * d))
+  pub tables_more : (n d : ℕ) → n ≡ (header_of b).variables → d ≡ (header_of b).values → k ≡ Ok tt → TablesTo b (e + 1) (o + 2 * (n * d))
   tables_more n d en ed z =
       let nd = (header_of b).variables * (header_of b).values in
       let w : suc e * nd ≡ e * nd + nd = suc-mul e nd in
@@ -90,10 +94,10 @@ module _ (b : List ℕ) (e o : ℕ) (t : TablesTo b e o) (l : e < (header_of b).
       let u : n * d ≡ nd = ap₂ (λ (x y : ℕ). x * y) en ed in
       record {
         here = omega (arith, t.here);
-        passed = open_one ∙ asked_both (permutes_pairs (problem_of b) (table_at b (header_of b) e)) (respects (problem_of b) (table_at b (header_of b) e)) e k _ answer_is z
+        passed = open_one ∙ asked_both (permutes_pairs (problem_of b) (table_at b (header_of b) e)) (respects (problem_of b) (table_at b (header_of b) e)) e _ (sym answer_is ∙ z)
             ∙ ap (λ (x : ℕ). from b x ((header_of b).symmetries - (e + 1))) (sym (add-one e));
       }
 
-pub tables_end : (b : List ℕ) (e o : ℕ) → TablesTo b e o → (header_of b).symmetries ≤ e → means Accepted ≡ symmetries_verdict (problem_of b) 0 (problem_of b).symmetries
+pub tables_end : (b : List ℕ) (e o : ℕ) → TablesTo b e o → (header_of b).symmetries ≤ e → accepted ≡ symmetries_verdict (problem_of b) 0 (problem_of b).symmetries
 unfolding symmetries_verdict up_from
 tables_end b e o t l = sym (t.passed ∙ ap (from b e) (let z : (header_of b).symmetries - e ≡ 0 = omega arith in z))

@@ -7,28 +7,16 @@ ghost use Rattle.sheet.specs.Inner.Parts.{Fit};
 ghost use Rattle.reader.specs.Inner.Read.{stated};
 ghost use Rattle.sheet.specs.Inner.Steps.{ConstraintAsked, ConstraintsAsked};
 
-use crate::{Answer, rows};
+use crate::rows;
 use arrays::{Numbers, SCOPES, Supports};
+use model::refusals::{Question, Refusal};
 use reader::{Header, read_word};
-
-// The answer for one constraint: where the next stands, or the number of the first "no".
-#[derive(Clone, Copy)]
-pub enum Step {
-    Next(usize),
-    Refused(u8),
-}
 
 // Question 10: one to three variables, at most 256 rows.
 fn counts_fit(a: usize, r: usize) -> bool
     ensures { result ≡ both (both (leb 1 a) (leb a 3)) (leb r 256) }
 {
-    if a < 1 {
-        return false;
-    }
-    if 3 < a {
-        return false;
-    }
-    r <= 256
+    1 <= a && a <= 3 && r <= 256
 }
 
 // Constraint k into the set of those that touch a variable.
@@ -36,7 +24,7 @@ fn touch(k: usize, x: usize, numbers: &mut Numbers)
     requires { (k < 32) × (x < 16) }
     ensures { numbers.new ≡ touchAt k x numbers.old }
 {
-    numbers[x] = numbers[x] | (1u64 << k);
+    numbers[x] |= 1u64 << k;
 }
 
 // Question 11 to the scope of a variables at an offset: below n, strictly ascending.
@@ -47,8 +35,7 @@ fn scope(sheet: &[u8], from: usize, a: usize, n: usize, k: usize, numbers: &mut 
     let mut packed = a;
     let mut unit = 256;
     let mut least = 0;
-    let mut i = 0;
-    while i < a {
+    for i in 0..a {
         let x = read_word(sheet, from + 2 * i);
         if x < least {
             return false;
@@ -57,16 +44,15 @@ fn scope(sheet: &[u8], from: usize, a: usize, n: usize, k: usize, numbers: &mut 
             return false;
         }
         touch(k, x, numbers);
-        packed = packed + x * unit;
-        unit = 256 * unit;
+        packed += x * unit;
+        unit *= 256;
         least = x + 1;
-        i += 1;
     }
     numbers[SCOPES + k] = packed as u64;
     true
 }
 
-// Questions 9 to 13 to constraint k at an offset.
+// Questions 9 to 13 to constraint k at an offset, and where the next stands.
 fn constraint(
     sheet: &[u8],
     n: usize,
@@ -76,44 +62,45 @@ fn constraint(
     k: usize,
     numbers: &mut Numbers,
     supports: &mut Supports,
-) -> Step
+) -> Result<usize, Question>
     requires { Fit sheet.now × (n ≡ (header_of sheet.now).variables) × (d ≡ (header_of sheet.now).values) × (third ≡ (header_of sheet.now).third) ×
         (o ≤ third) × (k < 32) }
     ensures { ConstraintAsked sheet.now o k numbers.old supports.old numbers.new supports.new result }
 {
     if third < o + 4 {
-        return Step::Refused(9);
+        return Err(Question::ConstraintEnd);
     }
     let a = read_word(sheet, o);
     let r = read_word(sheet, o + 2);
     if !counts_fit(a, r) {
-        return Step::Refused(10);
+        return Err(Question::ConstraintSize);
     }
     let from = o + 4 + 2 * a;
     let next = from + 2 * (r * a);
     if third < next {
-        return Step::Refused(9);
+        return Err(Question::ConstraintEnd);
     }
     if !scope(sheet, o + 4, a, n, k, numbers) {
-        return Step::Refused(11);
+        return Err(Question::Scope);
     }
-    let refused = rows::ask(sheet, from, a, r, d, 256 * k, supports);
-    if refused != 0 {
-        return Step::Refused(refused);
-    }
-    Step::Next(next)
+    rows::ask(sheet, from, a, r, d, 256 * k, supports)?;
+    Ok(next)
 }
 
 // Questions 9 to 13 to each constraint in turn; after the last, whether it ends at the third offset.
-pub fn ask(sheet: &[u8], h: Header, numbers: &mut Numbers, supports: &mut Supports) -> Answer
+pub fn ask(
+    sheet: &[u8],
+    h: Header,
+    numbers: &mut Numbers,
+    supports: &mut Supports,
+) -> Result<(), Refusal>
     requires { Fit sheet.now × (stated h ≡ header_of sheet.now) }
     ensures { ConstraintsAsked sheet.now numbers.old supports.old numbers.new supports.new result }
 {
     let c = h.constraints;
     let mut o = h.second;
-    let mut k = 0;
-    while k < c {
-        let step = constraint(
+    for k in 0..c {
+        o = constraint(
             sheet,
             h.variables,
             h.values,
@@ -122,19 +109,14 @@ pub fn ask(sheet: &[u8], h: Header, numbers: &mut Numbers, supports: &mut Suppor
             k,
             numbers,
             supports,
-        );
-        match step {
-            Step::Refused(number) => {
-                return Answer::Refused { number, item: k };
-            }
-            Step::Next(next) => {
-                o = next;
-                k += 1;
-            }
-        }
+        )
+        .map_err(move |question| Refusal { question, item: k })?;
     }
     if o != h.third {
-        return Answer::Refused { number: 9, item: c };
+        return Err(Refusal {
+            question: Question::ConstraintEnd,
+            item: c,
+        });
     }
-    Answer::Accepted
+    Ok(())
 }

@@ -5,16 +5,10 @@ ghost use Rattle.arrays.specs.Inner.Places.{SUPPORTS, NUMBERS};
 ghost use Rattle.reader.specs.Inner.Read.{stated};
 ghost use Rattle.sheet.specs.Inner.Form.{Zeros, counted, FormAsked, FormRead};
 
-use crate::{Answer, constraints, heading, sets};
+use crate::{constraints, heading, sets};
 use arrays::{CONSTRAINTS, Numbers, SYMMETRIES, Supports, VALUES, VARIABLES};
+use model::refusals::{Question, Refusal};
 use reader::{Header, read_header};
-
-// The answer to questions 1 to 14: the header as read, or the first "no".
-#[derive(Clone, Copy)]
-pub enum Form {
-    Passed(Header),
-    Refused { number: u8, item: usize },
-}
 
 // Question 14: the symmetries' tables fill the rest.
 fn tables_fit(h: Header) -> bool
@@ -34,44 +28,34 @@ fn store_counts(h: Header, numbers: &mut Numbers)
 }
 
 // Questions 2 to 14 to a sheet that passed question 1. The arrays are lent full of zeros.
-fn ask(sheet: &[u8], h: Header, numbers: &mut Numbers, supports: &mut Supports) -> Answer
+fn ask(
+    sheet: &[u8],
+    h: Header,
+    numbers: &mut Numbers,
+    supports: &mut Supports,
+) -> Result<(), Refusal>
     requires { (16 ≤ length sheet.now) × (stated h ≡ header_of sheet.now) × Zeros NUMBERS numbers.old × Zeros SUPPORTS supports.old }
     ensures { FormAsked sheet.now numbers.new supports.new result }
 {
-    let first = heading::ask(h, sheet.len());
-    let Answer::Accepted = first else {
-        return first;
-    };
-    let second = sets::ask(sheet, h.variables, h.values, numbers);
-    let Answer::Accepted = second else {
-        return second;
-    };
-    let third = constraints::ask(sheet, h, numbers, supports);
-    let Answer::Accepted = third else {
-        return third;
-    };
+    heading::ask(h, sheet.len())?;
+    sets::ask(sheet, h.variables, h.values, numbers)?;
+    constraints::ask(sheet, h, numbers, supports)?;
     if !tables_fit(h) {
-        return Answer::Refused {
-            number: 14,
-            item: 0,
-        };
+        return Err(Question::TableLength.into());
     }
     store_counts(h, numbers);
-    Answer::Accepted
+    Ok(())
 }
 
 // Question 1, the one reading of the header, and the other questions with it.
-pub fn read(sheet: &[u8], numbers: &mut Numbers, supports: &mut Supports) -> Form
+pub fn read(sheet: &[u8], numbers: &mut Numbers, supports: &mut Supports) -> Result<Header, Refusal>
     requires { Zeros NUMBERS numbers.old × Zeros SUPPORTS supports.old }
     ensures { FormRead sheet.now numbers.new supports.new result }
 {
     if sheet.len() < 16 {
-        return Form::Refused { number: 1, item: 0 };
+        return Err(Question::Header.into());
     }
     let h = read_header(sheet);
-    let answer = ask(sheet, h, numbers, supports);
-    match answer {
-        Answer::Accepted => Form::Passed(h),
-        Answer::Refused { number, item } => Form::Refused { number, item },
-    }
+    ask(sheet, h, numbers, supports)?;
+    Ok(h)
 }

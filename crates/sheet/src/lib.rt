@@ -14,26 +14,16 @@ mod sets; // question 8
 mod tables; // questions 15 and 16, and the images
 
 use arrays::{Images, NUMBERS, Numbers, SUPPORTS, Supports};
-use form::Form;
+use model::refusals::Refusal;
 
-// The first "no", with its number and item, or that there is none.
-#[derive(Clone, Copy)]
-pub enum Answer {
-    Accepted,
-    Refused { number: u8, item: usize },
-}
-
-// All questions, in their order, to any bytes.
-pub fn question(sheet: &[u8]) -> Answer
+// All questions, in their order, to any bytes: refused by the first whose answer is no.
+pub fn question(sheet: &[u8]) -> Result<(), Refusal>
     ensures { CallQuestion sheet.now result }
 {
     let mut numbers = [0u64; NUMBERS];
     let mut supports = [0u16; SUPPORTS];
-    let form = form::read(sheet, &mut numbers, &mut supports);
-    match form {
-        Form::Refused { number, item } => Answer::Refused { number, item },
-        Form::Passed(h) => tables::ask(sheet, h, &numbers, &supports),
-    }
+    let h = form::read(sheet, &mut numbers, &mut supports)?;
+    tables::ask(sheet, h, &numbers, &supports)
 }
 
 // The same, and for an accepted sheet the arrays of the compiled problem (crate arrays).
@@ -43,22 +33,14 @@ pub fn compile(
     numbers: &mut Numbers,
     supports: &mut Supports,
     images: &mut Images,
-) -> Answer
+) -> Result<(), Refusal>
     requires { Zeros NUMBERS numbers.old × Zeros SUPPORTS supports.old × (length images.old ≡ IMAGES) }
     ensures { Compilation sheet.now numbers.new supports.new images.new result }
 {
-    let form = form::read(sheet, numbers, supports);
-    match form {
-        Form::Refused { number, item } => Answer::Refused { number, item },
-        Form::Passed(h) => {
-            let answer = tables::ask(sheet, h, numbers, supports);
-            let Answer::Accepted = answer else {
-                return answer;
-            };
-            tables::decode_all(sheet, h, numbers, true, images);
-            Answer::Accepted
-        }
-    }
+    let h = form::read(sheet, numbers, supports)?;
+    tables::ask(sheet, h, numbers, supports)?;
+    tables::decode_all(sheet, h, numbers, true, images);
+    Ok(())
 }
 
 // The same without question 16: the arrays of the compiled problem of bytes that pass questions 1 to 15, and whether they do.
@@ -71,9 +53,8 @@ pub fn recompile(
     requires { Zeros NUMBERS numbers.old × Zeros SUPPORTS supports.old × (length images.old ≡ IMAGES) }
     ensures { Recompilation sheet.now numbers.new supports.new images.new result }
 {
-    let form = form::read(sheet, numbers, supports);
-    match form {
-        Form::Refused { number: _, item: _ } => false,
-        Form::Passed(h) => tables::decode_all(sheet, h, numbers, false, images),
+    match form::read(sheet, numbers, supports) {
+        Ok(h) => tables::decode_all(sheet, h, numbers, false, images),
+        Err(_) => false,
     }
 }

@@ -3,9 +3,11 @@ use Rattle.model.specs.Kit.{◌≡◌, refl, sym, ap, ap₂, ◌∙◌, subst, B
 use Rattle.model.specs.Kit.{ℕ, suc, ◌+◌, ◌-◌, ◌*◌, ◌≤◌, ◌<◌, not-suc-le-zero, le_of_suc-le-suc, arith, T, not_T, T_not, length, drop}
 use Rattle.model.specs.{Lists.all, Lists.any, Lists.at, Lists.same, Lists.both, Lists.either, ValueSets.has, ValueSets.mask_of, ValueSets.common_mask, ValueSets.without_mask, ValueSets.members}
 use Rattle.model.specs.{ValueSets.lowest_of, Problem.Problem, Problem.constraint_at, Inner.WellFormed.Stated, Inner.WellFormed.GoodConstraint}
+use Rattle.std.specs.Prelude.{Some}
+use Rattle.model.specs.EachMember.{NextMember}
 use lib.Seq.{drop-cons, drop-length}
 use Rattle.model.proofs.Lists.{TExt, of_T, T_of, not_of, both_i, both_l, both_r, all_e, all_i, mem_at, either_l, TDec, length_snoc}
-use Rattle.model.proofs.{Sets.has_mask, Sets.mask_lt, Sets.mask_e, Sets.members_i, Sets.members_e, Lowest.lowest_in, Lowest.without_e, Lowest.without_less}
+use Rattle.model.proofs.{Sets.has_mask, Sets.mask_lt, Sets.mask_e, Sets.members_i, Sets.members_e, Lowest.lowest_in, Lowest.without_e, Lowest.next_comes}
 use Rattle.arrays.specs.Inner.Places.{SUPPORTS}
 use Rattle.sheet_table.specs.{Inner.Table.Ready, Inner.Forbidden.blocked, Inner.Forbidden.number_of, Inner.Forbidden.PairCode}
 use Rattle.sheet_table.specs.Inner.Forbidden.{MaybePair, Coded, Begun, codes_at, keeps, last_three, Lent, Chosen, Walking, Choices, Triple, Beside, all_blocked}
@@ -231,25 +233,24 @@ module _ (p : Problem) (vs codes numbers supports : List ℕ) (k ahead key x : �
     made_last s new i q m = subst (Choices p vs codes k ahead) (sym (q ∙ ap₂ common_mask initial_is i)) (choices_last p vs codes numbers supports k ahead key r c n m)
 
 -- ---- one turn of the walk's loop
-pub choices_over : (p : Problem) (vs codes : List ℕ) (k ahead set : ℕ) → Choices p vs codes k ahead set → set ≡ 0 → true ≡ keeps p codes (constraint_at p k)
+pub choices_over : {p : Problem} {vs codes : List ℕ} {k ahead set : ℕ} → Choices p vs codes k ahead set → set ≡ 0 → true ≡ keeps p codes (constraint_at p k)
     (drop (length vs) (constraint_at p k).scope) vs
-choices_over p vs codes k ahead set c z = all_over _ set _ c.whole z
+choices_over {set = set} c z = all_over _ set _ c.whole z
 
--- as the code takes it: the variable x is next, v is the lowest of the values left, `new` the set without it
+-- as the code takes it: the variable x is next, v comes, and `new` is left
 module _ (p : Problem) (vs numbers supports codes moves : List ℕ) (k ahead key a b e : ℕ) (s : Walking p vs numbers supports codes moves k ahead key a b e) (n : ahead ≡ 0 → ⊥) where
   pub next_place : (i : ℕ) → i ≡ length (constraint_at p k).scope → (ahead ≤ i) × (i - ahead ≡ length vs) × (i - ahead < length (constraint_at p k).scope)
   next_place i h = (omega (arith, s.chosen.split), omega (arith, s.chosen.split), omega (arith, s.chosen.split))
 
-  module _ (x set : ℕ) (ex : x ≡ at (constraint_at p k).scope (length vs)) (c : Choices p vs codes k ahead set) (m : set ≡ 0 → ⊥) (v new : ℕ) (ev : v ≡ lowest_of set)
-      (en : new ≡ without_mask set v) where
+  module _ {x set : ℕ} (ex : x ≡ at (constraint_at p k).scope (length vs)) (c : Choices p vs codes k ahead set) {v new : ℕ} (step : NextMember set (Some v) new) where
+    come : (set ≡ 0 → ⊥) × (v ≡ lowest_of set) × (new ≡ without_mask set (lowest_of set))
+    come = next_comes step
+
     low_in : T (has set v)
-    low_in = subst (λ (u : ℕ). T (has set u)) (sym ev) (lowest_in set c.small m)
+    low_in = subst (λ (u : ℕ). T (has set u)) (sym come.1) (lowest_in set c.small come.0)
 
     low_small : v < 16
     low_small = init_16 p s.lent.ready.framed.stated _ v (next_var p vs numbers supports codes moves k ahead key a b e s n) (c.allowed _ low_in)
-
-    pub next_less : new < set
-    next_less = subst (λ (w : ℕ). w < set) (sym en) (without_less set v c.small low_in)
 
     pub next_spot : 16 * x + v < 256
     next_spot = omega (arith, ex, next_var p vs numbers supports codes moves k ahead key a b e s n, low_small, s.lent.ready.framed.stated.few)
@@ -262,21 +263,21 @@ module _ (p : Problem) (vs numbers supports codes moves : List ℕ) (k ahead key
         subst (Walking p (vs ++ (v ∷ [])) numbers supports codes moves k (ahead - 1) (16 * key + v) b e) (sym (h ∙ ap (λ (y : ℕ). at codes (16 * y + v)) ex))
         (further p vs numbers supports codes moves k ahead key a b e s n v (c.allowed _ low_in) (c.absent _ low_in))
 
-    module _ (r : Bool) (h : r ≡ keeps p codes (constraint_at p k) (drop (length (vs ++ (v ∷ []))) (constraint_at p k).scope) (vs ++ (v ∷ []))) where
+    module _ {r : Bool} (h : r ≡ keeps p codes (constraint_at p k) (drop (length (vs ++ (v ∷ []))) (constraint_at p k).scope) (vs ++ (v ∷ []))) where
       answer : keeps p codes (constraint_at p k) (drop (suc (length vs)) (constraint_at p k).scope) (vs ++ (lowest_of set ∷ [])) ≡ r
-      answer = sym (h ∙ ap₂ (λ (i u : ℕ). keeps p codes (constraint_at p k) (drop i (constraint_at p k).scope) (vs ++ (u ∷ []))) (length_snoc vs v) ev)
+      answer = sym (h ∙ ap₂ (λ (i u : ℕ). keeps p codes (constraint_at p k) (drop i (constraint_at p k).scope) (vs ++ (u ∷ []))) (length_snoc vs v) come.1)
 
       pub walk_stop : r ≡ false → false ≡ keeps p codes (constraint_at p k) (drop (length vs) (constraint_at p k).scope) vs
-      walk_stop f = all_stop _ set _ c.whole c.small m (answer ∙ f)
+      walk_stop f = all_stop _ set _ c.whole c.small come.0 (answer ∙ f)
 
       pub walk_rest : r ≡ true → Choices p vs codes k ahead new
       walk_rest f =
-          subst (Choices p vs codes k ahead) (sym (en ∙ ap (without_mask set) ev))
+          subst (Choices p vs codes k ahead) (sym come.2)
           (record {
             small = mask_lt 16 _;
             allowed = λ u t. c.allowed u (without_e set (lowest_of set) u t).0;
             absent = λ u t. c.absent u (without_e set (lowest_of set) u t).0;
-            whole = all_rest _ set _ c.whole c.small m (answer ∙ f);
+            whole = all_rest _ set _ c.whole c.small come.0 (answer ∙ f);
           })
 
 -- at the last variable: the two codes last chosen beside the images of its pairs

@@ -1,5 +1,5 @@
 -- Rows of a constraint on the images that come from rows: for the values of all three variables at once. Assumes nothing.
-use Rattle.model.specs.Kit.{◌≡◌, refl, sym, ap, ap₂, ◌∙◌, subst, true, List, [], ◌∷◌, ◌⊎◌, inl, inr, ⊎_elim, ℕ, ◌+◌, ◌*◌, ◌/◌, ◌%◌, ◌<◌, arith, bit_and, T, eqb, length, drop}
+use Rattle.model.specs.Kit.{◌≡◌, refl, sym, ap, ap₂, ◌∙◌, subst, true, List, [], ◌∷◌, inl, inr, ⊎_elim, ℕ, ◌+◌, ◌*◌, ◌/◌, ◌%◌, ◌<◌, arith, bit_and, T, eqb, length, drop}
 use Rattle.model.specs.{Lists.any, Lists.at, Lists.both, ValueSets.has, ValueSets.members, ValueSets.common_mask, Problem.Problem, Problem.constraint_at, Inner.WellFormed.Stated}
 use Rattle.model.proofs.{Lists.TDec, Lists.T_of, Lists.of_T, Lists.all_i, Lists.both_i, Lists.mem_at, Lists.among_e, Sets.mask_i, Sets.members_e}
 use Rattle.sheet_table.specs.{Inner.Table.Ready, Inner.Forbidden.On, Inner.Forbidden.Across, Inner.Forbidden.Three, Inner.Forbidden.Walking}

@@ -22,10 +22,7 @@ fn all_from(moves: &[u8; 256], z: usize, set: ValueSet, rows: ValueSet) -> bool
     requires { (z < 16) × (set.bits < 2 ^ 16) × ((i : ℕ) → at moves.now i < 16) }
     ensures { result ≡ true → (u : ℕ) → T (has set.bits u) → T (has rows.bits (at moves.now (16 * z + u))) }
 {
-    let mut rest = set;
-    while !rest.is_empty() {
-        let u = rest.lowest();
-        rest = rest.without_lowest();
+    for u in set.members() {
         if !rows.contains(place(moves, 16 * z + u as usize) as u16) {
             return false;
         }
@@ -49,10 +46,8 @@ fn from_rows(
         → FromRows p supports.now moves.now from a (16 * y + v) z }
 {
     let last = initial(numbers, z);
-    let mut rest = initial(numbers, y);
-    while !rest.is_empty() {
-        let e = 16 * y + rest.lowest() as usize;
-        rest = rest.without_lowest();
+    for v in initial(numbers, y).members() {
+        let e = 16 * y + v as usize;
         let free = last.common(complement(refusing(supports, m, a, e, z)));
         if !all_from(moves, z, free, support(supports, from + place(moves, e))) {
             return false;
@@ -78,10 +73,8 @@ fn sets_from(
         (has (at p.initial y) v) → SetFrom p supports.now moves.now from (base + step * v) (16 * y + v) z }
 {
     let last = initial(numbers, z);
-    let mut rest = initial(numbers, y);
-    while !rest.is_empty() {
-        let v = rest.lowest() as usize;
-        rest = rest.without_lowest();
+    for v in initial(numbers, y).members() {
+        let v = v as usize;
         let free = last.common(support(supports, base + step * v));
         let rows = support(supports, from + place(moves, 16 * y + v));
         if !all_from(moves, z, free, rows) {

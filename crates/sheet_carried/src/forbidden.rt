@@ -76,14 +76,12 @@ fn refused(numbers: &Numbers, supports: &Supports, k: usize, a: usize, b: usize,
 {
     let count = arity(numbers, k);
     let mut key = 0usize;
-    let mut i = 0;
-    while i < count {
+    for i in 0..count {
         let v = value_in(a, b, e, scope_at(numbers, k, i));
         if 16 <= v {
             return false;
         }
         key = 16 * key + v;
-        i += 1;
     }
     !support(supports, 256 * k + key / 16).contains((key % 16) as u16)
 }
@@ -107,7 +105,7 @@ fn any_refuses(
         if refused(numbers, supports, k, a, b, e) {
             return true;
         }
-        pending = pending & (pending - 1);
+        pending &= pending - 1;
     }
     false
 }

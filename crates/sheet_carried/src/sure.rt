@@ -16,12 +16,10 @@ fn lacking(supports: &Supports, base: usize, step: usize, w: u16) -> ValueSet
     ensures { Lacking supports.now base step w 16 result.bits }
 {
     let mut set = ValueSet::EMPTY;
-    let mut v = 0;
-    while v < 16 {
+    for v in 0..16 {
         if !support(supports, base + step * v).contains(w) {
             set = set.union(ValueSet::full(16).only(v as u16));
         }
-        v += 1;
     }
     set
 }

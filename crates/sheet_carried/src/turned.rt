@@ -24,10 +24,7 @@ fn firsts_from(
     requires { (x < 16) × (set.bits < 2 ^ 16) × (w < 16) × (from + 240 < SUPPORTS) × Small moves.now }
     ensures { result ≡ true → Firsts supports.now moves.now from x set.bits w }
 {
-    let mut rest = set;
-    while !rest.is_empty() {
-        let t = rest.lowest();
-        rest = rest.without_lowest();
+    for t in set.members() {
         let v = place(moves, 16 * x + t as usize);
         if !support(supports, from + 16 * v).contains(w as u16) {
             return false;
@@ -51,10 +48,8 @@ fn thirds_from(
     ensures { result ≡ true → Thirds numbers.now supports.now moves.now from base step x z }
 {
     let first = initial(numbers, x);
-    let mut rest = initial(numbers, z);
-    while !rest.is_empty() {
-        let u = rest.lowest() as usize;
-        rest = rest.without_lowest();
+    for u in initial(numbers, z).members() {
+        let u = u as usize;
         let set = first.common(support(supports, base + step * u));
         if !firsts_from(supports, moves, from, x, set, place(moves, 16 * z + u)) {
             return false;
@@ -79,10 +74,8 @@ fn seconds_from(
     requires { ((p : Problem) × Two p numbers.now x z × (y < p.variables)) × (k < 32) × (base + 15 * step + 15 * third < SUPPORTS) × Small moves.now }
     ensures { result ≡ true → Seconds numbers.now supports.now moves.now k base step third x y z }
 {
-    let mut rest = initial(numbers, y);
-    while !rest.is_empty() {
-        let v = rest.lowest() as usize;
-        rest = rest.without_lowest();
+    for v in initial(numbers, y).members() {
+        let v = v as usize;
         let from = 256 * k + place(moves, 16 * y + v);
         if !thirds_from(numbers, supports, moves, from, base + step * v, third, x, z) {
             return false;

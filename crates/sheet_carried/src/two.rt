@@ -59,10 +59,7 @@ pub fn pairs_blocked(
     ensures { (p : Problem) → Beside p numbers.now supports.now codes.now x set.bits 255 b → result ≡ all_blocked p
         codes.now x 255 b (members set.bits) }
 {
-    let mut rest = set;
-    while !rest.is_empty() {
-        let v = rest.lowest();
-        rest = rest.without_lowest();
+    for v in set.members() {
         if !pair_blocked(numbers, supports, b, place(codes, 16 * x + v as usize)) {
             return false;
         }

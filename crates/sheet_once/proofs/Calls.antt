@@ -4,48 +4,51 @@ use Rattle.model.specs.{Verdict.Verdict, Verdict.accepted, Verdict.refused, Verd
 use lib.Seq.{take-append_seam, drop-append_seam}
 use Rattle.model.proofs.Lists.{never}
 use Rattle.sheet_small.specs.Answers.{means, sheet_at, position_verdict, small_outcome, small_room}
-use Rattle.sheet_small.specs.{Small.small_sheets, Calls.CallSmall, declared.Answer.Answer, declared.Answer.TheVariants.Written, declared.Answer.TheVariants.Refused}
+use Rattle.std.specs.Prelude.{Result, Ok, Err}
+use Rattle.model.specs.{Refusals.number_of, declared.refusals.Question.Question, declared.refusals.Question.TheVariants.Position, declared.refusals.Question.TheVariants.SheetRoom}
+use Rattle.model.proofs.Numbering.{number_of-injective}
+use Rattle.sheet_small.specs.{Small.small_sheets, Calls.CallSmall}
 use Rattle.sheet_once.specs.Held.{SmallHeld, IsSmall}
 use Rattle.sheet_once.specs.Inner.Claims.{Stands}
 use Rattle.sheet_once.proofs.{Figures.figures, Claims.each_once, Claims.nothing_else}
 
-is_written : (r : Answer) (k : ℕ) → means r ≡ wrote k → r ≡ Written k
-is_written (Written j) k e = cc
-is_written (Refused number item) k e = never (cc)
+is_written : (r : Result ℕ Question) (k : ℕ) → means r ≡ wrote k → r ≡ Ok k
+is_written (Ok j) k e = cc
+is_written (Err asked) k e = never (cc)
 
-is_refused : (r : Answer) (number item : ℕ) → means r ≡ refusal number item → r ≡ Refused number item
-is_refused (Written j) number item e = never (cc)
-is_refused (Refused n i) number item e = cc
+is_refused : (r : Result ℕ Question) (q : Question) → means r ≡ refusal (number_of q) 0 → r ≡ Err q
+is_refused (Ok j) q e = never (cc)
+is_refused (Err asked) q e = ap Err (number_of-injective asked q (cc))
 
 all_there : length small_sheets ≡ 544
 all_there = figures.whole
 
-module _ (k : ℕ) (room : List ℕ) (r : Answer) (after : List ℕ) (c : CallSmall k room r after) where
+module _ (k : ℕ) (room : List ℕ) (r : Result ℕ Question) (after : List ℕ) (c : CallSmall k room r after) where
   -- by the verdict
   so : (v : Verdict) → position_verdict k room ≡ v → (means r ≡ outcome_of v (sheet_at k)) × (after ≡ room_after v (sheet_at k) room)
   unfolding small_outcome small_room
   so v e = (c.0 ∙ ap (λ (u : Verdict). outcome_of u (sheet_at k)) e, c.1 ∙ ap (λ (u : Verdict). room_after u (sheet_at k) room) e)
 
-  past : 544 ≤ k → (r ≡ Refused 39 0) × (after ≡ room)
+  past : 544 ≤ k → (r ≡ Err Position) × (after ≡ room)
   unfolding position_verdict
   past h =
       let s = so (refused 39 0) (ap (λ (t : Bool). ask t 39 0 (ask (leb 52 (length room)) 40 0 accepted)) (le-ltb k (length small_sheets) (omega (arith, all_there)))) in
-      (is_refused r 39 0 s.0, s.1)
+      (is_refused r Position s.0, s.1)
 
   here : k < 544 → ltb k (length small_sheets) ≡ true
   here h = lt-ltb k (length small_sheets) (omega (arith, all_there))
 
-  short : k < 544 → length room < 52 → (r ≡ Refused 40 0) × (after ≡ room)
+  short : k < 544 → length room < 52 → (r ≡ Err SheetRoom) × (after ≡ room)
   unfolding position_verdict
   short h l =
       let s = so (refused 40 0) (ap₂ (λ (t u : Bool). ask t 39 0 (ask u 40 0 accepted)) (here h) (lt-leb 52 (length room) l)) in
-      (is_refused r 40 0 s.0, s.1)
+      (is_refused r SheetRoom s.0, s.1)
 
   placed : k < 544 → Stands (sheet_at k) k
   unfolding sheet_at
   placed h = (ltb-true k (length small_sheets) (here h), refl)
 
-  writes : k < 544 → 52 ≤ length room → (n : ℕ) × (r ≡ Written n) × IsSmall (take n after) × (drop n after ≡ drop n room)
+  writes : k < 544 → 52 ≤ length room → (n : ℕ) × (r ≡ Ok n) × IsSmall (take n after) × (drop n after ≡ drop n room)
   unfolding position_verdict
   writes h l =
       let t = sheet_at k in
@@ -61,7 +64,7 @@ unfolding sheet_at
 sheet_is k = refl
 
 -- a number of bytes: nothing was refused, and they are the sheet at the position
-module _ (k : ℕ) (room : List ℕ) (n : ℕ) (after : List ℕ) (c : CallSmall k room (Written n) after) where
+module _ (k : ℕ) (room : List ℕ) (n : ℕ) (after : List ℕ) (c : CallSmall k room (Ok n) after) where
   there : (k < 544) × (take n after ≡ sheet_at k)
   unfolding small_outcome small_room position_verdict
   there = go (ltb k (length small_sheets)) (leb 52 (length room)) refl c.0 c.1

@@ -1,11 +1,13 @@
 -- What is answered about a position, and what the lent room holds afterwards.
-use Rattle.std.specs.Prelude.{List, [], ℕ, ltb, leb, length, get_or}
+use Rattle.std.specs.Prelude.{List, [], ℕ, Result, Ok, Err, ltb, leb, length, get_or}
 use Rattle.model.specs.{Verdict.Verdict, Verdict.accepted, Verdict.ask, Room.Outcome, Room.wrote, Room.refusal, Room.outcome_of, Room.room_after}
-use Rattle.sheet_small.specs.{Small.small_sheets, declared.Answer.Answer, declared.Answer.TheVariants.Written, declared.Answer.TheVariants.Refused}
+use Rattle.model.specs.{Refusals.number_of, declared.refusals.Question.Question}
+use Rattle.sheet_small.specs.Small.{small_sheets}
 
-abbrev pub means : Answer → Outcome
-means (Written bytes) = wrote bytes
-means (Refused number item) = refusal number item
+-- the length that was written, or the question whose answer is no, which is asked once
+abbrev pub means : Result ℕ Question → Outcome
+means (Ok bytes) = wrote bytes
+means (Err asked) = refusal (number_of asked) 0
 
 -- the sheet at a position, from 0
 unfoldable pub sheet_at : ℕ → List ℕ

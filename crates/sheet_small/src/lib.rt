@@ -9,15 +9,10 @@ ghost use Rattle.sheet_small.specs.Calls.{CallSmall};
 ghost use Rattle.sheet_small.specs.Inner.Inner.{second_no, third_no, fourth_no, IsTable, with_rows, end_at, with_head, with_table, draft_bytes, moved_by};
 ghost use Rattle.sheet_small.specs.Inner.Inner.{candidate, Drafts, At};
 
+use model::refusals::Question;
+
 // The room that every small sheet fits.
 const SHEET_ROOM: usize = 52;
-
-#[derive(Clone, Copy)]
-pub enum Answer {
-    // The sheet's length.
-    Written { bytes: usize },
-    Refused { number: u8, item: usize },
-}
 
 // A sheet: the first bytes, as many as its size.
 #[derive(Clone, Copy)]
@@ -159,11 +154,7 @@ fn passes(n: usize) -> bool
     let d = numbered(n);
     let bytes = d.bytes;
     let size = d.size;
-    let answer = sheet::question(&bytes[..size]);
-    match answer {
-        sheet::Answer::Accepted => true,
-        sheet::Answer::Refused { number: _, item: _ } => false,
-    }
+    sheet::question(&bytes[..size]).is_ok()
 }
 
 // The sheet at position k; past the last its size is 0.
@@ -171,15 +162,13 @@ fn find(k: usize) -> Draft
     ensures { At k result }
 {
     let mut seen = 0;
-    let mut n = 0;
-    while n < 3600 {
+    for n in 0..3600 {
         if passes(n) {
             if seen == k {
                 return numbered(n);
             }
             seen += 1;
         }
-        n += 1;
     }
     Draft {
         bytes: [0u8; 52],
@@ -192,34 +181,22 @@ fn copy(sheet: &[u8], room: &mut [u8]) -> usize
     requires { length sheet.now ≤ length room.old }
     ensures { Fronted room.old sheet.now room.new result }
 {
-    let mut i = 0;
-    while i < sheet.len() {
-        room[i] = sheet[i];
-        i += 1;
-    }
-    i
+    room[..sheet.len()].copy_from_slice(sheet);
+    sheet.len()
 }
 
-// Writes the small sheet at position k, from 0, to the front of the room.
-pub fn small_sheet(k: usize, room: &mut [u8]) -> Answer
+// Writes the small sheet at position k, from 0, to the front of the room, and answers its length.
+pub fn small_sheet(k: usize, room: &mut [u8]) -> Result<usize, Question>
     ensures { CallSmall k room.old result room.new }
 {
     let d = find(k);
     let size = d.size;
     if size == 0 {
-        return Answer::Refused {
-            number: 39,
-            item: 0,
-        };
+        return Err(Question::Position);
     }
     if room.len() < SHEET_ROOM {
-        return Answer::Refused {
-            number: 40,
-            item: 0,
-        };
+        return Err(Question::SheetRoom);
     }
     let bytes = d.bytes;
-    Answer::Written {
-        bytes: copy(&bytes[..size], room),
-    }
+    Ok(copy(&bytes[..size], room))
 }

@@ -8,10 +8,16 @@ ghost use Rattle.model.specs.Problem.{Problem};
 ghost use Rattle.sheet_table.specs.Inner.Table.{Asked, table_answer};
 
 use arrays::{Numbers, Supports};
+use model::refusals::Question;
 use sheet_table::{moves, table};
 
-// 0 where the table at an offset passes both questions, else the number of the first whose answer is no.
-pub fn table_question(sheet: &[u8], offset: usize, numbers: &Numbers, supports: &Supports) -> u8
+// The first of both questions whose answer is no for the table at an offset, if there is one.
+pub fn table_question(
+    sheet: &[u8],
+    offset: usize,
+    numbers: &Numbers,
+    supports: &Supports,
+) -> Result<(), Question>
     requires { (p : Problem) × Asked p sheet.now offset numbers.now supports.now }
     ensures { (p : Problem) → Asked p sheet.now offset numbers.now supports.now → result ≡ table_answer p
         sheet.now offset }
@@ -19,14 +25,14 @@ pub fn table_question(sheet: &[u8], offset: usize, numbers: &Numbers, supports: 
     let mut codes = [0u8; 256];
     let mut moves = [0u8; 256];
     if !table::decode(sheet, offset, numbers, &mut codes, &mut moves) {
-        return 15;
+        return Err(Question::PairsPermuted);
     }
     moves::targets(numbers, &codes, &mut moves);
     if !walk::variables(numbers, supports, &codes, &moves) {
-        return 16;
+        return Err(Question::Respected);
     }
     if !walk::constraints(numbers, supports, &codes, &moves) {
-        return 16;
+        return Err(Question::Respected);
     }
-    0
+    Ok(())
 }

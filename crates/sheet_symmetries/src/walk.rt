@@ -71,12 +71,9 @@ fn all_blocked(
     if clash(a, b) {
         return true;
     }
-    let mut rest = set;
     let mut y = 16;
     let mut sure = ValueSet::EMPTY;
-    while !rest.is_empty() {
-        let v = rest.lowest();
-        rest = rest.without(v as u16);
+    for v in set.members() {
         let e = place(codes, 16 * x + v as usize);
         sure = surely_after(numbers, supports, a, b, e / 16, y, sure);
         y = e / 16;
@@ -108,16 +105,14 @@ fn walk(
         (drop (length vs) (constraint_at p k).scope) vs }
 {
     let x = scope_at(numbers, k, arity(numbers, k) - ahead);
-    let mut set = choices(numbers, supports, k, ahead, key, x);
+    let set = choices(numbers, supports, k, ahead, key, x);
     if ahead == 1 {
         return all_blocked(numbers, supports, codes, x, set, a, b);
     }
     if carried(numbers, supports, moves, k, ahead, key, b) {
         return true;
     }
-    while !set.is_empty() {
-        let v = set.lowest();
-        set = set.without(v as u16);
+    for v in set.members() {
         let row = 16 * key + v as usize;
         if !all_rows(numbers, supports, k, ahead - 1, row) {
             if !walk(
@@ -150,8 +145,7 @@ pub fn constraints(
         (λ c. keeps p codes.now c c.scope []) p.constraints }
 {
     let c = number(numbers, CONSTRAINTS);
-    let mut k = 0;
-    while k < c {
+    for k in 0..c {
         if !walk(
             numbers,
             supports,
@@ -165,7 +159,6 @@ pub fn constraints(
         ) {
             return false;
         }
-        k += 1;
     }
     true
 }
@@ -185,18 +178,10 @@ fn doubles(
     if place(moves, TO + x) != 15 {
         return true;
     }
-    let mut rest = initial(numbers, x);
-    while !rest.is_empty() {
-        let v = rest.lowest();
-        rest = rest.without(v as u16);
-        if !pairs_blocked(
-            numbers,
-            supports,
-            codes,
-            x,
-            rest,
-            place(codes, 16 * x + v as usize),
-        ) {
+    let mut values = initial(numbers, x).members();
+    while let Some(v) = values.next() {
+        let e = place(codes, 16 * x + v as usize);
+        if !pairs_blocked(numbers, supports, codes, x, values.left, e) {
             return false;
         }
     }
@@ -215,12 +200,10 @@ pub fn variables(
         (λ x. doublings p codes.now x (members (at p.initial x))) (below p.variables) }
 {
     let n = number(numbers, VARIABLES);
-    let mut x = 0;
-    while x < n {
+    for x in 0..n {
         if !doubles(numbers, supports, codes, moves, x) {
             return false;
         }
-        x += 1;
     }
     true
 }

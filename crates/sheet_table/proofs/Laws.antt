@@ -4,7 +4,9 @@ use Rattle.model.specs.Kit.{◌^◌, ◌≤◌, ◌<◌, add-one, arith, T, eqb,
 use Rattle.model.specs.Lists.{both, either, all, keep, flat, up_from, below, at}
 use Rattle.model.specs.{ValueSets.has, ValueSets.without_mask, ValueSets.members, ValueSets.lowest_of, Sheet.distinct}
 use lib.Seq.{drop-cons, drop-length}
-use Rattle.model.proofs.Lowest.{members_lowest, lowest_in, without_i, without_e, without_less}
+use Rattle.std.specs.Prelude.{None, Some}
+use Rattle.model.specs.EachMember.{NextMember}
+use Rattle.model.proofs.Lowest.{members_lowest, lowest_in, without_i, without_e, next_comes, next_over}
 use Rattle.model.proofs.{Lists.all_cons, Lists.at_mem, Counting.distinct_i, Sets.members_of_none, Sets.has_lt, Sets.mask_lt, Members.has_0}
 
 -- ---- tests
@@ -76,27 +78,28 @@ pub record Swept (P : ℕ → Type 0) (whole rest : ℕ) : Type 0 where
 pub swept_none : (P : ℕ → Type 0) (whole rest : ℕ) → rest ≡ whole → whole < 2 ^ 16 → Swept P whole rest
 swept_none P whole rest e h = subst (Swept P whole) (sym e) (record { small = h; among = λ u t. t; done = λ u t. inl t })
 
-pub swept_over : {P : ℕ → Type 0} (whole rest : ℕ) → Swept P whole rest → rest ≡ 0 → (u : ℕ) → T (has whole u) → P u
-swept_over whole rest s z u t = ⊎_elim (λ h. absurd (has_0 u (subst (λ (n : ℕ). T (has n u)) z h))) (λ h. h) (s.done u t)
+module _ {P : ℕ → Type 0} {whole rest : ℕ} (s : Swept P whole rest) where
+  -- none is left
+  pub swept_over : {end : ℕ} → NextMember rest None end → (u : ℕ) → T (has whole u) → P u
+  swept_over step u t = ⊎_elim (λ h. absurd (has_0 u (subst (λ (n : ℕ). T (has n u)) (next_over step) h))) (λ h. h) (s.done u t)
 
--- v is the lowest of those left
-module _ {P : ℕ → Type 0} (whole rest : ℕ) (s : Swept P whole rest) (n : rest ≡ 0 → ⊥) (v : ℕ) (ev : v ≡ lowest_of rest) where
-  low_left : T (has rest v)
-  low_left = subst (λ (u : ℕ). T (has rest u)) (sym ev) (lowest_in rest s.small n)
+  -- v comes, and `new` is left
+  module _ {v new : ℕ} (step : NextMember rest (Some v) new) where
+    come : (rest ≡ 0 → ⊥) × (v ≡ lowest_of rest) × (new ≡ without_mask rest (lowest_of rest))
+    come = next_comes step
 
-  pub swept_in : T (has whole v)
-  swept_in = s.among v low_left
+    low_left : T (has rest v)
+    low_left = subst (λ (u : ℕ). T (has rest u)) (sym come.1) (lowest_in rest s.small come.0)
 
-  pub swept_small : v < 16
-  swept_small = has_lt 16 rest v s.small low_left
+    pub swept_in : T (has whole v)
+    swept_in = s.among v low_left
 
-  module _ (new : ℕ) (en : new ≡ without_mask rest (lowest_of rest)) where
-    pub swept_less : new < rest
-    swept_less = subst (λ (m : ℕ). m < rest) (sym en) (without_less rest (lowest_of rest) s.small (lowest_in rest s.small n))
+    pub swept_small : v < 16
+    swept_small = has_lt 16 rest v s.small low_left
 
     pub swept_rest : P v → Swept P whole new
     swept_rest h =
-        subst (Swept P whole) (sym (en ∙ ap (without_mask rest) (sym ev)))
+        subst (Swept P whole) (sym (come.2 ∙ ap (without_mask rest) (sym come.1)))
         (record { small = mask_lt 16 _; among = λ u t. s.among u (without_e rest v u t).0; done = λ u t. ⊎_elim (λ l. go u l (eqb u v) refl) inr (s.done u t) })
       where
         go : (u : ℕ) → T (has rest u) → (b : Bool) → eqb u v ≡ b → T (has (without_mask rest v) u) ⊎ P u

@@ -25,11 +25,9 @@ fn goes_to(numbers: &Numbers, codes: &[u8; 256], x: usize) -> usize
     requires { (p : Problem) × Framed p numbers.now × (x < p.variables) }
     ensures { (result < 16) × ((p : Problem) → Framed p numbers.now → x < p.variables → Target p codes.now x result) }
 {
-    let mut rest = initial(numbers, x);
-    let y = place(codes, 16 * x + rest.lowest() as usize) / 16;
-    while !rest.is_empty() {
-        let v = rest.lowest();
-        rest = rest.without_lowest();
+    let values = initial(numbers, x);
+    let y = place(codes, 16 * x + values.lowest() as usize) / 16;
+    for v in values.members() {
         if place(codes, 16 * x + v as usize) / 16 != y {
             return 15;
         }
@@ -43,9 +41,7 @@ pub fn targets(numbers: &Numbers, codes: &[u8; 256], moves: &mut [u8; 256])
     ensures { Targets numbers.now codes.now moves.old moves.new }
 {
     let n = number(numbers, VARIABLES);
-    let mut x = 0;
-    while x < n {
+    for x in 0..n {
         moves[TO + x] = goes_to(numbers, codes, x) as u8;
-        x += 1;
     }
 }

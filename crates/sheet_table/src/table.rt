@@ -36,11 +36,7 @@ pub fn is_pair(numbers: &Numbers, q: usize) -> bool
 {
     let n = number(numbers, VARIABLES);
     let d = number(numbers, VALUES);
-    if q < n * d {
-        initial(numbers, q / d).contains((q % d) as u16)
-    } else {
-        false
-    }
+    q < n * d && initial(numbers, q / d).contains((q % d) as u16)
 }
 
 // Whether each number that is no pair stands for itself, and the pairs are permuted among themselves. If so, `codes` has the codes
@@ -58,8 +54,7 @@ pub fn decode(
     let d = number(numbers, VALUES);
     let count = number(numbers, VARIABLES) * d;
     let mut seen = [0u8; 192];
-    let mut q = 0;
-    while q < count {
+    for q in 0..count {
         let y = read_word(sheet, offset + 2 * q);
         if is_pair(numbers, q) {
             if !is_pair(numbers, y) {
@@ -72,12 +67,9 @@ pub fn decode(
             let e = pair_code(y, d);
             codes[pair_code(q, d)] = e as u8;
             moves[e] = (q % d) as u8;
-        } else {
-            if y != q {
-                return false;
-            }
+        } else if y != q {
+            return false;
         }
-        q += 1;
     }
     true
 }

@@ -1,10 +1,16 @@
 -- What the code's answers come to, case by case. Assumes nothing.
-use Rattle.model.specs.Kit.{◌≡◌, sym, ap, ap₂, ◌∙◌, Bool, List, ◌++◌, ℕ, ◌+◌, ◌-◌, ◌≤◌, ◌<◌, min, arith, leb, ltb, length, take, drop, length-drop, length-take-le, lt-ltb, le-ltb, le-leb, lt-leb}
+use Rattle.model.specs.Kit.{◌≡◌, refl, sym, ap, ap₂, ◌∙◌, subst, Bool, true, false, ℕ_discrete, dec_lt, eqb, eq-eqb, ne_eqb, List, ◌++◌, ℕ, ◌+◌, ◌-◌, ◌≤◌, ◌<◌, min, arith, leb, ltb, length, take}
+use Rattle.model.specs.Kit.{drop, length-drop, length-take-le, lt-ltb, le-ltb, le-leb, lt-leb}
 use Rattle.model.specs.{Lists.at, Verdict.Verdict, Verdict.accepted, Verdict.refused, Verdict.ask, Sheet.«word», Written.placed, Room.Outcome, Room.wrote, Room.refusal}
 use native.Mathlib.Nat.{zero-add}
 use Rattle.store.specs.Store.{StoreEntry, table, is_table, table_in, Action, put, fetch, remove, call, action_verdict, call_verdict, store_after, copied_out, room_in, reply_of, size}
 use Rattle.store.specs.Inner.Layout.{slot_at, table_at, slot_with, store_of, slot_for, changed, verdict_on, reply_on, bytes_after}
-use Rattle.store.proofs.{Slots.entry_there, Free.held_with, Free.room_left, Calls.after_accepted, Calls.after_refused, Calls.verdict_whole, Calls.means_after}
+use Rattle.std.proofs.Common.{Result, Ok, Err}
+use Rattle.model.specs.{Lists.choose, Refusals.number_of}
+use Rattle.model.specs.declared.{refusals.Question.Question}
+use Rattle.model.specs.declared.refusals.Question.TheVariants as question
+use Rattle.store.specs.{Meaning.means, Meaning.means_bytes, Inner.Layout.asked_first}
+use Rattle.store.proofs.{Slots.entry_there, Free.held_with, Free.room_left, Calls.after_accepted, Calls.after_refused, Calls.verdict_whole, Calls.verdict_wrong, Calls.means_after}
 
 -- ---- by the verdict
 module _ (b : List ℕ) (o key : ℕ) (a : Action) where
@@ -34,13 +40,48 @@ module _ (b : List ℕ) (o key : ℕ) (a : Action) where
   leaves_room e = (sym (ap (λ (v : Verdict). (reply_of v a (store_of b o key)).outcome) e), sym (ap (λ (v : Verdict). (reply_of v a (store_of b o key)).room) e))
 
   -- ---- the verdict
-  pub asks_31 : length b ≡ size → 4 ≤ o → verdict_on b (call o key a) ≡ refused 31 0
+  asks_31 : length b ≡ size → 4 ≤ o → verdict_on b (call o key a) ≡ refused 31 0
   unfolding call_verdict
   asks_31 e h = verdict_whole b (call o key a) e ∙ ap (λ (t : Bool). ask t 31 0 (action_verdict (store_of b o) key a)) (le-ltb o 4 h)
 
   pub asks_more : length b ≡ size → o < 4 → verdict_on b (call o key a) ≡ action_verdict (store_of b o) key a
   unfolding call_verdict
   asks_more e h = verdict_whole b (call o key a) e ∙ ap (λ (t : Bool). ask t 31 0 (action_verdict (store_of b o) key a)) (lt-ltb o 4 h)
+
+  -- ---- the questions put first
+  first_no : (by : Question) → Err by ≡ asked_first (length b) o → verdict_on b (call o key a) ≡ refused (number_of by) 0
+  first_no by h = go (ℕ_discrete (length b) size) (dec_lt o 4)
+    where
+      asks : (p q : Bool) → eqb (length b) size ≡ p → ltb o 4 ≡ q → Err by ≡ choose p (choose q (Ok (tt {0})) (Err question.Owner)) (Err question.BufferLength)
+      asks p q e f = h ∙ ap₂ (λ (t u : Bool). choose t (choose u (Ok (tt {0})) (Err question.Owner)) (Err question.BufferLength)) e f
+
+      go : Dec (length b ≡ size) → Dec (o < 4) → verdict_on b (call o key a) ≡ refused (number_of by) 0
+      go (no n) d =
+          let s : by ≡ question.BufferLength = (let q = asks false (ltb o 4) (ne_eqb (length b) size n) refl in cc) in
+          verdict_wrong b (call o key a) n ∙ ap (λ (q : Question). refused (number_of q) 0) (sym s)
+      go (yes z) (no n) =
+          let s : by ≡ question.Owner = (let q = asks true false (eq-eqb (length b) size z) (le-ltb o 4 (omega arith)) in cc) in
+          asks_31 z (omega arith) ∙ ap (λ (q : Question). refused (number_of q) 0) (sym s)
+      go (yes z) (yes l) = absurd (let q = asks true true (eq-eqb (length b) size z) (lt-ltb o 4 l) in cc)
+
+  pub first_yes : Ok tt ≡ asked_first (length b) o → (length b ≡ size) × (o < 4)
+  first_yes h = go (ℕ_discrete (length b) size) (dec_lt o 4)
+    where
+      asks : (p q : Bool) → eqb (length b) size ≡ p → ltb o 4 ≡ q → Ok tt ≡ choose p (choose q (Ok (tt {0})) (Err question.Owner)) (Err question.BufferLength)
+      asks p q e f = h ∙ ap₂ (λ (t u : Bool). choose t (choose u (Ok (tt {0})) (Err question.Owner)) (Err question.BufferLength)) e f
+
+      go : Dec (length b ≡ size) → Dec (o < 4) → (length b ≡ size) × (o < 4)
+      go (yes z) (yes l) = (z, l)
+      go (no n) d = absurd (let q = asks false (ltb o 4) (ne_eqb (length b) size n) refl in cc)
+      go (yes z) (no n) = absurd (let q = asks true false (eq-eqb (length b) size z) (le-ltb o 4 (omega arith)) in cc)
+
+  pub refuses_first : ((i : ℕ) → at b i < 256) → (r : Result Unit Question) (e by : Question) → r ≡ Err e → e ≡ by → Err by ≡ asked_first (length b) o → Answers (means r) b
+  refuses_first bytes r e by f g h =
+      subst (λ (x : Outcome). Answers x b) (sym (ap means f ∙ ap (λ (q : Question). refusal (number_of q) 0) g)) (refuses bytes (first_no by h))
+
+  pub leaves_first : (r : Result ℕ Question) (e by : Question) → r ≡ Err e → e ≡ by → Err by ≡ asked_first (length b) o → Leaves (means_bytes r) (room_in a)
+  leaves_first r e by f g h =
+      subst (λ (x : Outcome). Leaves x (room_in a)) (sym (ap means_bytes f ∙ ap (λ (q : Question). refusal (number_of q) 0) g)) (leaves_room (first_no by h))
 
 module _ (b : List ℕ) (o key : ℕ) (whole : length b ≡ size) (own : o < 4) where
   module _ (bytes : (i : ℕ) → at b i < 256) (t : List ℕ) where

@@ -5,18 +5,25 @@ use Rattle.model.proofs.Lists.{never}
 use Rattle.store.specs.Store.{StoreEntry, StoreCall, call, put, fetch, remove, StoreReply, reply_of}
 use Rattle.store.specs.Inner.Layout.{store_of, verdict_on, reply_on, changed, bytes_after}
 use Rattle.store.specs.Calls.{Got, own, Called, none, puts, fetches, removes, IsolatedCalls}
-use Rattle.store.specs.{Meaning.means, declared.Answer.Answer, declared.Answer.TheVariants.Done, declared.Answer.TheVariants.Refused, Inner.Claims.replies_on}
-use Rattle.store.proofs.Calls.{isolated_bytes}
+use Rattle.std.proofs.Common.{Result, Ok, Err}
+use Rattle.model.specs.{Refusals.number_of}
+use Rattle.model.specs.declared.{refusals.Question.Question}
+use Rattle.store.specs.{Meaning.means, Meaning.means_bytes, Meaning.with_none, Inner.Claims.replies_on}
+use Rattle.store.proofs.{Calls.isolated_bytes, Named.same_question}
 
 -- what was handed back, in the words of the definitions
 abbrev meant : Got → StoreReply
-meant g = record { outcome = means g.answer; room = g.room }
+meant g = record { outcome = means_bytes g.answer; room = g.room }
 
-known : (r s : Answer) → means r ≡ means s → r ≡ s
-known (Done k) (Done j) e = cc
-known (Done k) (Refused n i) e = never (cc)
-known (Refused n i) (Done k) e = never (cc)
-known (Refused n i) (Refused m j) e = let f : n ≡ m = cc in let g : i ≡ j = cc in cc
+known : (r s : Result ℕ Question) → means_bytes r ≡ means_bytes s → r ≡ s
+known (Ok k) (Ok j) e = let f : k ≡ j = cc in ap Ok f
+known (Ok k) (Err q) e = never (cc)
+known (Err p) (Ok k) e = never (cc)
+known (Err p) (Err q) e = let f : number_of p ≡ number_of q = cc in ap Err (same_question p q f)
+
+none_means : (r : Result Unit Question) → means_bytes (with_none r) ≡ means r
+none_means (Ok done) = refl
+none_means (Err asked) = refl
 
 got_known : (g h : Got) → meant g ≡ meant h → g ≡ h
 got_known g h e = λ i. record { answer = known g.answer h.answer (ap (λ (r : StoreReply). r.outcome) e) i; room = ap (λ (r : StoreReply). r.room) e i }
@@ -57,23 +64,23 @@ own_meant o owner g gs r rs e q = go (eqb owner o)
     go true = ap₂ (λ (x : StoreReply) (l : List StoreReply). x ∷ l) e q
     go false = q
 
-reply_is : (g : Got) (r : StoreReply) → means g.answer ≡ r.outcome → g.room ≡ r.room → meant g ≡ r
+reply_is : (g : Got) (r : StoreReply) → means_bytes g.answer ≡ r.outcome → g.room ≡ r.room → meant g ≡ r
 reply_is g r e q = λ i. record { outcome = e i; room = q i }
 
 replies : (o : ℕ) (b : List ℕ) (xs : List StoreCall) (gs : List Got) → Called o b xs gs → map meant gs ≡ replies_on o b xs
 unfolding replies_on
 replies o b xs gs (none c) = refl
 replies o b xs gs (puts c c' owner key t r ys hs p q) =
-    own_meant o owner (record { answer = r; room = [] }) hs (reply_on c (call owner key (put t))) (replies_on o (bytes_after c (call owner key (put t))) ys)
-    (reply_is (record { answer = r; room = [] }) (reply_on c (call owner key (put t))) p.0 (sym (put_room c owner key t)))
+    own_meant o owner (record { answer = with_none r; room = [] }) hs (reply_on c (call owner key (put t))) (replies_on o (bytes_after c (call owner key (put t))) ys)
+    (reply_is (record { answer = with_none r; room = [] }) (reply_on c (call owner key (put t))) (none_means r ∙ p.0) (sym (put_room c owner key t)))
     (replies o c' ys hs q ∙ ap (λ (d : List ℕ). replies_on o d ys) p.1.0)
 replies o b xs gs (fetches c owner key room r room' ys hs p q) =
     own_meant o owner (record { answer = r; room = room' }) hs (reply_on c (call owner key (fetch room))) (replies_on o (bytes_after c (call owner key (fetch room))) ys)
     (reply_is (record { answer = r; room = room' }) (reply_on c (call owner key (fetch room))) p.0 p.1)
     (replies o c ys hs q ∙ ap (λ (d : List ℕ). replies_on o d ys) (sym (fetch_leaves c owner key room)))
 replies o b xs gs (removes c c' owner key r ys hs p q) =
-    own_meant o owner (record { answer = r; room = [] }) hs (reply_on c (call owner key remove)) (replies_on o (bytes_after c (call owner key remove)) ys)
-    (reply_is (record { answer = r; room = [] }) (reply_on c (call owner key remove)) p.0 (sym (remove_room c owner key)))
+    own_meant o owner (record { answer = with_none r; room = [] }) hs (reply_on c (call owner key remove)) (replies_on o (bytes_after c (call owner key remove)) ys)
+    (reply_is (record { answer = with_none r; room = [] }) (reply_on c (call owner key remove)) (none_means r ∙ p.0) (sym (remove_room c owner key)))
     (replies o c' ys hs q ∙ ap (λ (d : List ℕ). replies_on o d ys) p.1.0)
 
 pub isolated_calls : IsolatedCalls

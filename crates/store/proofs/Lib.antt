@@ -5,6 +5,7 @@ pub mod Free
 pub mod Calls
 pub mod Answers
 pub mod Sheets
+pub mod Named
 pub mod Isolated
 pub mod Examples
 pub mod Tied

@@ -1,5 +1,5 @@
 -- What the store's bytes mean (specs/Inner/Layout), and what they mean after a table was put into a slot and after slots were freed. Assumes nothing.
-use Rattle.model.specs.Kit.{◌≡◌, refl, sym, ap, ap₂, ◌∙◌, subst, Bool, true, false, not, ◌⊎◌, ⊎_elim, List, ◌∷◌, ◌++◌, append_assoc, ℕ, zero, suc, ◌+◌, ◌*◌, ◌/◌, ◌%◌, ◌≤◌, ◌<◌, min, add-one, arith}
+use Rattle.model.specs.Kit.{◌≡◌, refl, sym, ap, ap₂, ◌∙◌, subst, Bool, true, false, not, ⊎_elim, List, ◌∷◌, ◌++◌, append_assoc, ℕ, zero, suc, ◌+◌, ◌*◌, ◌/◌, ◌%◌, ◌≤◌, ◌<◌, min, add-one, arith}
 use Rattle.model.specs.Kit.{T_not, ltb, eqb, eqb→eq, length, take, drop, set, length-take, length-drop, length-set, get_or-drop, length-take-le, ltb-true, ltb-false, lt-ltb, le-ltb, eq-eqb, ne_eqb}
 use Rattle.model.specs.Kit.{eqb-true, eqb-false}
 use Rattle.model.specs.{ValueSets.least, Lists.both, Lists.either, Lists.choose, Lists.at, Sheet.«word», Bytes.two_bytes, Written.placed}
@@ -8,7 +8,9 @@ use Rattle.model.proofs.Lists.{T_of, of_T, not_of, both_l, both_r, either_e, at_
 use Rattle.model.proofs.Written.{length_placed, placed_then, placed_before, placed_in, placed_after}
 use Rattle.model.proofs.Least.{first_is, first_most, first_no, first_yes, first_before, first_same}
 use Rattle.store.specs.{Store.StoreEntry, Store.none, Store.table, Store.size, Inner.Layout.slot_at, Inner.Layout.holds, Inner.Layout.table_at, Inner.Layout.slot_with, Inner.Layout.store_of}
-use Rattle.store.specs.Inner.Layout.{is_free, slot_for, slot_bytes, freed}
+use Rattle.std.proofs.Common.{Option, Some, None}
+use Rattle.std.specs.Option.{is_some, MatchOption}
+use Rattle.store.specs.Inner.Layout.{slot_in, is_free, slot_for, slot_bytes, freed}
 
 -- a text put at the front is read back
 pub read_back : (b t c : List ℕ) → c ≡ placed b 0 t → take (length t) c ≡ t
@@ -43,6 +45,41 @@ same_table b c p same e =
     let m = min 2048 («word» b (p + 2)) in
     let l : m ≤ 2048 = omega arith in
     ap (λ (k : ℕ). take (min 2048 k) (drop (p + 4) c)) w ∙ part_same b c (p + 4) m e (λ i g h. same i (omega arith) (omega arith))
+
+-- ---- a slot of four, or none
+pub slot_some : (k i : ℕ) → k ≡ i → i < 4 → Some i ≡ slot_in k
+slot_some k i e h = sym (ap slot_in e ∙ ap (λ (b : Bool). choose b (Some i) None) (lt-ltb i 4 h))
+
+pub slot_none : (k : ℕ) → 4 ≤ k → None ≡ slot_in k
+slot_none k h = sym (ap (λ (b : Bool). choose b (Some k) None) (le-ltb k 4 h))
+
+pub slot_is : (k i : ℕ) → Some i ≡ slot_in k → (k ≡ i) × (i < 4)
+slot_is k i e = go (ltb k 4) refl e
+  where
+    go : (b : Bool) → ltb k 4 ≡ b → Some i ≡ choose b (Some k) None → (k ≡ i) × (i < 4)
+    go true t z = let s : k ≡ i = cc in let l = ltb-true k 4 t in (s, omega arith)
+    go false t z = absurd (cc)
+
+pub slot_not : (k : ℕ) → None ≡ slot_in k → 4 ≤ k
+slot_not k e = go (ltb k 4) refl e
+  where
+    go : (b : Bool) → ltb k 4 ≡ b → None ≡ choose b (Some k) None → 4 ≤ k
+    go true t z = absurd (cc)
+    go false t z = ltb-false k 4 t
+
+-- the same by the library's test
+pub slot_no : (o : Option ℕ) (k : ℕ) (r : Bool) → o ≡ slot_in k → is_some o ≡ not r → r ≡ true → 4 ≤ k
+slot_no None k r e t z = slot_not k e
+slot_no (Some i) k r e t z = absurd (cc)
+
+pub slot_yes : (o : Option ℕ) (k : ℕ) (r : Bool) → o ≡ slot_in k → is_some o ≡ not r → r ≡ false → k < 4
+slot_yes None k r e t z = absurd (cc)
+slot_yes (Some i) k r e t z = let h = slot_is k i e in omega (arith, h.0, h.1)
+
+-- a slot that is before another
+pub before_slot : (o : Option ℕ) (k i : ℕ) (r : Bool) (P : ℕ → Type 0) → o ≡ slot_in k → MatchOption o (r ≡ false) P → ((x : ℕ) → P x → r ≡ ltb x i) → i < 4 → r ≡ ltb k i
+before_slot None k i r P e m f h = m ∙ sym (le-ltb k i (omega (arith, slot_not k e)))
+before_slot (Some x) k i r P e m f h = f x m ∙ ap (λ (z : ℕ). ltb z i) (sym (slot_is k x e).0)
 
 -- ---- a slot and its key
 pub holds_e : (b : List ℕ) (key p : ℕ) → holds b key p ≡ true → (at b p ≡ 0 → ⊥) × (at b (p + 1) ≡ key)

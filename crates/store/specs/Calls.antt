@@ -1,20 +1,21 @@
 -- Calls of `put`, `fetch` and `remove`: the store's bytes, owner and key, the table or the room as it came, the answer, and the bytes at the end. Each is
 -- the function's contract. And paper 02, #110, of what the owners hold who make calls one after another; proofs/Isolated has the theorem.
-use Rattle.std.specs.Prelude.{◌≡◌, List, [], ◌∷◌, ℕ, ◌<◌, length, replicate, eqb}
+use Rattle.std.specs.Prelude.{◌≡◌, Result, List, [], ◌∷◌, ℕ, ◌<◌, length, replicate, eqb}
 use Rattle.model.specs.Kit.{Memᴰ}
 use Rattle.model.specs.{Lists.at, Lists.choose, Room.refusal}
 use Rattle.store.specs.Store.{empty_store, Action, StoreCall, call, put, fetch, remove, store_after, room_in, reply_to, calls_of, size}
-use Rattle.store.specs.{Inner.Layout.store_of, Inner.Layout.reply_on, Inner.Layout.bytes_after, Meaning.means, declared.Answer.Answer}
+use Rattle.store.specs.{Inner.Layout.store_of, Inner.Layout.reply_on, Inner.Layout.bytes_after, Meaning.means, Meaning.means_bytes, Meaning.with_none}
+use Rattle.model.specs.declared.{refusals.Question.Question}
 
-abbrev pub CallPut : List ℕ → ℕ → ℕ → List ℕ → Answer → List ℕ → Type 0
+abbrev pub CallPut : List ℕ → ℕ → ℕ → List ℕ → Result Unit Question → List ℕ → Type 0
 CallPut b owner key t r b' =
     (means r ≡ (reply_on b (call owner key (put t))).outcome)
     × ((b' ≡ bytes_after b (call owner key (put t))) × (length b ≡ size → store_of b' ≡ store_after (store_of b) (call owner key (put t))))
 
-abbrev pub CallFetch : List ℕ → ℕ → ℕ → List ℕ → Answer → List ℕ → Type 0
-CallFetch b owner key room r room' = (means r ≡ (reply_on b (call owner key (fetch room))).outcome) × (room' ≡ (reply_on b (call owner key (fetch room))).room)
+abbrev pub CallFetch : List ℕ → ℕ → ℕ → List ℕ → Result ℕ Question → List ℕ → Type 0
+CallFetch b owner key room r room' = (means_bytes r ≡ (reply_on b (call owner key (fetch room))).outcome) × (room' ≡ (reply_on b (call owner key (fetch room))).room)
 
-abbrev pub CallRemove : List ℕ → ℕ → ℕ → Answer → List ℕ → Type 0
+abbrev pub CallRemove : List ℕ → ℕ → ℕ → Result Unit Question → List ℕ → Type 0
 CallRemove b owner key r b' =
     (means r ≡ (reply_on b (call owner key remove)).outcome)
     × ((b' ≡ bytes_after b (call owner key remove)) × (length b ≡ size → store_of b' ≡ store_after (store_of b) (call owner key remove)))
@@ -48,9 +49,9 @@ OtherSize =
     (reply_on b (call owner key a) ≡ record { outcome = refusal 255 0; room = room_in a }) × (bytes_after b (call owner key a) ≡ b)
 
 -- ---- calls one after another, of any owners
--- what a call handed back: its answer, and the room at the end; none is lent to put and remove
+-- what a call handed back: its answer, and the room at the end; put and remove write no bytes, and no room is lent to them
 pub record Got : Type 0 where
-  pub answer : Answer
+  pub answer : Result ℕ Question
   pub room : List ℕ
 
 -- one more that owner o got, if the call was its own
@@ -60,12 +61,12 @@ own o owner g gs = choose (eqb owner o) (g ∷ gs) gs
 -- from the bytes b on these calls were made, and o got this back
 pub data Called (o : ℕ) : List ℕ → List StoreCall → List Got → Type 0 where
   none : (b : List ℕ) → Called o b [] []
-  puts : (b b' : List ℕ) (owner key : ℕ) (t : List ℕ) (r : Answer) (xs : List StoreCall) (gs : List Got) → CallPut b owner key t r b' → Called o b' xs gs →
-      Called o b (call owner key (put t) ∷ xs) (own o owner (record { answer = r; room = [] }) gs)
-  fetches : (b : List ℕ) (owner key : ℕ) (room : List ℕ) (r : Answer) (room' : List ℕ) (xs : List StoreCall) (gs : List Got) → CallFetch b owner key room r room' → Called o b xs gs →
+  puts : (b b' : List ℕ) (owner key : ℕ) (t : List ℕ) (r : Result Unit Question) (xs : List StoreCall) (gs : List Got) → CallPut b owner key t r b' → Called o b' xs gs →
+      Called o b (call owner key (put t) ∷ xs) (own o owner (record { answer = with_none r; room = [] }) gs)
+  fetches : (b : List ℕ) (owner key : ℕ) (room : List ℕ) (r : Result ℕ Question) (room' : List ℕ) (xs : List StoreCall) (gs : List Got) → CallFetch b owner key room r room' → Called o b xs gs →
       Called o b (call owner key (fetch room) ∷ xs) (own o owner (record { answer = r; room = room' }) gs)
-  removes : (b b' : List ℕ) (owner key : ℕ) (r : Answer) (xs : List StoreCall) (gs : List Got) → CallRemove b owner key r b' → Called o b' xs gs →
-      Called o b (call owner key remove ∷ xs) (own o owner (record { answer = r; room = [] }) gs)
+  removes : (b b' : List ℕ) (owner key : ℕ) (r : Result Unit Question) (xs : List StoreCall) (gs : List Got) → CallRemove b owner key r b' → Called o b' xs gs →
+      Called o b (call owner key remove ∷ xs) (own o owner (record { answer = with_none r; room = [] }) gs)
 
 -- what an owner gets back depends only on its own calls: two sequences with the same calls of one owner, all else changed at will, on the bytes of any two
 -- stores in which it has the same entries

@@ -7,32 +7,14 @@ ghost use Rattle.model.specs.ValueSets.{least};
 ghost use Rattle.model.specs.Sheet.{«word»};
 ghost use Rattle.model.specs.Written.{placed};
 ghost use Rattle.store.specs.Store.{size};
-ghost use Rattle.store.specs.Inner.Layout.{slot_at, holds, slot_with, is_free, slot_for, slot_bytes, freed};
+ghost use Rattle.store.specs.Inner.Layout.{slot_at, slot_in, holds, slot_with, is_free, slot_for, slot_bytes, freed, asked_first};
 ghost use Rattle.store.specs.Calls.{CallPut, CallFetch, CallRemove};
 
+use model::refusals::Question;
 use wire::place;
 
 // The store's size in bytes.
 pub const STORE_BYTES: usize = 32832;
-
-#[derive(Clone, Copy)]
-pub enum Answer {
-    // The bytes written to the lent room: 0 for put and remove.
-    Done { bytes: usize },
-    // 255 where the store has not STORE_BYTES bytes.
-    Refused { number: u8, item: usize },
-}
-
-// Copies at most 2,048 bytes, by way of a buffer that nothing else reaches: the compiler then knows that the two loops are one block copy.
-fn copy(from: &[u8], to: &mut [u8], at: usize)
-    requires { (length from.now ≤ 2048) × (at + length from.now ≤ length to.old) }
-    ensures { to.new ≡ placed to.old at from.now }
-{
-    let n = from.len();
-    let mut buffer = [0u8; 2048];
-    place(from, &mut buffer, 0);
-    place(&buffer[..n], to, at);
-}
 
 // Where slot i of an owner starts.
 fn slot_at(owner: usize, i: usize) -> usize
@@ -47,25 +29,20 @@ fn holds(store: &[u8], key: u8, p: usize) -> bool
     requires { p + 1 < length store.now }
     ensures { result ≡ holds store.now key p }
 {
-    if store[p] == 0 {
-        return false;
-    }
-    store[p + 1] == key
+    store[p] != 0 && store[p + 1] == key
 }
 
-// An owner's slot for a key, or 4.
-fn slot_with(store: &[u8], owner: usize, key: u8) -> usize
+// An owner's slot for a key.
+fn slot_with(store: &[u8], owner: usize, key: u8) -> Option<usize>
     requires { (length store.now ≡ size) × (owner < 4) }
-    ensures { result ≡ slot_with store.now owner key }
+    ensures { result ≡ slot_in (slot_with store.now owner key) }
 {
-    let mut i = 0;
-    while i < 4 {
+    for i in 0..4 {
         if holds(store, key, slot_at(owner, i)) {
-            return i;
+            return Some(i);
         }
-        i += 1;
     }
-    i
+    None
 }
 
 // Whether an owner's slot is free: it holds nothing, or the key of an earlier slot.
@@ -74,37 +51,31 @@ fn is_free(store: &[u8], owner: usize, i: usize) -> bool
     ensures { result ≡ is_free store.now owner i }
 {
     let p = slot_at(owner, i);
-    if store[p] == 0 {
-        return true;
-    }
-    slot_with(store, owner, store[p + 1]) < i
+    store[p] == 0 || slot_with(store, owner, store[p + 1]).is_some_and(|first| first < i)
 }
 
-// An owner's first free slot, or 4.
-fn free_slot(store: &[u8], owner: usize) -> usize
+// An owner's first free slot.
+fn free_slot(store: &[u8], owner: usize) -> Option<usize>
     requires { (length store.now ≡ size) × (owner < 4) }
-    ensures { result ≡ least 4 (is_free store.now owner) }
+    ensures { result ≡ slot_in (least 4 (is_free store.now owner)) }
 {
-    let mut i = 0;
-    while i < 4 {
+    for i in 0..4 {
         if is_free(store, owner, i) {
-            return i;
+            return Some(i);
         }
-        i += 1;
     }
-    i
+    None
 }
 
-// The slot where a table goes, or 4.
-fn slot_for(store: &[u8], owner: usize, key: u8) -> usize
+// The slot where a table goes.
+fn slot_for(store: &[u8], owner: usize, key: u8) -> Option<usize>
     requires { (length store.now ≡ size) × (owner < 4) }
-    ensures { result ≡ slot_for store.now owner key }
+    ensures { result ≡ slot_in (slot_for store.now owner key) }
 {
-    let i = slot_with(store, owner, key);
-    if i < 4 {
-        return i;
+    match slot_with(store, owner, key) {
+        Some(i) => Some(i),
+        None => free_slot(store, owner),
     }
-    free_slot(store, owner)
 }
 
 // Puts a table into the slot at p; the bytes behind it stay.
@@ -115,7 +86,7 @@ fn fill(store: &mut [u8], p: usize, key: u8, table: &[u8])
     let n = table.len();
     let head = [1, key, (n % 256) as u8, (n / 256) as u8];
     place(&head, store, p);
-    copy(table, store, p + 4);
+    place(table, store, p + 4);
 }
 
 // Frees every slot of an owner that holds the key.
@@ -123,13 +94,11 @@ fn free_all(store: &mut [u8], owner: usize, key: u8)
     requires { (length store.old ≡ size) × (owner < 4) }
     ensures { store.new ≡ freed store.old owner key 4 }
 {
-    let mut i = 0;
-    while i < 4 {
+    for i in 0..4 {
         let p = slot_at(owner, i);
         if holds(store, key, p) {
             store[p] = 0;
         }
-        i += 1;
     }
 }
 
@@ -138,104 +107,63 @@ fn table_length(store: &[u8], p: usize) -> usize
     requires { p + 4 ≤ length store.now }
     ensures { result ≡ min 2048 («word» store.now (p + 2)) }
 {
-    let n = reader::read_word(store, p + 2);
-    if 2048 < n {
-        return 2048;
+    reader::read_word(store, p + 2).min(2048)
+}
+
+// The questions that are put to every call first.
+fn asked(store: &[u8], owner: u32) -> Result<(), Question>
+    ensures { result ≡ asked_first (length store.now) owner }
+{
+    if store.len() != STORE_BYTES {
+        return Err(Question::BufferLength);
     }
-    n
+    if 4 <= owner {
+        return Err(Question::Owner);
+    }
+    Ok(())
 }
 
 // Puts a table under an owner and a key, in place of the one there.
-pub fn put(store: &mut [u8], owner: u32, key: u8, table: &[u8]) -> Answer
+pub fn put(store: &mut [u8], owner: u32, key: u8, table: &[u8]) -> Result<(), Question>
     ensures { CallPut store.old owner key table.now result store.new }
 {
-    if store.len() != STORE_BYTES {
-        return Answer::Refused {
-            number: 255,
-            item: 0,
-        };
-    }
-    if 4 <= owner {
-        return Answer::Refused {
-            number: 31,
-            item: 0,
-        };
-    }
-    let slot = slot_for(store, owner as usize, key);
+    asked(store, owner)?;
     if 2048 < table.len() {
-        return Answer::Refused {
-            number: 33,
-            item: 0,
-        };
+        return Err(Question::TableSize);
     }
-    if 4 <= slot {
-        return Answer::Refused {
-            number: 32,
-            item: 0,
-        };
-    }
+    let Some(slot) = slot_for(store, owner as usize, key) else {
+        return Err(Question::FreeSlot);
+    };
     fill(store, slot_at(owner as usize, slot), key, table);
-    Answer::Done { bytes: 0 }
+    Ok(())
 }
 
-// Copies the table under an owner and a key to the front of the room.
-pub fn fetch(store: &[u8], owner: u32, key: u8, room: &mut [u8]) -> Answer
+// Copies the table under an owner and a key to the front of the room; answers its length.
+pub fn fetch(store: &[u8], owner: u32, key: u8, room: &mut [u8]) -> Result<usize, Question>
     ensures { CallFetch store.now owner key room.old result room.new }
 {
-    if store.len() != STORE_BYTES {
-        return Answer::Refused {
-            number: 255,
-            item: 0,
-        };
-    }
-    if 4 <= owner {
-        return Answer::Refused {
-            number: 31,
-            item: 0,
-        };
-    }
-    let i = slot_with(store, owner as usize, key);
-    if 4 <= i {
-        return Answer::Refused {
-            number: 34,
-            item: 0,
-        };
-    }
+    asked(store, owner)?;
+    let Some(i) = slot_with(store, owner as usize, key) else {
+        return Err(Question::HeldKey);
+    };
     let p = slot_at(owner as usize, i);
     let n = table_length(store, p);
     if room.len() < n {
-        return Answer::Refused {
-            number: 35,
-            item: 0,
-        };
+        return Err(Question::CopyRoom);
     }
     let start = p + 4;
-    copy(&store[start..start + n], room, 0);
-    Answer::Done { bytes: n }
+    place(&store[start..start + n], room, 0);
+    Ok(n)
 }
 
 // Removes (the paper's drop) the table under an owner and a key.
-pub fn remove(store: &mut [u8], owner: u32, key: u8) -> Answer
+pub fn remove(store: &mut [u8], owner: u32, key: u8) -> Result<(), Question>
     ensures { CallRemove store.old owner key result store.new }
 {
-    if store.len() != STORE_BYTES {
-        return Answer::Refused {
-            number: 255,
-            item: 0,
-        };
-    }
-    if 4 <= owner {
-        return Answer::Refused {
-            number: 31,
-            item: 0,
-        };
-    }
-    if 4 <= slot_with(store, owner as usize, key) {
-        return Answer::Refused {
-            number: 34,
-            item: 0,
-        };
+    asked(store, owner)?;
+    if slot_with(store, owner as usize, key).is_none() {
+        return Err(Question::HeldKey);
     }
     free_all(store, owner as usize, key);
-    Answer::Done { bytes: 0 }
+    Ok(())
 }

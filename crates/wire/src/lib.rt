@@ -4,7 +4,10 @@
 ghost use Rattle.std.specs.Prelude.{◌≡◌, ◌+◌, ◌*◌, ◌^◌, ◌≤◌, ◌<◌, length};
 ghost use Rattle.model.specs.Bytes.{four_bytes};
 ghost use Rattle.model.specs.Written.{Written, placed};
+ghost use Rattle.model.specs.Refusals.{number_of};
 ghost use Rattle.wire.specs.Wire.{three_numbers};
+
+use model::refusals::Refusal;
 
 // What is answered where a lent buffer has another length than the call asks for: refusal 255.
 pub const WRONG_LENGTH: u32 = 255 * 256;
@@ -14,7 +17,15 @@ pub fn code(number: u8, item: usize) -> u32
     requires { item < 256 }
     ensures { result ≡ number * 256 + item }
 {
-    number as u32 * 256 + item as u32
+    u32::from(number) * 256 + item as u32
+}
+
+// The same of a refusal by name.
+pub fn refusal_code(refusal: Refusal) -> u32
+    requires { refusal.item < 256 }
+    ensures { result ≡ number_of refusal.question * 256 + refusal.item }
+{
+    code(refusal.question.number(), refusal.item)
 }
 
 // Puts a number in four bytes; answers the place after it.
@@ -47,12 +58,9 @@ pub fn put(out: &mut [u8], at: usize, bytes: &[u8]) -> usize
     requires { at + length bytes.now ≤ length out.old }
     ensures { Written out.old at bytes.now out.new result }
 {
-    let mut i = 0;
-    while i < bytes.len() {
-        out[at + i] = bytes[i];
-        i += 1;
-    }
-    at + i
+    let end = at + bytes.len();
+    out[at..end].copy_from_slice(bytes);
+    end
 }
 
 // Copies bytes to a place.

@@ -23,9 +23,3 @@ loop-i-preserved c =
 
 pub returns : goal.returns
 returns c = gathered_end _ _ _ _ (search rules) c.loop-i.invariant.0 c.loop-i.invariant.1
-
-pub wide-requires : goal.wide-requires
-wide-requires c = tt
-
-pub loop-i-smaller : goal.loop-i-smaller
-loop-i-smaller c = omega arith

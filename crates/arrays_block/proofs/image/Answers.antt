@@ -14,11 +14,5 @@ overflow_add-result-2 c = omega (arith, row_lt _ _ _ c.requires.0, few _ _ _ c.r
 pub bounds-rows-row : goal.bounds-rows-row
 bounds-rows-row c = omega (arith, row_lt _ _ _ c.requires.0, few _ _ _ c.requires.0)
 
-pub overflow_cast-result : goal.overflow_cast-result
-overflow_cast-result c = omega (arith, entry_at _ _ _ c.requires.0 _ c.requires.1)
-
-pub overflow_add-result-3 : goal.overflow_add-result-3
-overflow_add-result-3 c = omega (arith, entry_at _ _ _ c.requires.0 _ c.requires.1)
-
 pub overflow_sub-result-3 : goal.overflow_sub-result-3
 overflow_sub-result-3 c = omega (arith, entry_at _ _ _ c.requires.0 _ c.requires.1)

@@ -1,9 +1,11 @@
-use Rattle.model.specs.Kit.{arith}
-use Rattle.arrays_block.proofs.{Gathering.before, Gathering.after}
+use Rattle.model.specs.Kit.{le-leb, lt-leb}
+use Rattle.block.specs.Block.{in_block}
 use Rattle.arrays_block.proofs.is_inside.Goals as goal
 
-pub returns-then-x-first : goal.returns-then-x-first
-returns-then-x-first c = before _ _ _ c.if-x-first.true
+pub returns-then-first-x : goal.returns-then-first-x
+unfolding in_block
+returns-then-first-x c = simp (le-leb _ _ c.if-first-x.true)
 
-pub returns : goal.returns
-returns c = after _ _ _ (λ l. omega arith)
+pub returns-else-first-x : goal.returns-else-first-x
+unfolding in_block
+returns-else-first-x c = simp (lt-leb _ _ c.if-first-x.false)

@@ -9,11 +9,5 @@ returns-then-block-ne2 c = λ p i h. put_none p _ _ _ i c.if-block-ne2.true
 pub returns : goal.returns
 returns c = λ p i h. put_two p _ _ _ _ c.if-block-ne2.false (c.put_rows.ensures p i (two_is p _ _ _ i c.if-block-ne2.false h))
 
-pub overflow_cast-block : goal.overflow_cast-block
-overflow_cast-block c = omega (arith, c.shared_slice_known-2-1.given 0)
-
-pub overflow_cast-block-2 : goal.overflow_cast-block-2
-overflow_cast-block-2 c = omega (arith, c.shared_slice_known-3-1.given 1)
-
 pub put_rows-requires : goal.put_rows-requires
 put_rows-requires c = (c.requires.0, c.requires.1, two_is c.requires.0 _ _ _ c.requires.1 c.if-block-ne2.false c.requires.2)

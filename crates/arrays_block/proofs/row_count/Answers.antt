@@ -23,9 +23,3 @@ returns c =
     let e : c.loop-k.k ≡ c.args.m = omega arith in
     let z = subst (λ (k : ℕ). c.loop-k.count ≡ factorial k) e c.loop-k.invariant.2 in
     (z, (let l = factorial_le c.args.m c.requires in omega arith))
-
-pub overflow_add-k : goal.overflow_add-k
-overflow_add-k c = omega arith
-
-pub loop-k-smaller : goal.loop-k-smaller
-loop-k-smaller c = omega arith

@@ -1,6 +1,7 @@
 -- What the functions of this crate are lent.
-use Rattle.std.specs.Prelude.{◌≡◌, List, ℕ, ◌+◌, ◌*◌, ◌≤◌, ◌<◌, length}
+use Rattle.std.specs.Prelude.{◌≡◌, List, ℕ, ◌+◌, ◌*◌, ◌≤◌, ◌<◌, Result, length}
 use Rattle.model.specs.{Lists.at, Lists.flat, Problem.Problem, Problem.respects, Inner.Filling.Filled, Sheet.words, Sheet.permutes_pairs, Inner.WellFormed.WellFormed}
+use Rattle.model.specs.declared.refusals.Question.{Question}
 use Rattle.sheet_table.specs.Inner.Table.{Framed, Ready, answer_of}
 use Rattle.arrays.specs.{Inner.Layout.Images, Inner.Layout.pair_code_of, Inner.Places.IMAGES, Inner.Places.WIDE}
 use Rattle.block.specs.Block.{orderings, factorial, ordering_table}
@@ -30,8 +31,8 @@ pub record TableBytes (p : Problem) (first m row : ℕ) (bytes : List ℕ) : Typ
   pub sized : length bytes ≡ 384
   pub table : words bytes 0 (p.variables * p.values) ≡ ordering_table p first m row
 
--- 0 where a row passes questions 15 and 16, else the number of the first that it doesn't
-abbrev pub row_answer : Problem → ℕ → ℕ → ℕ → ℕ
+-- the first of questions 15 and 16 that a row doesn't pass, if there is one
+abbrev pub row_answer : Problem → ℕ → ℕ → ℕ → Result Unit Question
 row_answer p first m row = answer_of (permutes_pairs p (ordering_table p first m row)) (respects p (ordering_table p first m row))
 
 -- ---- images

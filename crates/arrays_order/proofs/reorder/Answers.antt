@@ -1,22 +1,19 @@
 -- The parts, one after another. Assumes nothing.
-use Rattle.model.specs.Kit.{refl, ◌∙◌}
 use Rattle.model.specs.Lists.{at}
 use Rattle.arrays_order.proofs.{Whole.few_variables, Whole.few_values, Whole.few_constraints, Whole.few_symmetries, Whole.small, Whole.scopes, Whole.moved}
 use Rattle.arrays_order.proofs.reorder.Goals as goal
 
 pub positions-requires : goal.positions-requires
 unfolding at
-positions-requires c = (few_variables _ _ _ _ _ c.requires.1, refl)
+positions-requires c = few_variables _ _ _ _ _ c.requires.1
 
-pub move_sets-requires : goal.move_sets-requires
+pub invariant_of-order : goal.invariant_of-order
 unfolding at
-move_sets-requires c =
-    (few_variables _ _ _ _ _ c.requires.1, small _ _ _ _ _ c.requires.1, c.requires.1.numbers_length)
+invariant_of-order c = record { few = few_variables _ _ _ _ _ c.requires.1; small = small _ _ _ _ _ c.requires.1 }
 
 pub rename-requires : goal.rename-requires
 unfolding at
-rename-requires c =
-    (few_variables _ _ _ _ _ c.requires.1, few_symmetries _ _ _ _ _ c.requires.1, small _ _ _ _ _ c.requires.1)
+rename-requires c = few_symmetries _ _ _ _ _ c.requires.1
 
 pub rename-requires-2 : goal.rename-requires-2
 unfolding at
@@ -24,8 +21,6 @@ rename-requires-2 c = (
   few_constraints _ _ _ _ _ c.requires.1,
   few_values _ _ _ _ _ c.requires.1,
   scopes _ _ _ _ _ c.requires.1 _ _ c.positions.ensures _ c.move_sets.ensures,
-  c.move_sets.ensures.size ∙ c.requires.1.numbers_length,
-  c.requires.1.supports_length,
 )
 
 pub returns : goal.returns

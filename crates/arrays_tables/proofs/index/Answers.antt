@@ -1,20 +1,12 @@
 -- All tables, one kind after another. Assumes nothing.
-use Rattle.model.specs.Kit.{◌∙◌}
-use Rattle.arrays_tables.proofs.Assembled.{bounds, link_bounds, rows_source, looks_bounds, lanes_long, lanes_bounds, made}
+use Rattle.arrays_tables.proofs.Assembled.{bounds, link_bounds, rows_source, looks_bounds, lanes_bounds, made}
 use Rattle.arrays_tables.proofs.index.Goals as goal
 
 pub looks-requires : goal.looks-requires
-looks-requires c = looks_bounds _ _ _ _ _ c.requires.1 _
-    c.linked.ensures _
-
-pub by_lanes-requires : goal.by_lanes-requires
-by_lanes-requires c = lanes_long _ _ _ _ _ c.requires.1 _
-    c.linked.ensures _ c.looks.ensures
+looks-requires c = looks_bounds _ _ _ _ _ c.requires.1 _ c.linked.ensures _
 
 pub image_tables-requires : goal.image_tables-requires
-image_tables-requires c =
-    let b = lanes_bounds _ _ _ _ _ c.requires.1 _ c.linked.ensures _ c.looks.ensures c.by_lanes.ensures in
-    (b.0, b.1, c.rows.ensures.0 ∙ c.requires.1.tables_length)
+image_tables-requires c = lanes_bounds _ _ _ _ _ c.requires.1 _ c.linked.ensures _ c.looks.ensures c.by_lanes.ensures
 
 pub returns : goal.returns
 returns c =
@@ -22,10 +14,10 @@ returns c =
     c.looks.ensures _ c.by_lanes.ensures _ c.image_tables.ensures
 
 pub linked-requires : goal.linked-requires
-linked-requires c = let b = bounds _ _ _ _ _ c.requires.1 in (b.0, b.1, c.requires.1.numbers_length)
+linked-requires c = let b = bounds _ _ _ _ _ c.requires.1 in (b.0, b.1)
 
 pub rows-requires : goal.rows-requires
-rows-requires c = ((_, rows_source _ _ _ _ _ c.requires.1 _ c.linked.ensures), c.requires.1.tables_length)
+rows-requires c = (_, rows_source _ _ _ _ _ c.requires.1 _ c.linked.ensures)
 
 pub loose-set-requires : goal.loose-set-requires
 loose-set-requires c = (link_bounds _ _ _ _ _ c.requires.1 _ c.linked.ensures).0

@@ -13,17 +13,15 @@ overflow_cast-nodes c =
     search (rules, z, c.nodes_at-nodes.ensures)
 
 pub loop-x-init : goal.loop-x-init
-loop-x-init c = (omega arith, filled_begin _ _ _)
+loop-x-init c = filled_begin _ _ _
 
 pub loop-x-preserved : goal.loop-x-preserved
 unfolding at
-loop-x-preserved c = (
-  omega (arith, c.loop-x-test.true),
-  filled_turn (λ i. i) _ _ _ c.loop-x.x _ _ c.loop-x.invariant.1 refl (omega (arith, c.loop-x-test.true)) (λ v k e. omega arith)
-      (c.capped.ensures ∙ ap₂ min c.nodes_at-nodes.ensures c.read_long.ensures),
-)
+loop-x-preserved c =
+    filled_turn (λ i. i) _ _ _ c.loop-x.x _ _ c.loop-x.invariant refl (omega arith) (λ v k e. omega arith)
+    (c.capped.ensures ∙ ap₂ min c.nodes_at-nodes.ensures c.read_long.ensures)
 
 pub returns : goal.returns
 returns c =
-    let f = filled_end (λ i. i) _ _ _ 12 c.loop-x.x c.loop-x-test.false c.loop-x.invariant.0 c.loop-x.invariant.1 in
+    let f = filled_end (λ i. i) _ _ _ 12 c.loop-x.x (omega arith) (omega arith) c.loop-x.invariant in
     sym (counts_as _ _ c.loop-x.counts f.size (λ x k. sym (f.here x k)))

@@ -1,8 +1,8 @@
 -- What the code that looks for a slot answers.
-use Rattle.std.specs.Prelude.{ℕ, ltb}
-use Rattle.model.specs.Lists.{choose}
+use Rattle.std.specs.Prelude.{ℕ, Option, Some, None}
 use Rattle.desk.specs.Queue.{Found, none_found, slot}
 
--- a slot's number, 8 where none was found
-abbrev pub found : ℕ → Found
-found k = choose (ltb k 8) (slot k) none_found
+-- the slot that was found, if one was
+abbrev pub found : Option ℕ → Found
+found None = none_found
+found (Some k) = slot k

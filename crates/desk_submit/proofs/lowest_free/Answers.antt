@@ -1,22 +1,16 @@
--- `lowest_free`: after k turns the first k slots are taken. Assumes nothing.
-use Rattle.model.specs.Kit.{arith, rules}
+-- `lowest_free` meets its contract. Assumes nothing.
+use Rattle.model.specs.Kit.{◌≡◌, ℕ, rules}
+use Rattle.std.proofs.Common.{tests}
+use Rattle.std.proofs.lemmas.Iterator.{first_from_Range}
 use Rattle.model.specs.Lists.{at}
-use Rattle.desk.proofs.Slots.{lowest_is, lowest_none, more_taken}
+use Rattle.desk.specs.Inner.Layout.{slot_place}
+use Rattle.desk.proofs.Slots.{lowest_found}
 use Rattle.desk_submit.proofs.lowest_free.Goals as goal
 
-pub loop-k-init : goal.loop-k-init
-loop-k-init c = (search rules, λ j h. absurd (omega arith))
-
-pub returns-then-queue-k-eq0 : goal.returns-then-queue-k-eq0
-unfolding at
-returns-then-queue-k-eq0 c =
-    lowest_is c.args.queue.now c.loop-k.k (omega arith) c.loop-k.invariant.1 c.if-queue-k-eq0.true
-
-pub loop-k-preserved : goal.loop-k-preserved
-unfolding at
-loop-k-preserved c =
-    (omega arith, more_taken c.args.queue.now c.loop-k.k c.loop-k.invariant.1 c.if-queue-k-eq0.false)
-
 pub returns : goal.returns
+unfolding at
 returns c =
-    lowest_none c.args.queue.now c.loop-k.k (omega arith) (λ j h. c.loop-k.invariant.1 j (omega arith))
+    let free : ℕ → Type 0 = λ k. at c.args.queue.now (slot_place k) ≡ 0 in
+    let h = lowest_found c.args.queue.now c.find.result
+    (first_from_Range _ _ _ c.find.result free (λ k. free k → ⊥) c.find.ensures.ran (λ x q k. search (rules, tests)) (λ x q k. (search rules, search (rules, tests)))) in
+    record { slot = h.0; inside = h.1 }

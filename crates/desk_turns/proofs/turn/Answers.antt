@@ -8,17 +8,17 @@ pub returns-then-queue-ne-QUEUE_BYTES : goal.returns-then-queue-ne-QUEUE_BYTES
 unfolding at
 returns-then-queue-ne-QUEUE_BYTES c = turned (turn_255 c.args.queue.now c.if-queue-ne-QUEUE_BYTES.true)
 
-pub returns-then-k-ge8 : goal.returns-then-k-ge8
+pub returns-in_default : goal.returns-in_default
 unfolding at
-returns-then-k-ge8 c = turned (turn_idle c.args.queue.now c.if-queue-ne-QUEUE_BYTES.false _ c.to_serve-k.ensures c.if-k-ge8.true)
+returns-in_default c = turned (turn_idle c.args.queue.now c.if-queue-ne-QUEUE_BYTES.false c.in_default.ensures.slot)
 
 pub serve-s-requires : goal.serve-s-requires
 unfolding at
 serve-s-requires c = (
   c.if-queue-ne-QUEUE_BYTES.false,
-  c.if-k-ge8.false,
+  c.in-Some.ensures.inside,
   waiting c.args.queue.now
-      c.if-queue-ne-QUEUE_BYTES.false (λ i. (c.slice_known-1.given i).fits) _ c.to_serve-k.ensures c.if-k-ge8.false,
+      c.if-queue-ne-QUEUE_BYTES.false (λ i. (c.slice_known-1.given i).fits) _ c.in-Some.ensures.slot c.in-Some.ensures.inside,
   omega arith,
 )
 
@@ -26,4 +26,4 @@ pub returns : goal.returns
 unfolding at
 returns c = turned (turn_served c.args.queue.now
     c.if-queue-ne-QUEUE_BYTES.false (λ i. (c.slice_known-1.given i).fits) _
-    c.to_serve-k.ensures c.if-k-ge8.false _ _ c.serve-s.ensures)
+    c.in-Some.ensures.slot c.in-Some.ensures.inside _ _ c.serve-s.ensures)

@@ -1,8 +1,5 @@
-use Rattle.model.specs.Kit.{◌≡◌, ◌≤◌, ◌-◌, length}
+use Rattle.model.specs.Kit.{◌≡◌, ◌≤◌, length}
 use Rattle.examples_filter.proofs.read_bytes.Given as goal
 
 abbrev pub invariant-loop-count : goal.invariant-loop-count
-invariant-loop-count l = (l.at ≤ length l.line) × (l.count ≤ length l.bytes) × (length l.bytes ≡ length l.initial.bytes)
-
-abbrev pub decreases-loop-count : goal.decreases-loop-count
-decreases-loop-count l = length l.initial.bytes - l.count
+invariant-loop-count l = (l.at ≤ length l.line) × (length l.bytes ≡ length l.initial.bytes)

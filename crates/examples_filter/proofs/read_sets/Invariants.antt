@@ -1,8 +1,5 @@
-use Rattle.model.specs.Kit.{◌≡◌, ◌≤◌, ◌-◌, length}
+use Rattle.model.specs.Kit.{◌≡◌, ◌≤◌, length}
 use Rattle.examples_filter.proofs.read_sets.Given as goal
 
 abbrev pub invariant-loop-count : goal.invariant-loop-count
-invariant-loop-count l = (l.at ≤ length l.line) × (l.count ≤ length l.sets) × (length l.sets ≡ length l.initial.sets)
-
-abbrev pub decreases-loop-count : goal.decreases-loop-count
-decreases-loop-count l = length l.initial.sets - l.count
+invariant-loop-count l = (l.at ≤ length l.line) × (length l.sets ≡ length l.initial.sets)

@@ -1,8 +1,5 @@
-use Rattle.model.specs.Kit.{◌-◌, ◌≤◌, ◌<◌, length}
+use Rattle.model.specs.Kit.{◌<◌}
 use Rattle.examples_lines.proofs.digits.Given as goal
 
 abbrev pub invariant-loop-at : goal.invariant-loop-at
-invariant-loop-at l = (l.value < 65536) × (l.at ≤ length l.line)
-
-abbrev pub decreases-loop-at : goal.decreases-loop-at
-decreases-loop-at l = length l.line - l.at
+invariant-loop-at l = l.value < 65536

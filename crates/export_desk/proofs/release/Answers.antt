@@ -1,24 +1,31 @@
 -- `release`: the answer's length is asked first; then the call. Assumes nothing.
-use Rattle.model.specs.Kit.{sym, ◌∙◌, subst, []}
-use Rattle.model.specs.Lists.{at}
-use Rattle.desk.specs.{Queue.QueueReply, Meaning.means}
+use Rattle.model.specs.Kit.{refl, sym, ap, ◌∙◌, subst, ℕ, ◌+◌, ◌*◌, arith}
+use Rattle.std.proofs.Common.{Result}
+use Rattle.model.specs.{Lists.at, Refusals.number_of, declared.refusals.Question.Question, declared.refusals.Refusal.Refusal}
+use Rattle.desk.specs.{Queue.QueueReply, Queue.answered, Queue.released, Queue.refusal, Meaning.means_released}
 use Rattle.export_desk.specs.Inner.Fits.{ReplyFits}
-use Rattle.export_desk.proofs.{Replies.code_any, Replies.answer_any, Replies.holds_any, Replies.release_reply_lem, Replies.release_short, Replies.release_done}
+use Rattle.export_desk.proofs.{Replies.release_reply_lem, Replies.release_short, Replies.release_done}
 use Rattle.export_desk.proofs.release.Goals as goal
 
 pub returns-then-answer-ne12 : goal.returns-then-answer-ne12
 returns-then-answer-ne12 c =
     release_short c.args.queue.now c.args.slot c.args.room.now c.args.answer.now c.if-answer-ne12.true
 
-pub told-requires : goal.told-requires
+pub three-requires : goal.three-requires
 unfolding at
-told-requires c =
-    subst (ReplyFits (means c.release-r.result [])) (sym c.if-answer-ne12.false)
-    (holds_any c.release-r.result _ 12 (subst (λ (q : QueueReply). ReplyFits q 12) (sym c.release-r.ensures.answers)
-    (release_reply_lem c.args.queue.now (λ i. (c.slice_known-1.given i).fits) c.args.slot c.args.room.now)))
+three-requires c =
+    let h = subst (λ (q : QueueReply). ReplyFits q 12) (sym c.release.ensures.answers ∙ ap (λ (r : Result ℕ Question). means_released r c.release.new.room) c.in-Ok.is)
+    (release_reply_lem c.args.queue.now (λ i. (c.slice_known-1.given i).fits) c.args.slot c.args.room.now) in
+    (c.if-answer-ne12.false, omega arith, h.1, omega arith)
 
-pub returns : goal.returns
-returns c =
-    release_done c.args.queue.now c.args.slot c.args.room.now c.args.answer.now c.if-answer-ne12.false _ c.release-r.ensures.answers c.told.result _ _ c.told.new.answer (c.told.ensures.value
-    ∙ code_any c.release-r.result _) c.release-r.ensures.leaves
-    c.release-r.ensures.writes (c.told.ensures.answer_after ∙ answer_any c.release-r.result _ c.args.answer.now)
+pub returns-in-Ok : goal.returns-in-Ok
+returns-in-Ok c =
+    release_done c.args.queue.now c.args.slot c.args.room.now c.args.answer.now c.if-answer-ne12.false (answered (released c.in-Ok.bytes c.release.new.room))
+    (sym (ap (λ (r : Result ℕ Question). means_released r c.release.new.room) c.in-Ok.is) ∙ c.release.ensures.answers) 0 c.release.new.queue c.release.new.room c.three.new.out refl
+    c.release.ensures.leaves c.release.ensures.writes c.three.ensures
+
+pub returns-in-Err : goal.returns-in-Err
+returns-in-Err c =
+    release_done c.args.queue.now c.args.slot c.args.room.now c.args.answer.now c.if-answer-ne12.false (refusal (number_of c.in-Err.question) 0)
+    (sym (ap (λ (r : Result ℕ Question). means_released r c.release.new.room) c.in-Err.is) ∙ c.release.ensures.answers) c.refusal_code.result c.release.new.queue c.release.new.room
+    c.args.answer.now (c.refusal_code.ensures ∙ ap (λ (by : Refusal). number_of by.question * 256 + by.item) c.into.ensures) c.release.ensures.leaves c.release.ensures.writes refl

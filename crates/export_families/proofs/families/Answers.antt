@@ -1,7 +1,7 @@
 -- `families`: the answer's length is asked first; then the figure, as three numbers. Assumes nothing.
-use Rattle.model.specs.Kit.{refl, sym, ap, ◌∙◌, arith}
-use Rattle.families_figure.specs.Figure.{number, dash}
-use Rattle.families_count.specs.Told.{refusal, told, means}
+use Rattle.model.specs.Kit.{refl, sym, ap, ◌∙◌, ℕ, arith}
+use Rattle.std.specs.Prelude.{Option}
+use Rattle.families_count.specs.Told.{told, figure_of}
 use Rattle.families_count.proofs.Bare.{told_few}
 use Rattle.wire.proofs.Codes.{refused_small}
 use Rattle.export_lent.proofs.Lent.{lent_small}
@@ -11,29 +11,23 @@ use Rattle.export_families.proofs.families.Goals as goal
 pub returns-then-answer-ne12 : goal.returns-then-answer-ne12
 returns-then-answer-ne12 c = wrong_answer _ _ _ _ _ c.if-answer-ne12.true
 
-pub code-requires : goal.code-requires
-code-requires c =
-    refused_small _ c.in-Refused.number c.in-Refused.item (refusal_counted _ _ _ _ _ _ (sym (ap means c.in-Refused.is) ∙ c.families-r.ensures)) (lent_small _ _ _)
+pub refusal_code-requires : goal.refusal_code-requires
+refusal_code-requires c = refused_small _ _ _ (refusal_counted _ _ _ _ _ _ c.in-Err.ensures) (lent_small _ _ _)
 
-pub three-requires-in-Number : goal.three-requires-in-Number
-three-requires-in-Number c =
-    let f = told_few _ _ _ _ _ (sym (ap means c.in-Number.is) ∙ c.families-r.ensures) in
+pub three-requires-in-Ok-Some : goal.three-requires-in-Ok-Some
+three-requires-in-Ok-Some c =
+    let f = told_few _ _ _ _ _ (sym (ap (λ (k : Option ℕ). told (figure_of k)) c.in-Ok-Some.field-0-is) ∙ c.in-Ok-Some.ensures) in
     (c.if-answer-ne12.false, omega arith, omega arith, omega arith)
 
-pub returns-in-Refused : goal.returns-in-Refused
-returns-in-Refused c =
-    right_answer _ _ _ _ _ (refusal c.in-Refused.number c.in-Refused.item) _ _ c.if-answer-ne12.false
-    (sym (ap means c.in-Refused.is) ∙ c.families-r.ensures) c.code.ensures refl
+pub returns-in-Err : goal.returns-in-Err
+returns-in-Err c = right_answer _ _ _ _ _ _ _ _ c.if-answer-ne12.false c.in-Err.ensures c.refusal_code.ensures refl
 
-pub returns-in-Dash : goal.returns-in-Dash
-returns-in-Dash c =
-    right_answer _ _ _ _ _ (told dash) _ _ c.if-answer-ne12.false
-    (sym (ap means c.in-Dash.is) ∙ c.families-r.ensures) refl c.three.ensures
+pub returns-in-Ok-None : goal.returns-in-Ok-None
+returns-in-Ok-None c =
+    right_answer _ _ _ _ _ _ _ _ c.if-answer-ne12.false (sym (ap (λ (k : Option ℕ). told (figure_of k)) c.in-Ok-None.field-0-is) ∙ c.in-Ok-None.ensures) refl
+    c.three.ensures
 
-pub returns-in-Number : goal.returns-in-Number
-returns-in-Number c =
-    right_answer _ _ _ _ _ (told (number c.in-Number.k)) _ _ c.if-answer-ne12.false
-    (sym (ap means c.in-Number.is) ∙ c.families-r.ensures) refl c.three-in-Number.ensures
-
-pub three-requires : goal.three-requires
-three-requires c = (c.if-answer-ne12.false, omega arith, omega arith, omega arith)
+pub returns-in-Ok-Some : goal.returns-in-Ok-Some
+returns-in-Ok-Some c =
+    right_answer _ _ _ _ _ _ _ _ c.if-answer-ne12.false (sym (ap (λ (k : Option ℕ). told (figure_of k)) c.in-Ok-Some.field-0-is) ∙ c.in-Ok-Some.ensures) refl
+    c.three-in-Ok-Some.ensures

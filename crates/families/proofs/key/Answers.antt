@@ -24,12 +24,6 @@ overflow_mul-r c =
     let short : Short = key_small c.loop-x.x _ (omega arith) (λ x l. c.requires.2 x (omega arith)) in
     omega (arith, short)
 
-pub overflow_add-r : goal.overflow_add-r
-overflow_add-r c = omega arith
-
-pub bounds-rows-from : goal.bounds-rows-from
-bounds-rows-from c = omega arith
-
 pub overflow_cast-r : goal.overflow_cast-r
 overflow_cast-r c = omega (arith, c.shared_slice_known-1.given (c.args.from + c.loop-x.x))
 
@@ -38,9 +32,3 @@ overflow_add-r-in-loop-x c =
     let Short : Type 0 = key_of c.loop-x.x (λ x. at c.args.rows.now (c.args.from + x)) < 281474976710656 in
     let short : Short = key_small c.loop-x.x _ (omega arith) (λ x l. c.requires.2 x (omega arith)) in
     omega (arith, short, c.shared_slice_known-1.given (c.args.from + c.loop-x.x))
-
-pub overflow_add-x : goal.overflow_add-x
-overflow_add-x c = omega arith
-
-pub loop-x-smaller : goal.loop-x-smaller
-loop-x-smaller c = omega arith

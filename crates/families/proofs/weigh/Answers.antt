@@ -25,12 +25,6 @@ returns c = λ d l. c.loop-c.invariant.2 d (omega arith)
 pub overflow_mul-end : goal.overflow_mul-end
 overflow_mul-end c = omega (arith, c.requires.0)
 
-pub overflow_sub-weights : goal.overflow_sub-weights
-overflow_sub-weights c = omega arith
-
-pub overflow_sub-weights-in-loop-c : goal.overflow_sub-weights-in-loop-c
-overflow_sub-weights-in-loop-c c = omega arith
-
 pub overflow_mul-weights : goal.overflow_mul-weights
 overflow_mul-weights c = omega (arith, c.requires.0)
 
@@ -42,9 +36,3 @@ offset_bounds-weights-c c = omega (arith, c.requires.0)
 
 pub bounds-weights-c : goal.bounds-weights-c
 bounds-weights-c c = omega (arith, c.requires.0)
-
-pub overflow_add-c : goal.overflow_add-c
-overflow_add-c c = omega (arith, c.requires.0)
-
-pub loop-c-smaller : goal.loop-c-smaller
-loop-c-smaller c = omega arith

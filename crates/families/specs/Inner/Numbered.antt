@@ -1,7 +1,8 @@
 -- What the functions that count families are lent, of which problem.
-use Rattle.std.specs.Prelude.{◌≡◌, List, ℕ, zero, suc, ◌+◌, ◌-◌, ◌*◌, ◌/◌, ◌%◌, ◌^◌, ◌≤◌, ◌<◌, length, T}
+use Rattle.std.specs.Prelude.{◌≡◌, Bool, List, ℕ, zero, suc, ◌+◌, ◌-◌, ◌*◌, ◌/◌, ◌%◌, ◌^◌, ◌≤◌, ◌<◌, length, T}
 use Rattle.model.specs.{Lists.at, Problem.Problem, Problem.is_solution, Inner.WellFormed.WellFormed, Inner.WellFormed.Respected}
 use Rattle.arrays.specs.Inner.Layout.{Images}
+use Rattle.families.specs.declared.Solutions.{Solutions}
 use Rattle.families.specs.{Families.solutions_of, Inner.Walk.solution_at, Inner.Walk.Walk}
 
 -- the solutions, ascending, row after row
@@ -82,12 +83,24 @@ pub record Counted (p : Problem) (rows images : List ℕ) (variables symmetries 
   pub every : solutions ≡ length (solutions_of p)
   pub each : symmetries ≡ length p.symmetries
 
-pub record Flooding (p : Problem) (rows images keys heads weights : List ℕ) (variables symmetries : ℕ) (seen queue : List ℕ) (starts count head tail : ℕ) : Type 0 where
+pub record Flooding (p : Problem) (rows images keys heads weights : List ℕ) (variables symmetries : ℕ) (seen : List Bool) (queue : List ℕ) (starts count head tail : ℕ) : Type 0 where
   pub lent : Imaged p rows images variables
   pub each : symmetries ≡ length p.symmetries
   pub finder : Finder p keys heads weights variables
   pub walk : Walk p seen queue starts count head 0 tail
 
-pub record Spreading (p : Problem) (rows images keys heads weights : List ℕ) (variables symmetries : ℕ) (seen queue : List ℕ) (starts count head tail : ℕ) : Type 0 where
+pub record Spreading (p : Problem) (rows images keys heads weights : List ℕ) (variables symmetries : ℕ) (seen : List Bool) (queue : List ℕ) (starts count head tail : ℕ) : Type 0 where
   pub flooding : Flooding p rows images keys heads weights variables symmetries seen queue starts count head tail
   pub some : head < tail
+
+-- ---- the same of what the code holds together
+abbrev pub NumberingOf : Problem → Solutions → ℕ → ℕ → Type 0
+NumberingOf p f i k = Numbering p f.rows.now f.images.now f.keys.now f.heads.now f.weights.now f.variables i k
+
+abbrev pub FloodingOf : Problem → Solutions → List Bool → List ℕ → ℕ → ℕ → ℕ → ℕ → Type 0
+FloodingOf p f seen queue starts count head tail =
+    Flooding p f.rows.now f.images.now f.keys.now f.heads.now f.weights.now f.variables f.symmetries seen queue starts count head tail
+
+abbrev pub SpreadingOf : Problem → Solutions → List Bool → List ℕ → ℕ → ℕ → ℕ → ℕ → Type 0
+SpreadingOf p f seen queue starts count head tail =
+    Spreading p f.rows.now f.images.now f.keys.now f.heads.now f.weights.now f.variables f.symmetries seen queue starts count head tail

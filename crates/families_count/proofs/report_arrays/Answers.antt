@@ -2,7 +2,7 @@
 use Rattle.model.specs.Kit.{refl, sym, ◌*◌, arith, length-take-le}
 use Rattle.model.specs.Lists.{at}
 use Rattle.arrays.specs.Inner.Places.{VARIABLES}
-use Rattle.families_count.proofs.ReportRuns.{report_few, report_runs, report_listed, report_stopped, report_told_so}
+use Rattle.families_count.proofs.ReportRuns.{report_few, report_runs, report_listed, report_told_so}
 use Rattle.families_count.proofs.report_arrays.Goals as goal
 
 pub overflow_mul-used : goal.overflow_mul-used
@@ -22,13 +22,6 @@ unfolding at
 run_arrays-part-requires c =
     (_, report_runs _ c.args.limit _ _ _ c.requires.0.1 _ _ _ c.requires.1 _ (length-take-le _ _ (omega (arith, report_few _ 0 _ _ _ c.requires.0.1, c.requires.2))))
 
-pub answered-answer-requires : goal.answered-answer-requires
-unfolding at
-answered-answer-requires c =
-    let n = at c.args.numbers.now VARIABLES in
-    let l = length-take-le (4096 * n) c.args.list.now (omega (arith, report_few _ 0 _ _ _ c.requires.0.1, c.requires.2)) in
-    report_stopped _ c.args.limit _ _ _ c.requires.0.1 _ _ _ c.requires.1 _ l _ _ _ _ _ _ _ (c.run_arrays-part.ensures _ (report_runs _ c.args.limit _ _ _ c.requires.0.1 _ _ _ c.requires.1 _ l))
-
 pub report_figure-figure-requires : goal.report_figure-figure-requires
 unfolding at
 report_figure-figure-requires c =
@@ -43,5 +36,5 @@ returns c = λ b k.
     let l = length-take-le (4096 * n) c.args.list.now (omega (arith, report_few _ 0 _ _ _ k, c.requires.2)) in
     let g = c.run_arrays-part.ensures _ (report_runs _ c.args.limit _ _ _ k _ _ _ c.requires.1 _ l) in
     let s = report_listed _ c.args.limit _ _ _ k _ _ _ c.requires.1 _ l _ _ _ _ _ _ _ g in
-    report_told_so _ c.args.limit _ _ _ k _ _ _ c.requires.1 _ l _ _ _ _ _ _ _ g _ refl _ c.answered-answer.ensures _
+    report_told_so _ c.args.limit _ _ _ k _ _ _ c.requires.1 _ l _ _ _ _ _ _ _ g _ refl _ c.answered-ending.ensures _
     (c.report_figure-figure.ensures _ s) _ refl c.run_arrays-part.auto.list

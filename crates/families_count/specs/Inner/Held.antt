@@ -7,7 +7,7 @@ use Rattle.run_state.specs.Inner.Walk.{stop_in}
 use Rattle.run_search.specs.Inner.Begun.{Writable}
 use Rattle.run.specs.Calls.{CallRun}
 use Rattle.families_figure.specs.Figure.{report_figure}
-use Rattle.families_count.specs.{Told.told, Told.means, declared.ReportRun.ReportRun}
+use Rattle.families_count.specs.{Told.told, Told.figure_of, declared.ReportRun.ReportRun}
 
 -- n is the number of variables of a sheet that is accepted, and never above 12
 pub record Sized (b : List ℕ) (n : ℕ) : Type 0 where
@@ -75,4 +75,4 @@ pub record Listed (b : List ℕ) (limit : ℕ) (stack work supports tables numbe
 pub record RunTold (b : List ℕ) (limit : ℕ) (list : List ℕ) (r : ReportRun) (list' : List ℕ) : Type 0 where
   pub sized : Sized b r.variables
   pub call : CallRun b limit (take (4096 * r.variables) list) r.answer (take (4096 * r.variables) list')
-  pub figure : verdict_of b ≡ accepted → means r.figure ≡ told (report_figure b limit)
+  pub figure : verdict_of b ≡ accepted → told (figure_of r.figure) ≡ told (report_figure b limit)

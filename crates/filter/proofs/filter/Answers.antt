@@ -1,16 +1,17 @@
 -- `filter::filter` meets its contract. Assumes nothing.
+use Rattle.std.proofs.lemmas.Result.{err_from_is_err_and}
 use Rattle.filter.proofs.{Questions.accepted_listed, Questions.after_accepted, Questions.after_refused}
 use Rattle.filter.proofs.filter.Goals as goal
 
 pub apply-requires : goal.apply-requires
-apply-requires c = accepted_listed c.args.sets.now
-    c.args.index.now c.args.equal.now c.args.not_equal.now c.question-verdict.result c.question-verdict.ensures c.in-Accepted.is
+apply-requires c = accepted_listed c.args.sets.now c.args.index.now c.args.equal.now c.args.not_equal.now c.question.result c.question.ensures c.in_ok-question.was
 
-pub returns-in-Accepted : goal.returns-in-Accepted
-returns-in-Accepted c =
+pub returns : goal.returns
+returns c =
     after_accepted c.args.sets.now c.args.index.now c.args.equal.now c.args.not_equal.now
-    c.question-verdict.result c.question-verdict.ensures c.apply.new.sets c.apply.result c.in-Accepted.is c.apply.ensures
+    c.question.result c.question.ensures c.apply.new.sets c.apply.result c.in_ok-question.was c.apply.ensures
 
-pub returns-in-Refused : goal.returns-in-Refused
-returns-in-Refused c = after_refused c.args.sets.now c.args.index.now c.args.equal.now c.args.not_equal.now c.question-verdict.result c.question-verdict.ensures c.in-Refused.number c.in-Refused.item
-    c.in-Refused.is
+pub returns-in_err-question : goal.returns-in_err-question
+returns-in_err-question c =
+    let p = err_from_is_err_and c.from_residual.result c.from_residual.ensures.1 in
+    rw (p.1, p.2) (after_refused c.args.sets.now c.args.index.now c.args.equal.now c.args.not_equal.now c.question.result c.question.ensures _ c.in_err-question.was)

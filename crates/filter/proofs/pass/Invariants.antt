@@ -1,12 +1,8 @@
-use Rattle.model.specs.Kit.{ℕ, ◌≤◌, ◌-◌, length, drop}
+use Rattle.model.specs.Kit.{ℕ, drop}
 use Rattle.model.specs.{Nogood.entries}
 use Rattle.filter.specs.{Inner.Lists.Ready, Inner.Scan.Passed}
 use Rattle.filter.proofs.pass.Given as goal
 
 abbrev pub invariant-loop-i : goal.invariant-loop-i
-invariant-loop-i l = ((l.start ≤ l.i) × (l.i ≤ length l.index)) ×
-    ((n : ℕ) → Ready n l.initial.sets l.index l.equal l.not_equal l.start →
-    Passed n l.initial.sets (drop l.start (entries l.index l.equal l.not_equal)) l.sets (drop l.i (entries l.index l.equal l.not_equal)))
-
-abbrev pub decreases-loop-i : goal.decreases-loop-i
-decreases-loop-i l = length l.index - l.i
+invariant-loop-i l = (n : ℕ) → Ready n l.initial.sets l.index l.equal l.not_equal l.start →
+    Passed n l.initial.sets (drop l.start (entries l.index l.equal l.not_equal)) l.sets (drop l.i (entries l.index l.equal l.not_equal))

@@ -1,20 +1,15 @@
 -- What the functions that read the three lists say to each other.
-use Rattle.std.specs.Prelude.{◌≡◌, Bool, true, false, List, [], map, ℕ, ◌≤◌, ◌<◌, length, set, take, drop}
-use Rattle.model.specs.Nogood.{Entry, equality, filtered, filter_ending, answered, Kind, is_equality, is_disequality, both_absent, both_present, entry_of, entries}
-use Rattle.model.specs.{Lists.at, ValueSets.only_mask, Verdict.Verdict, Verdict.accepted, Verdict.refused}
-use Rattle.filter.specs.{Meaning.means, declared.Answer.Answer, declared.Ending.Ending, declared.Kind.TheVariants.Equality, declared.Kind.TheVariants.Disequality}
+use Rattle.std.specs.Prelude.{◌≡◌, Bool, true, false, List, [], map, ℕ, ◌≤◌, ◌<◌, Option, length, set, take, drop}
+use Rattle.model.specs.Nogood.{Entry, equality, filtered, filter_ending, Kind, is_equality, is_disequality, both_absent, both_present, entry_of, entries, first_wrong}
+use Rattle.model.specs.{Lists.at, ValueSets.only_mask}
+use Rattle.filter.specs.{Meaning.ending_of, declared.Ending.Ending, declared.Kind.TheVariants.Equality, declared.Kind.TheVariants.Disequality}
 use Rattle.filter.specs.{declared.Kind.TheVariants.BothAbsent, declared.Kind.TheVariants.BothPresent, declared.Reached.Reached, declared.Reached.TheVariants.Failed}
 use Rattle.filter.specs.{declared.Reached.TheVariants.End, declared.Reached.TheVariants.Split, Inner.Scan.Right, Inner.Scan.step_of, Inner.Scan.None, Inner.Scan.Live}
 use Rattle.filter.specs.Inner.Scan.{Passed, Resolved}
-use Rattle.filter.specs.declared.Verdict as code
-use Rattle.filter.specs.declared.Verdict.TheVariants as verdict
+use Rattle.std.specs.Prelude as prelude
 use Rattle.filter.specs.declared.Ending.TheVariants as ending
 use Rattle.filter.specs.declared.Kind as kind
 use Rattle.filter.specs.declared.entry.Step.TheVariants as step
-
-abbrev pub verdict_is : code.Verdict → Verdict
-verdict_is verdict.Accepted = accepted
-verdict_is (verdict.Refused number item) = refused number item
 
 -- an entry's kind as the code has it: with the value that is there
 abbrev pub kind_as : Kind → ℕ → ℕ → kind.Kind
@@ -28,6 +23,11 @@ pub record Listed (n : ℕ) (xs es us : List ℕ) : Type 0 where
   pub equals : length es ≡ length xs
   pub others : length us ≡ length xs
   pub right : (j : ℕ) → j < length xs → Right n (entry_of (at xs j) (at es j) (at us j))
+
+-- the first entry that is not right, if there is one
+abbrev pub WrongFound : ℕ → List ℕ → List ℕ → List ℕ → Option ℕ → Type 0
+WrongFound n xs es us prelude.None = length xs ≡ first_wrong n xs es us
+WrongFound n xs es us (prelude.Some i) = (i < length xs) × (i ≡ first_wrong n xs es us)
 
 -- a pass from an entry may begin
 pub record Ready (n : ℕ) (ss xs es us : List ℕ) (start : ℕ) : Type 0 where
@@ -72,7 +72,7 @@ abbrev pub Loaded : Bool → List ℕ → List ℕ → Type 0
 Loaded true ss rs = (x : ℕ) × (x < length ss) × (at ss x ≡ 0)
 Loaded false ss rs = (take (length ss) rs ≡ ss) × Live (length ss) rs
 
--- they are what the filter leaves, and the answer says how it ended
-pub record Applied (ss : List ℕ) (es : List Entry) (rs : List ℕ) (r : Answer) : Type 0 where
+-- they are what the filter leaves, and so it ended
+pub record Applied (ss : List ℕ) (es : List Entry) (rs : List ℕ) (r : Ending) : Type 0 where
   pub left : rs ≡ filtered ss es
-  pub answer : means r ≡ answered (filter_ending ss es)
+  pub ended : ending_of r ≡ filter_ending ss es

@@ -2,19 +2,19 @@
 use Rattle.model.specs.Kit.{sym, ◌∙◌, arith}
 use Rattle.list_columns.proofs.{Asking.no_store, Asking.size_asked, Asking.product}
 use Rattle.list_columns.proofs.is_store.Goals as goal
+use Rattle.list_columns.proofs.is_store.Goals.{then-store-lt8-via-then-store-lt8, then-store-lt8-via-else-store-lt8+then-word_at-ne8}
+use Rattle.list_columns.proofs.is_store.Goals.{then-store-lt8-via-else-store-lt8+else-word_at-ne8+then-store-word_at}
 
 pub returns-then-store-lt8 : goal.returns-then-store-lt8
-returns-then-store-lt8 c = sym (no_store _ (λ w. omega (arith, w.long)))
-
-pub returns-then-word_at-ne8 : goal.returns-then-word_at-ne8
-returns-then-word_at-ne8 c = sym (no_store _ (λ w. c.if-word_at-ne8.true (c.word_at.ensures.0 ∙ w.offset)))
-
-pub returns-then-store-word_at : goal.returns-then-store-word_at
-returns-then-store-word_at c = sym (no_store _ (λ w. c.if-store-word_at.true (w.total ∙ sym c.word_at-2.ensures.0)))
+returns-then-store-lt8 c = sym (no_store _ (λ store. (elim c.then-store-lt8.branch [
+  | then-store-lt8-via-then-store-lt8 w ↦ omega (arith, store.long)
+  | then-store-lt8-via-else-store-lt8+then-word_at-ne8 w ↦ w.if-word_at-ne8.true (w.word_at.ensures.0 ∙ store.offset)
+  | then-store-lt8-via-else-store-lt8+else-word_at-ne8+then-store-word_at w ↦ w.if-store-word_at.true (store.total ∙ sym w.word_at-else-word_at-ne8.ensures.0)
+])))
 
 pub returns : goal.returns
 returns c =
-    size_asked _ _ _ c.if-store-lt8.false (sym c.word_at.ensures.0 ∙ c.if-word_at-ne8.false) (c.if-store-word_at.false ∙ c.word_at-2.ensures.0)
+    size_asked _ _ _ c.if-store-lt8.false (sym c.word_at.ensures.0 ∙ c.if-word_at-ne8.false) (c.if-store-word_at.false ∙ c.word_at-else-word_at-ne8.ensures.0)
     c.word_at-variables.ensures.0 c.word_at-plans.ensures.0
 
 pub overflow_mul-result : goal.overflow_mul-result

@@ -5,7 +5,7 @@ use Rattle.list_columns.proofs.{Copying.put_none, Copying.column_fits, Copying.c
 use Rattle.list_columns.proofs.put_columns.Goals as goal
 
 pub loop-x-init : goal.loop-x-init
-loop-x-init c = (search rules, put_none _ _ _ _ _ _ _)
+loop-x-init c = put_none _ _ _ _ _ _ _
 
 pub overflow_mul-x : goal.overflow_mul-x
 overflow_mul-x c =
@@ -18,22 +18,19 @@ overflow_add-at c =
 pub copy-requires : goal.copy-requires
 copy-requires c = (
   search rules,
-  column_fits c.args.at c.args.rows.now c.args.variables c.args.plans c.args.out.now c.requires.0 c.requires.1 c.loop-x.x _ c.loop-x-test.true c.loop-x.invariant.1.same,
+  column_fits c.args.at c.args.rows.now c.args.variables c.args.plans c.args.out.now c.requires.0 c.requires.1 c.loop-x.x _ (omega arith) c.loop-x.invariant.same,
   column_inside c.args.at c.args.rows.now
-      c.args.variables c.args.plans c.args.out.now c.requires.0 c.requires.1 c.loop-x.x c.loop-x-test.true,
+      c.args.variables c.args.plans c.args.out.now c.requires.0 c.requires.1 c.loop-x.x (omega arith),
 )
 
 pub loop-x-preserved : goal.loop-x-preserved
-loop-x-preserved c = (
-  search rules,
-  column_turn c.args.at c.args.rows.now c.args.variables c.args.plans c.args.out.now c.requires.0 c.requires.1 c.loop-x.x c.loop-x-test.true c.copy.auto.out
-      c.copy.ensures c.loop-x.invariant.1,
-)
+loop-x-preserved c = column_turn c.args.at c.args.rows.now c.args.variables c.args.plans c.args.out.now c.requires.0 c.requires.1 c.loop-x.x (omega arith) c.copy.auto.out
+    c.copy.ensures c.loop-x.invariant
 
 pub returns : goal.returns
 returns c =
-    columns_whole c.args.at c.args.rows.now c.args.variables c.args.plans c.args.out.now c.requires.0 c.requires.1 c.loop-x.x (le_antisymm c.loop-x.invariant.0 c.loop-x-test.false)
-    c.loop-x.invariant.1
+    columns_whole c.args.at c.args.rows.now c.args.variables c.args.plans c.args.out.now c.requires.0 c.requires.1 c.loop-x.x (le_antisymm (omega arith) (omega arith))
+    c.loop-x.invariant
 
 pub shape_of-out : goal.shape_of-out
-shape_of-out c = c.loop-x.invariant.1.same
+shape_of-out c = c.loop-x.invariant.same

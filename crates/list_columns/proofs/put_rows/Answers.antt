@@ -5,7 +5,7 @@ use Rattle.list_columns.proofs.{Copying.put_none, Copying.row_fits, Copying.row_
 use Rattle.list_columns.proofs.put_rows.Goals as goal
 
 pub loop-x-init : goal.loop-x-init
-loop-x-init c = (search rules, put_none _ _ _ _ _ _ _)
+loop-x-init c = put_none _ _ _ _ _ _ _
 
 pub overflow_mul-x : goal.overflow_mul-x
 overflow_mul-x c =
@@ -14,21 +14,18 @@ overflow_mul-x c =
 pub copy-requires : goal.copy-requires
 copy-requires c = (
   search rules,
-  row_fits c.args.columns.now c.args.variables c.args.plans c.args.out.now c.requires.0 c.requires.1 c.loop-x.x _ c.loop-x-test.true c.loop-x.invariant.1.same,
+  row_fits c.args.columns.now c.args.variables c.args.plans c.args.out.now c.requires.0 c.requires.1 c.loop-x.x _ (omega arith) c.loop-x.invariant.same,
   row_inside c.args.columns.now c.args.variables
-      c.args.plans c.args.out.now c.requires.0 c.requires.1 c.loop-x.x c.loop-x-test.true,
+      c.args.plans c.args.out.now c.requires.0 c.requires.1 c.loop-x.x (omega arith),
 )
 
 pub loop-x-preserved : goal.loop-x-preserved
-loop-x-preserved c = (
-  search rules,
-  row_turn c.args.columns.now c.args.variables c.args.plans c.args.out.now c.requires.0 c.requires.1 c.loop-x.x c.loop-x-test.true c.copy.auto.out
-      c.copy.ensures c.loop-x.invariant.1,
-)
+loop-x-preserved c = row_turn c.args.columns.now c.args.variables c.args.plans c.args.out.now c.requires.0 c.requires.1 c.loop-x.x (omega arith) c.copy.auto.out
+    c.copy.ensures c.loop-x.invariant
 
 pub returns : goal.returns
 returns c =
-    rows_whole c.args.columns.now c.args.variables c.args.plans c.args.out.now c.requires.0 c.requires.1 c.loop-x.x (le_antisymm c.loop-x.invariant.0 c.loop-x-test.false) c.loop-x.invariant.1
+    rows_whole c.args.columns.now c.args.variables c.args.plans c.args.out.now c.requires.0 c.requires.1 c.loop-x.x (le_antisymm (omega arith) (omega arith)) c.loop-x.invariant
 
 pub shape_of-out : goal.shape_of-out
-shape_of-out c = c.loop-x.invariant.1.same
+shape_of-out c = c.loop-x.invariant.same

@@ -2,18 +2,16 @@
 use Rattle.model.specs.Kit.{sym, ◌∙◌, arith, rules}
 use Rattle.list_columns.proofs.{Asking.Whole, Asking.few_bytes, Asking.no_rows, Asking.large, Asking.short, Asking.passes}
 use Rattle.list_columns.proofs.question.Goals as goal
+use Rattle.list_columns.proofs.question.Goals.{then-n-lt1-via-then-n-lt1, then-n-lt1-via-else-n-lt1+then-n-gt12}
+use Rattle.list_columns.proofs.question.Goals.{then-n-lt1-via-else-n-lt1+else-n-gt12+then-bytes-n-ne0, then-n-lt1-via-else-n-lt1+else-n-gt12+else-bytes-n-ne0+then-bytes-n-gt4096}
 
 pub returns-then-n-lt1 : goal.returns-then-n-lt1
-returns-then-n-lt1 c = no_rows _ _ _ _ (λ w. omega (arith, w.some))
-
-pub returns-then-n-gt12 : goal.returns-then-n-gt12
-returns-then-n-gt12 c = no_rows _ _ _ _ (λ w. omega (arith, w.most))
-
-pub returns-then-bytes-n-ne0 : goal.returns-then-bytes-n-ne0
-returns-then-bytes-n-ne0 c = no_rows _ _ _ _ (λ w. c.if-bytes-n-ne0.true w.whole)
-
-pub returns-then-bytes-n-gt4096 : goal.returns-then-bytes-n-gt4096
-returns-then-bytes-n-gt4096 c = no_rows _ _ _ _ (λ w. omega (arith, w.many))
+returns-then-n-lt1 c = no_rows _ _ _ _ (λ rows. (elim c.then-n-lt1.branch [
+  | then-n-lt1-via-then-n-lt1 w ↦ omega (arith, rows.some)
+  | then-n-lt1-via-else-n-lt1+then-n-gt12 w ↦ omega (arith, rows.most)
+  | then-n-lt1-via-else-n-lt1+else-n-gt12+then-bytes-n-ne0 w ↦ w.if-bytes-n-ne0.true rows.whole
+  | then-n-lt1-via-else-n-lt1+else-n-gt12+else-bytes-n-ne0+then-bytes-n-gt4096 w ↦ omega (arith, rows.many)
+]))
 
 pub returns-then-not-values : goal.returns-then-not-values
 returns-then-not-values c =

@@ -52,8 +52,8 @@ by_places-way-requires c =
           (c.requires.1.inside x m),
     )
 
-pub returns-in-Same : goal.returns-in-Same
-returns-in-Same c =
+pub returns-in-Equal : goal.returns-in-Equal
+returns-in-Equal c =
     let stood : c.if-plain.way' ≡ way_of
     (earlier_by c.args.order.now (take c.args.n c.loop-rest.rest.now) (take c.args.n (take (length c.loop-rest.rest.now - c.args.n) (drop c.args.n c.loop-rest.rest.now))))
     (earlier_by c.args.order.now (take c.args.n (take (length c.loop-rest.rest.now - c.args.n) (drop c.args.n c.loop-rest.rest.now))) (take c.args.n c.loop-rest.rest.now)) = let after =
@@ -68,10 +68,10 @@ returns-in-Same c =
     ]) in
     let after = take (length c.loop-rest.rest.now - c.args.n) (drop c.args.n c.loop-rest.rest.now) in
     sym (c.loop-rest.invariant.1 ∙ equal_rows c.args.n c.args.order.now c.loop-rest.rest.now after c.requires.0 c.loop-rest.invariant.0 c.loop-rest-test.true (part_is c.loop-rest.rest.now c.args.n)
-    c.if-plain.way' stood c.in-Same.is)
+    c.if-plain.way' stood c.in-Equal.is)
 
-pub returns-in-After : goal.returns-in-After
-returns-in-After c =
+pub returns-in-Greater : goal.returns-in-Greater
+returns-in-Greater c =
     let stood : c.if-plain.way' ≡ way_of
     (earlier_by c.args.order.now (take c.args.n c.loop-rest.rest.now) (take c.args.n (take (length c.loop-rest.rest.now - c.args.n) (drop c.args.n c.loop-rest.rest.now))))
     (earlier_by c.args.order.now (take c.args.n (take (length c.loop-rest.rest.now - c.args.n) (drop c.args.n c.loop-rest.rest.now))) (take c.args.n c.loop-rest.rest.now)) = let after =
@@ -86,7 +86,7 @@ returns-in-After c =
     ]) in
     let after = take (length c.loop-rest.rest.now - c.args.n) (drop c.args.n c.loop-rest.rest.now) in
     sym (c.loop-rest.invariant.1 ∙ falls c.args.n c.args.order.now c.loop-rest.rest.now after c.requires.0 c.loop-rest.invariant.0 c.loop-rest-test.true (part_is c.loop-rest.rest.now c.args.n)
-    c.if-plain.way' stood c.in-After.is)
+    c.if-plain.way' stood c.in-Greater.is)
 
 pub loop-rest-smaller : goal.loop-rest-smaller
 loop-rest-smaller c =
@@ -110,7 +110,7 @@ loop-rest-preserved c =
     let after = take (length c.loop-rest.rest.now - c.args.n) (drop c.args.n c.loop-rest.rest.now) in (
       whole_after c.args.n c.args.order.now c.loop-rest.rest.now after c.requires.0 c.loop-rest.invariant.0 c.loop-rest-test.true (part_is c.loop-rest.rest.now c.args.n),
       c.loop-rest.invariant.1 ∙ goes_on_lem c.args.n c.args.order.now c.loop-rest.rest.now after c.requires.0 c.loop-rest.invariant.0 c.loop-rest-test.true (part_is c.loop-rest.rest.now c.args.n)
-          c.if-plain.way' stood c.in-Before.is,
+          c.if-plain.way' stood c.in-Less.is,
     )
 
 pub returns : goal.returns

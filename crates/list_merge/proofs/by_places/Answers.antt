@@ -3,7 +3,7 @@ use Rattle.model.specs.Kit.{◌≡◌, refl, sym, ap, ap₂, ◌∙◌, List, �
 use Rattle.model.proofs.Lists.{mem_get_d}
 use Rattle.list_merge.specs.Inner.Inner.{way_of}
 use Rattle.order.specs.Reordered.{earlier_by}
-use Rattle.list_merge.proofs.{Stepping.way_same, Reading.onwards, Reading.come_eq, Reading.come_end, Reading.come_way}
+use Rattle.list_merge.proofs.{Stepping.way_same, Stepping.cmp_way, Reading.onwards, Reading.come_eq, Reading.come_end, Reading.come_way}
 use Rattle.list_merge.proofs.by_places.Goals as goal
 
 -- the place k decides, where the rows agree before it
@@ -37,7 +37,7 @@ at_place-y-requires c = (
 
 pub returns-then-x-y : goal.returns-then-x-y
 returns-then-x-y c =
-    c.way_of.ensures ∙ decided c.args.order.now c.args.a.now c.args.b.now c.loop-i.i _ _ (omega (arith, c.loop-i-test.true)) c.loop-i.invariant.1
+    c.cmp.ensures ∙ cmp_way c.at_place-x.result c.at_place-y.result ∙ decided c.args.order.now c.args.a.now c.args.b.now c.loop-i.i _ _ (omega (arith, c.loop-i-test.true)) c.loop-i.invariant.1
     c.loop-i.invariant.2 c.at_place-x.ensures c.at_place-y.ensures (λ z. absurd (c.if-x-y.true z))
 
 pub at_place-z-requires : goal.at_place-z-requires
@@ -56,7 +56,7 @@ at_place-w-requires c = (
 
 pub returns-then-z-w : goal.returns-then-z-w
 returns-then-z-w c =
-    c.way_of-then-z-w.ensures
+    c.cmp-then-z-w.ensures ∙ cmp_way c.at_place-z.result c.at_place-w.result
     ∙ decided c.args.order.now c.args.a.now c.args.b.now (c.loop-i.i + 1) _ _ (omega arith)
     (onward c.args.order.now c.args.a.now c.args.b.now c.loop-i.i (c.loop-i.i + 1) _ _ (omega arith) refl c.loop-i.invariant.1 c.at_place-x.ensures c.at_place-y.ensures c.if-x-y.false)
     (onward c.args.order.now c.args.b.now c.args.a.now c.loop-i.i (c.loop-i.i + 1) _ _ (omega arith) refl c.loop-i.invariant.2 c.at_place-y.ensures c.at_place-x.ensures (sym c.if-x-y.false))
@@ -86,7 +86,8 @@ at_place-requires-then-i-order c = (omega (arith, c.if-i-order.true), (c.require
 
 pub returns-then-i-order : goal.returns-then-i-order
 returns-then-i-order c =
-    c.way_of-then-i-order.ensures ∙ decided c.args.order.now c.args.a.now c.args.b.now c.loop-i.i _ _ c.if-i-order.true c.loop-i.invariant.1 c.loop-i.invariant.2
+    c.cmp-then-i-order.ensures ∙ cmp_way c.at_place.result c.at_place-then-i-order.result
+    ∙ decided c.args.order.now c.args.a.now c.args.b.now c.loop-i.i _ _ c.if-i-order.true c.loop-i.invariant.1 c.loop-i.invariant.2
     c.at_place.ensures c.at_place-then-i-order.ensures (λ z. omega (arith, c.loop-i-test.false))
 
 pub returns : goal.returns

@@ -8,20 +8,20 @@ use Rattle.list_merge.proofs.merge_by.Goals as goal
 
 pub returns-then-not-ascend : goal.returns-then-not-ascend
 returns-then-not-ascend c = let r = no_25 c.args.n c.args.order.now c.args.first.now c.args.second.now c.args.room.now (sym c.ascend.ensures ∙ c.if-not-ascend.true) in
-    record { result_value = c.refused.ensures ∙ r.0; room_after = r.1 }
+    record { result_value = r.0; room_after = r.1 }
 
 pub returns-then-not-ascend-2 : goal.returns-then-not-ascend-2
 returns-then-not-ascend-2 c =
     let first_ascends : ascends c.args.order.now (rows_in c.args.n c.args.first.now) ≡ true = sym c.ascend.ensures ∙ c.if-not-ascend.false in
     let r = no_26 c.args.n c.args.order.now c.args.first.now c.args.second.now c.args.room.now first_ascends
-    (sym c.ascend-2.ensures ∙ c.if-not-ascend-2.true) in record { result_value = c.refused-then-not-ascend-2.ensures ∙ r.0; room_after = r.1 }
+    (sym c.ascend-2.ensures ∙ c.if-not-ascend-2.true) in record { result_value = r.0; room_after = r.1 }
 
 pub returns-then-not-fits : goal.returns-then-not-fits
 returns-then-not-fits c =
     let first_ascends : ascends c.args.order.now (rows_in c.args.n c.args.first.now) ≡ true = sym c.ascend.ensures ∙ c.if-not-ascend.false in
     let second_ascends : ascends c.args.order.now (rows_in c.args.n c.args.second.now) ≡ true = sym c.ascend-2.ensures ∙ c.if-not-ascend-2.false in
     let r = no_27 c.args.n c.args.order.now c.args.first.now c.args.second.now c.args.room.now first_ascends
-    second_ascends (sym c.fits.ensures.0 ∙ c.if-not-fits.true) in record { result_value = c.refused-then-not-fits.ensures ∙ r.0; room_after = c.fits.ensures.1 ∙ r.1 }
+    second_ascends (sym c.fits.ensures.0 ∙ c.if-not-fits.true) in record { result_value = r.0; room_after = c.fits.ensures.1 ∙ r.1 }
 
 pub walk-requires : goal.walk-requires
 walk-requires c =

@@ -1,7 +1,7 @@
 -- `walk`: the rows so far and those that are left are the whole. Assumes nothing.
-use Rattle.model.specs.Kit.{◌≡◌, sym, ◌∙◌, subst, ⊎_elim, inl, inr, List, ℕ, ◌-◌, ◌≤◌, arith, rules, length, take, drop}
-use Rattle.model.specs.{Room.Outcome, Written.Written}
-use Rattle.list_merge.specs.{Merge.merged_by, Merge.next_row, Inner.Inner.taken, Inner.Inner.Walked}
+use Rattle.model.specs.Kit.{◌≡◌, sym, ◌∙◌, subst, inl, inr, List, ℕ, ◌-◌, ◌≤◌, arith, rules, length, take, drop}
+use Rattle.model.specs.{Written.Written}
+use Rattle.list_merge.specs.{Merge.next_row, Inner.Inner.taken}
 use Rattle.list_merge.proofs.Walking.{walking, Put, walked, has_room, width, lacks, on}
 use Rattle.list_merge.proofs.{Turning.part_is, Turning.first_taken, Turning.second_taken, Turning.left, Turning.right, Turning.fewer}
 use Rattle.list_merge.proofs.walk.Goals as goal
@@ -32,11 +32,9 @@ put_row-requires c =
 pub returns-then-out-at : goal.returns-then-out-at
 returns-then-out-at c =
     let row_is : c.next-row.result.now ≡ next_row c.args.n c.args.order.now c.loop-a.a.now c.loop-a.b.now = c.next-row.ensures.result_value in
-    subst (λ (o : Outcome). Walked c.args.writes c.args.out.now (merged_by c.args.n c.args.order.now c.args.first.now c.args.second.now) c.loop-a.out o)
-    (sym c.refused.ensures)
-    (lacks c.args.n c.args.order.now c.args.writes c.args.out.now _ c.loop-a.a.now c.loop-a.b.now c.loop-a.out c.loop-a.at c.loop-a.invariant
+    lacks c.args.n c.args.order.now c.args.writes c.args.out.now _ c.loop-a.a.now c.loop-a.b.now c.loop-a.out c.loop-a.at c.loop-a.invariant
     c.next-row.result.now row_is c.if-row-eq0.false c.if-writes.false
-    c.if-out-at.true)
+    c.if-out-at.true
 
 pub overflow_add-at : goal.overflow_add-at
 overflow_add-at c =

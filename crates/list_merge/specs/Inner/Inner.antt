@@ -3,7 +3,9 @@ use Rattle.std.specs.Prelude.{◌≡◌, Bool, true, false, not, List, ℕ, ◌+
 use Rattle.model.specs.Kit.{Memᴰ}
 use Rattle.model.specs.{Lists.both, Lists.same, Lists.below, Written.Written, Room.rows_in, Room.Outcome, Room.wrote, Room.refusal}
 use Rattle.order.specs.Reordered.{earlier_by}
-use Rattle.list_merge.specs.{Merge.ascends, declared.Way.Way, declared.Way.TheVariants.Before, declared.Way.TheVariants.Same, declared.Way.TheVariants.After}
+use Rattle.list_merge.specs.{Merge.ascends}
+use Rattle.std.specs.declared.cmp.Ordering.{Ordering}
+use Rattle.std.specs.declared.cmp.Ordering.TheVariants.{Less, Equal, Greater}
 
 -- an order of n variables: each is below n, and each below n is there
 pub record Places (n : ℕ) (order : List ℕ) : Type 0 where
@@ -51,10 +53,10 @@ pub record Decides (n : ℕ) (a b : List ℕ) (r : ℕ) : Type 0 where
 
 -- ---- ways
 -- how a row stands to another, by whether it reads earlier, and the other does
-abbrev pub way_of : Bool → Bool → Way
-way_of true b = Before
-way_of false true = After
-way_of false false = Same
+abbrev pub way_of : Bool → Bool → Ordering
+way_of true b = Less
+way_of false true = Greater
+way_of false false = Equal
 
 -- what is left of the two lists is whole rows
 pub record Rests (n : ℕ) (order a b : List ℕ) : Type 0 where
@@ -70,35 +72,35 @@ pub record Sorts (n : ℕ) (order a b : List ℕ) : Type 0 where
   pub second : T (ascends order (rows_in n b))
 
 -- how the second list's next row stands to the first's; a list at its end comes after the other
-unfoldable pub stands : ℕ → List ℕ → List ℕ → List ℕ → Way
+unfoldable pub stands : ℕ → List ℕ → List ℕ → List ℕ → Ordering
 stands n order a b = elim (eqb (length b) 0) [
-  | true ↦ After
+  | true ↦ Greater
   | false ↦ elim (eqb (length a) 0)
-      [ true ↦ Before | false ↦ way_of (earlier_by order (take n b) (take n a)) (earlier_by order (take n a) (take n b)) ]
+      [ true ↦ Less | false ↦ way_of (earlier_by order (take n b) (take n a)) (earlier_by order (take n a) (take n b)) ]
 ]
 
 -- whether the next row is the first list's, by how the second's stands to it
-abbrev pub of_first : Way → Bool
-of_first Before = false
-of_first Same = true
-of_first After = true
+abbrev pub of_first : Ordering → Bool
+of_first Less = false
+of_first Equal = true
+of_first Greater = true
 
 -- the list that the next row is of has one, or is the first at its end; where the rows are equal both have one
-abbrev pub Fronts : ℕ → Way → List ℕ → List ℕ → Type 0
-Fronts n Before a b = n ≤ length b
-Fronts n Same a b = (n ≤ length a) × (n ≤ length b)
-Fronts n After a b = (length a ≡ 0 → ⊥) → n ≤ length a
+abbrev pub Fronts : ℕ → Ordering → List ℕ → List ℕ → Type 0
+Fronts n Less a b = n ≤ length b
+Fronts n Equal a b = (n ≤ length a) × (n ≤ length b)
+Fronts n Greater a b = (length a ≡ 0 → ⊥) → n ≤ length a
 
 -- how many bytes the next row takes of each list
-abbrev pub taken_first : ℕ → Way → ℕ
-taken_first n Before = 0
-taken_first n Same = n
-taken_first n After = n
+abbrev pub taken_first : ℕ → Ordering → ℕ
+taken_first n Less = 0
+taken_first n Equal = n
+taken_first n Greater = n
 
-abbrev pub taken_second : ℕ → Way → ℕ
-taken_second n Before = n
-taken_second n Same = n
-taken_second n After = 0
+abbrev pub taken_second : ℕ → Ordering → ℕ
+taken_second n Less = n
+taken_second n Equal = n
+taken_second n Greater = 0
 
 -- the answer on a text for the buffer d: its length, or that it does not fit. It stands at the front of the buffer if it is written, and if it
 -- is only counted the buffer is as it came.

@@ -17,5 +17,5 @@ front a k n xs ys within fits =
 
 pub loop-done-preserved : goal.loop-done-preserved
 loop-done-preserved g c =
-    let joined = front c.loop-done.done _ c.in-Ok.n c.loop-done.sheet c.read.new.buf c.loop-done.invariant.1 c.in-Ok.ensures.bound.0 in
-    (search rules, search rules, subst (Consumes _ _) joined (Consumes-trans _ _ _ _ _ c.loop-done.invariant.2 c.in-Ok.ensures.bytes.0))
+    let joined = front c.loop-done.done _ _ c.loop-done.sheet c.read.new.buf c.loop-done.invariant.1 c.in_ok-n.ensures.bound.0 in
+    (search rules, search rules, subst (Consumes _ _) joined (Consumes-trans _ _ _ _ _ c.loop-done.invariant.2 c.in_ok-n.ensures.bytes.0))

@@ -1,22 +1,11 @@
--- Every byte before is below n. Assumes nothing.
-use Rattle.model.specs.Kit.{arith, rules}
-use Rattle.model.specs.Lists.{at}
-use Rattle.order.proofs.{Placing.below_all, Placing.below_not, Placing.more}
+-- The test of every byte. Assumes nothing.
+use Rattle.model.specs.Kit.{◌∙◌, ltb, rules}
+use Rattle.std.proofs.Common.{tests}
+use Rattle.std.proofs.lemmas.Iterator.{YieldsList-from_slice}
+use Rattle.std.proofs.lemmas.Iterator.Search.{all_from_yields_List}
+use Rattle.order.proofs.Placing.{all_is}
 use Rattle.order.proofs.all_below.Goals as goal
 
-pub loop-i-init : goal.loop-i-init
-loop-i-init c = (search rules, λ j h. omega arith)
-
-pub returns-then-n-pairs : goal.returns-then-n-pairs
-unfolding at
-returns-then-n-pairs c = below_not _ _ _ c.loop-i-test.true c.if-n-pairs.true
-
-pub loop-i-preserved : goal.loop-i-preserved
-unfolding at
-loop-i-preserved c = (search rules, more c.args.pairs.now _ _ c.loop-i.invariant.1 c.if-n-pairs.false)
-
 pub returns : goal.returns
-returns c = below_all _ _ (λ j h. c.loop-i.invariant.1 j (omega arith))
-
-pub overflow_cast-pairs : goal.overflow_cast-pairs
-overflow_cast-pairs c = omega (arith, c.shared_slice_known-1.given c.loop-i.i)
+returns c = all_from_yields_List (λ x. ltb x c.args.n) _ _ _ c.all.ensures.ran (YieldsList-from_slice c.args.pairs.now cc) (λ x b q k. search (rules, tests))
+    ∙ all_is (λ x. ltb x c.args.n) c.args.pairs.now

@@ -1,45 +1,43 @@
 -- One pair after another. Assumes nothing.
-use Rattle.model.specs.Kit.{refl, ◌+◌, ◌*◌, arith, rules}
+use Rattle.model.specs.Kit.{sym, ap, ◌∙◌, ℕ, ◌*◌, arith, rules, length, drop, length-drop}
+use Rattle.std.proofs.lemmas.List.{length_push}
 use Rattle.model.specs.Lists.{at}
 use Rattle.model.proofs.Members.{one_has}
-use Rattle.order.proofs.{Placing.below_64, Placing.befores_begin, Placing.befores_turn, Placing.befores_end}
+use Rattle.order.proofs.{Placing.befores_begin, Placing.befores_taken, Placing.befores_end, Placing.taken}
 use Rattle.order.proofs.forerunners.Goals as goal
 
-pub loop-i-init : goal.loop-i-init
-loop-i-init c = (search rules, refl, befores_begin _ _ c.requires.1 c.requires.2)
+pub loop-pair-init : goal.loop-pair-init
+loop-pair-init c = (search rules, search rules, search rules, befores_begin _ _ c.told-befores c.requires.1)
 
-pub bounds-befores-y : goal.bounds-befores-y
-unfolding at
-bounds-befores-y c = c.requires.0 _ (omega arith)
+pub bounds-befores-from : goal.bounds-befores-from
+bounds-befores-from c =
+    let t = taken _ c.in-Some.pair.now _ _ _ _ c.requires.0 c.loop-pair.invariant.0 c.loop-pair.invariant.1 c.in-Some.ensures.steps.1.0 c.in-Some.ensures.steps.1.1 in
+    omega (arith, t.second_small, c.from.ensures)
+
+pub bounds-befores-from-in-loop-pair : goal.bounds-befores-from-in-loop-pair
+bounds-befores-from-in-loop-pair c =
+    let t = taken _ c.in-Some.pair.now _ _ _ _ c.requires.0 c.loop-pair.invariant.0 c.loop-pair.invariant.1 c.in-Some.ensures.steps.1.0 c.in-Some.ensures.steps.1.1 in
+    omega (arith, t.second_small, c.from.ensures)
 
 pub overflow_shl-befores : goal.overflow_shl-befores
-unfolding at
-overflow_shl-befores c = below_64 _ (c.requires.0 _ (omega arith))
+overflow_shl-befores c =
+    let t = taken _ c.in-Some.pair.now _ _ _ _ c.requires.0 c.loop-pair.invariant.0 c.loop-pair.invariant.1 c.in-Some.ensures.steps.1.0 c.in-Some.ensures.steps.1.1 in
+    omega (arith, t.first_small)
 
-pub bounds-befores-y-in-loop-i : goal.bounds-befores-y-in-loop-i
+pub loop-pair-preserved : goal.loop-pair-preserved
 unfolding at
-bounds-befores-y-in-loop-i c = c.requires.0 _ (omega arith)
-
-pub loop-i-preserved : goal.loop-i-preserved
-unfolding at
-loop-i-preserved c = (
-  search rules,
-  refl,
-  befores_turn _ _ _ _ c.loop-i.invariant.2 (c.requires.0 _ (omega arith)) (omega arith)
-      (λ y. one_has 64 _ y (below_64 _ (c.requires.0 _ (omega arith)))),
-)
+loop-pair-preserved c =
+    let t = taken _ c.in-Some.pair.now _ _ _ _ c.requires.0 c.loop-pair.invariant.0 c.loop-pair.invariant.1 c.in-Some.ensures.steps.1.0 c.in-Some.ensures.steps.1.1 in
+    let more = length_push c.loop-pair.yielded c.in-Some.pair in (
+      c.in-Some.ensures.steps.0 ∙ c.loop-pair.invariant.0,
+      t.onward ∙ ap (λ (k : ℕ). drop (2 * k) c.args.pairs.now) (sym more),
+      omega (arith, t.inside, more),
+      befores_taken _ _ _ _ _ _ _ _ t more c.from.ensures c.loop-pair.invariant.3 (search rules) (λ z. one_has 64 _ z (omega (arith, t.first_small))),
+    )
 
 pub returns : goal.returns
-returns c = befores_end _ _ _ _ (search rules) (search rules) c.loop-i.invariant.2
-
-pub overflow_cast-y : goal.overflow_cast-y
-overflow_cast-y c = omega (arith, c.shared_slice_known-1.given (2 * c.loop-i.i + 1))
-
-pub offset_bounds-befores-y : goal.offset_bounds-befores-y
-offset_bounds-befores-y c = omega (arith, c.shared_slice_known-1.given (2 * c.loop-i.i + 1))
-
-pub overflow_cast-befores : goal.overflow_cast-befores
-overflow_cast-befores c = omega (arith, c.shared_slice_known-in-loop-i-1.given (2 * c.loop-i.i))
-
-pub offset_bounds-befores-y-in-loop-i : goal.offset_bounds-befores-y-in-loop-i
-offset_bounds-befores-y-in-loop-i c = omega (arith, c.shared_slice_known-1.given (2 * c.loop-i.i + 1))
+returns c =
+    let left = ap length c.loop-pair.invariant.1 in
+    let few = c.in-None.ensures.steps.1.0 in
+    befores_end _ _ _ _ (omega (arith, left, few, length-drop (2 * length c.loop-pair.yielded) c.args.pairs.now, c.loop-pair.invariant.0))
+    (omega (arith, c.loop-pair.invariant.2)) c.loop-pair.invariant.3

@@ -1,9 +1,9 @@
-use Rattle.model.specs.Kit.{◌≡◌, ◌/◌, ◌-◌, ◌≤◌, length}
+use Rattle.model.specs.Kit.{◌≡◌, ◌*◌, ◌≤◌, length, drop}
+use Rattle.std.specs.Slice.Iter.{chunks_exact_size, chunks_exact_rest}
 use Rattle.order.specs.Inner.Settled.{Befores}
 use Rattle.order.proofs.forerunners.Given as goal
 
-abbrev pub invariant-loop-i : goal.invariant-loop-i
-invariant-loop-i l = (l.i ≤ l.count) × (l.count ≡ length l.pairs / 2) × Befores l.pairs l.i l.befores
-
-abbrev pub decreases-loop-i : goal.decreases-loop-i
-decreases-loop-i l = l.count - l.i
+abbrev pub invariant-loop-pair : goal.invariant-loop-pair
+invariant-loop-pair l =
+    (chunks_exact_size l.pair-iterator ≡ 2) × (chunks_exact_rest l.pair-iterator ≡ drop (2 * length l.yielded) l.pairs) × (2 * length l.yielded ≤ length l.pairs)
+    × Befores l.pairs (length l.yielded) l.befores

@@ -1,13 +1,14 @@
 -- The questions in their turn. Assumes nothing.
-use Rattle.model.specs.Kit.{sym, ◌∙◌, arith, rules}
-use Rattle.order.proofs.{Placing.below_each, Placing.many, Placing.odd, Placing.outside, Placing.circle, Placing.ordered}
+use Rattle.model.specs.Kit.{sym, ◌∙◌, inl, inr, arith, rules}
+use Rattle.order.proofs.{Placing.below_each, Placing.not_whole, Placing.outside, Placing.circle, Placing.ordered}
 use Rattle.order.proofs.settling_order.Goals as goal
+use Rattle.order.proofs.settling_order.Goals.{then-pairs-gt128-via-then-pairs-gt128, then-pairs-gt128-via-else-pairs-gt128+then-pairs-ne0}
 
 pub returns-then-pairs-gt128 : goal.returns-then-pairs-gt128
-returns-then-pairs-gt128 c = many _ _ _ (search rules)
-
-pub returns-then-pairs-ne0 : goal.returns-then-pairs-ne0
-returns-then-pairs-ne0 c = odd _ _ _ (search rules) (search rules)
+returns-then-pairs-gt128 c = not_whole _ _ _ (elim c.then-pairs-gt128.branch [
+  | then-pairs-gt128-via-then-pairs-gt128 w ↦ inl w.if-pairs-gt128.true
+  | then-pairs-gt128-via-else-pairs-gt128+then-pairs-ne0 w ↦ inr w.if-pairs-ne0.true
+])
 
 pub returns-then-not-all_below : goal.returns-then-not-all_below
 returns-then-not-all_below c = outside _ _ _ (search rules) (search rules) (sym c.all_below.ensures ∙ c.if-not-all_below.true)
@@ -21,4 +22,4 @@ returns c = ordered _ _ _ (search rules) (search rules) (sym c.all_below.ensures
     (omega arith) c.settle.ensures c.if-not-settle.false
 
 pub settle-requires : goal.settle-requires
-settle-requires c = (search rules, below_each _ _ (search rules) (sym c.all_below.ensures ∙ c.if-not-all_below.false), search rules)
+settle-requires c = (search rules, below_each _ _ (search rules) (sym c.all_below.ensures ∙ c.if-not-all_below.false))

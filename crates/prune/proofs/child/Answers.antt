@@ -2,32 +2,33 @@
 -- Assumes nothing.
 use Rattle.model.specs.Kit.{refl, [], arith}
 use Rattle.model.specs.Lists.{at}
+use Rattle.std.proofs.lemmas.Option.{MatchOption-at_none, MatchOption-at_some}
 use Rattle.prune.proofs.Starts.{arrays_hold, blocked, value_small, child_startable, child_later, child_on_way, child_dead, child_live}
 use Rattle.prune.proofs.{ChildCut.whole_is, ChildCut.cut_dead, ChildCut.cut_sets_are, ChildCut.cut_before, ChildCut.cut_last}
 use Rattle.prune.proofs.child.Goals as goal
 
-pub cut_later-changed-requires : goal.cut_later-changed-requires
+pub cut_later-requires : goal.cut_later-requires
 unfolding at
-cut_later-changed-requires c =
+cut_later-requires c =
     let s = (child_startable c.requires.2 _ c.copy_marks.ensures c.load.new.sets c.load.ensures _ _ _
     c.only-one.ensures c.due-todo.ensures c.due-dirty.ensures) in
     (s.live.sixteen, omega (arith, c.requires.2.room, c.requires.2.ready.well_formed.few), omega arith, λ y t. omega (arith, c.requires.2.ready.block_few y t, c.requires.2.ready.well_formed.few))
 
-pub returns-then-changed-eq-DEAD : goal.returns-then-changed-eq-DEAD
+pub returns-in_default : goal.returns-in_default
 unfolding at
-returns-then-changed-eq-DEAD c =
+returns-in_default c =
     λ p gs a.
     let s = (child_startable a _ c.copy_marks.ensures
     c.load.new.sets
     c.load.ensures _ _ _ c.only-one.ensures
     c.due-todo.ensures c.due-dirty.ensures) in
     child_dead a _ c.copy_marks.ensures [] _ _
-    (cut_dead (arrays_hold a.ready) (blocked a.ready) s.live _ _ c.cut_later-changed.ensures c.if-changed-eq-DEAD.true
+    (cut_dead (arrays_hold a.ready) (blocked a.ready) s.live _ _ (MatchOption-at_none _ _ c.in_default.is c.cut_later.ensures)
     (child_on_way a _ c.copy_marks.ensures
     c.load.new.sets
     c.load.ensures _ _ _ c.only-one.ensures
     c.due-todo.ensures c.due-dirty.ensures _ _ refl
-    (whole_is (arrays_hold a.ready) (blocked a.ready) s.live _ _ c.cut_later-changed.ensures)).0 []) refl
+    (whole_is (arrays_hold a.ready) (blocked a.ready) s.live _ _)).0 []) refl
 
 pub fixpoint-dead-requires : goal.fixpoint-dead-requires
 unfolding at
@@ -40,11 +41,10 @@ fixpoint-dead-requires c =
     c.load.new.sets
     c.load.ensures _ _ _ c.only-one.ensures
     c.due-todo.ensures c.due-dirty.ensures _ _ refl
-    (cut_sets_are (arrays_hold c.requires.2.ready) (blocked c.requires.2.ready) s.live _ _ c.cut_later-changed.ensures
-    c.if-changed-eq-DEAD.false)) in
-    let n = cut_before (arrays_hold c.requires.2.ready) (blocked c.requires.2.ready) s.live _ _ c.cut_later-changed.ensures c.if-changed-eq-DEAD.false s
+    (cut_sets_are (arrays_hold c.requires.2.ready) (blocked c.requires.2.ready) s.live _ _ (MatchOption-at_some _ _ _ c.in-Some.is c.cut_later.ensures))) in
+    let n = cut_before (arrays_hold c.requires.2.ready) (blocked c.requires.2.ready) s.live _ _ (MatchOption-at_some _ _ _ c.in-Some.is c.cut_later.ensures) s
     c.touched.ensures refl refl w in
-    let l = cut_last (arrays_hold c.requires.2.ready) (blocked c.requires.2.ready) s.live _ _ c.cut_later-changed.ensures c.if-changed-eq-DEAD.false s
+    let l = cut_last (arrays_hold c.requires.2.ready) (blocked c.requires.2.ready) s.live _ _ (MatchOption-at_some _ _ _ c.in-Some.is c.cut_later.ensures) s
     c.touched.ensures refl refl (value_small c.requires.2 _ c.copy_marks.ensures)
     (child_later c.requires.2 _ c.copy_marks.ensures
     c.load.new.sets
@@ -64,9 +64,8 @@ returns-then-dead c =
     c.load.new.sets
     c.load.ensures _ _ _ c.only-one.ensures
     c.due-todo.ensures c.due-dirty.ensures _ _ refl
-    (cut_sets_are (arrays_hold a.ready) (blocked a.ready) s.live _ _ c.cut_later-changed.ensures
-    c.if-changed-eq-DEAD.false)) in
-    let n = cut_before (arrays_hold a.ready) (blocked a.ready) s.live _ _ c.cut_later-changed.ensures c.if-changed-eq-DEAD.false s
+    (cut_sets_are (arrays_hold a.ready) (blocked a.ready) s.live _ _ (MatchOption-at_some _ _ _ c.in-Some.is c.cut_later.ensures))) in
+    let n = cut_before (arrays_hold a.ready) (blocked a.ready) s.live _ _ (MatchOption-at_some _ _ _ c.in-Some.is c.cut_later.ensures) s
     c.touched.ensures refl refl w in
     child_dead a _ c.copy_marks.ensures _ _ _
     (c.fixpoint-dead.ensures p gs (arrays_hold a.ready) (blocked a.ready) n) c.if-dead.true
@@ -91,9 +90,8 @@ returns c =
     c.load.new.sets
     c.load.ensures _ _ _ c.only-one.ensures
     c.due-todo.ensures c.due-dirty.ensures _ _ refl
-    (cut_sets_are (arrays_hold a.ready) (blocked a.ready) s.live _ _ c.cut_later-changed.ensures
-    c.if-changed-eq-DEAD.false)) in
-    let n = cut_before (arrays_hold a.ready) (blocked a.ready) s.live _ _ c.cut_later-changed.ensures c.if-changed-eq-DEAD.false s
+    (cut_sets_are (arrays_hold a.ready) (blocked a.ready) s.live _ _ (MatchOption-at_some _ _ _ c.in-Some.is c.cut_later.ensures))) in
+    let n = cut_before (arrays_hold a.ready) (blocked a.ready) s.live _ _ (MatchOption-at_some _ _ _ c.in-Some.is c.cut_later.ensures) s
     c.touched.ensures refl refl w in
     child_live a _ c.copy_marks.ensures _ _ _ _
     (c.fixpoint-dead.ensures p gs (arrays_hold a.ready) (blocked a.ready) n) c.if-dead.false c.store.ensures

@@ -3,9 +3,9 @@ use Rattle.model.proofs.Sets.{size}
 use Rattle.prune.specs.Inner.Steps.{ArraysHold, Pending, PrunedSoFar}
 use Rattle.prune.proofs.constrain.Given as goal
 
-abbrev pub invariant-loop-todo : goal.invariant-loop-todo
-invariant-loop-todo l =
+abbrev pub invariant-loop-cut : goal.invariant-loop-cut
+invariant-loop-cut l =
     (p : Problem) → ArraysHold p l.supports l.tables l.numbers → Pending p l.numbers l.initial.sets l.todo l.dirty → PrunedSoFar p l.initial.sets l.sets × Pending p l.numbers l.sets l.left l.moved
 
-abbrev pub decreases-loop-todo : goal.decreases-loop-todo
-decreases-loop-todo l = size l.sets
+abbrev pub decreases-loop-cut : goal.decreases-loop-cut
+decreases-loop-cut l = size l.sets

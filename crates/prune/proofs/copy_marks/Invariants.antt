@@ -1,4 +1,4 @@
-use Rattle.model.specs.Kit.{◌+◌, ◌*◌, ◌-◌, ◌≤◌}
+use Rattle.model.specs.Kit.{◌+◌, ◌*◌, ◌≤◌}
 use Rattle.model.specs.Lists.{at}
 use Rattle.arrays.specs.Inner.Places.{MARKS}
 use Rattle.prune.proofs.{Copies.Filled}
@@ -6,6 +6,3 @@ use Rattle.prune.proofs.copy_marks.Given as goal
 
 abbrev pub invariant-loop-e : goal.invariant-loop-e
 invariant-loop-e l = (l.e ≤ 16) × Filled (λ i. at l.initial.work (16 * l.k + MARKS + i)) (16 * (l.k + 2)) l.initial.work l.work l.e
-
-abbrev pub decreases-loop-e : goal.decreases-loop-e
-decreases-loop-e l = 16 - l.e

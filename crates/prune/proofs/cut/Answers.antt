@@ -12,7 +12,7 @@ pub returns-then-is_empty : goal.returns-then-is_empty
 unfolding at
 returns-then-is_empty c =
     cutting_dead _ _ _ c.requires.0 c.requires.2 c.loop-left.invariant c.loop-left-test.true _ c.not_below-kept.ensures
-    (eqb-true _ 0 (sym c.is_empty.ensures ∙ c.if-is_empty.true)) _
+    (eqb-true _ 0 (sym c.is_empty.ensures ∙ c.if-is_empty.true))
 
 pub loop-left-preserved : goal.loop-left-preserved
 unfolding at

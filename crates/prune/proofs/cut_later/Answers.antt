@@ -13,7 +13,7 @@ cut-requires c = (
 )
 
 pub returns-then-block-k-eq1 : goal.returns-then-block-k-eq1
-returns-then-block-k-eq1 c = after_some _ _ _ _ c.requires.0 c.requires.1 (bit_in _ _ c.if-block-k-eq1.true) c.requires.3 _ refl c.cut.ensures
+returns-then-block-k-eq1 c = after_some _ _ _ _ c.requires.0 c.requires.1 (bit_in _ _ c.if-block-k-eq1.true) c.requires.3 _ refl _ c.cut.result c.cut.ensures
 
 pub returns : goal.returns
 returns c = after_none _ _ _ _ c.requires.0 (bit_out _ _ c.if-block-k-eq1.false)

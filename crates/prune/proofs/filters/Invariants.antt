@@ -1,4 +1,4 @@
-use Rattle.model.specs.Kit.{◌≡◌, List, ℕ, ◌-◌, take}
+use Rattle.model.specs.Kit.{◌≡◌, List, ℕ, take}
 use Rattle.model.specs.{Lists.at, Problem.Problem}
 use Rattle.arrays.specs.{Inner.Places.SYMMETRIES, Inner.Pruning.sets_of}
 use Rattle.prune.specs.{Inner.Node.MarksRight, Inner.Steps.ArraysHold, Inner.Steps.PrefixHeld, Inner.Steps.LiveSets}
@@ -10,6 +10,3 @@ invariant-loop-e l =
     (l.g ≡ at l.numbers SYMMETRIES) × ((p : Problem) (supports : List ℕ) → ArraysHold p supports l.tables l.numbers → PrefixHeld p l.initial.work l.k → LiveSets p l.initial.sets →
     MarksRight p (sets_of p l.initial.sets)
     (take l.k l.initial.work) l.initial.work l.k → FilteredSoFar p l.k l.initial.work l.initial.sets l.work l.sets l.e)
-
-abbrev pub decreases-loop-e : goal.decreases-loop-e
-decreases-loop-e l = l.g - l.e

@@ -1,6 +1,7 @@
 -- The look-ups and the cuts by variable, the constraints that are due then, and the rest from there. Assumes nothing.
-use Rattle.model.specs.Kit.{refl, sym, subst, ⊎_elim, List, ℕ, ◌+◌, ◌-◌, ◌^◌, ◌<◌, arith, bit_and, bit_or, rules}
+use Rattle.model.specs.Kit.{refl, sym, subst, List, ℕ, ◌+◌, ◌-◌, ◌^◌, ◌<◌, arith, bit_and, bit_or, rules}
 use Rattle.model.specs.{Lists.at, Problem.Problem}
+use Rattle.std.proofs.lemmas.Option.{MatchOption-at_none, MatchOption-at_some}
 use Rattle.arrays.specs.Inner.Places.{LINKED, LOOKS}
 use Rattle.prune_constraints.specs.Inner.LookUps.{LookUpsPending}
 use Rattle.prune_constraints.proofs.Touching.{touched_of}
@@ -10,9 +11,9 @@ use Rattle.prune.proofs.{Pending.pruned_none, Pending.nothing_due, Pending.arcs_
 use Rattle.prune.proofs.fixpoint.Goals as goal
 use Rattle.prune.proofs.fixpoint.Goals.{then-left-ne0+else-constrain, else-left-ne0}
 
-pub look_ups-looked-requires : goal.look_ups-looked-requires
+pub look_ups-requires : goal.look_ups-requires
 unfolding at
-look_ups-looked-requires c =
+look_ups-requires c =
     let wide : c.args.todo < 2 ^ 64 = search rules in
     let looks : (p : Problem) (gs : List (List ℕ)) → ArraysHold p c.args.supports.now c.args.tables.now c.args.numbers.now → Blocked p gs c.args.numbers.now →
     BeforeFixpoint p gs c.args.work.now c.args.numbers.now c.args.sets.now c.args.k c.args.todo c.args.dirty →
@@ -20,19 +21,19 @@ look_ups-looked-requires c =
     λ p gs s b n. looks_pending s b n wide c.requires.5 in
     (c.requires.0, _, looks c.requires.0 c.requires.1 c.requires.2 c.requires.3 c.requires.4)
 
-pub returns-then-looked-eq-DEAD : goal.returns-then-looked-eq-DEAD
+pub returns-in_default : goal.returns-in_default
 unfolding at
-returns-then-looked-eq-DEAD c =
+returns-in_default c =
     let wide : c.args.todo < 2 ^ 64 = search rules in
     let looks : (p : Problem) (gs : List (List ℕ)) → ArraysHold p c.args.supports.now c.args.tables.now c.args.numbers.now → Blocked p gs c.args.numbers.now →
     BeforeFixpoint p gs c.args.work.now c.args.numbers.now c.args.sets.now c.args.k c.args.todo c.args.dirty →
     LookUpsPending p c.args.numbers.now c.args.supports.now c.args.sets.now c.args.work.now c.args.todo (bit_and c.args.todo (at c.args.numbers.now (LOOKS + c.args.k))) c.args.v =
     λ p gs s b n. looks_pending s b n wide c.requires.5 in
-    λ p gs s b n. constrained_dead s b n _ ((c.look_ups-looked.ensures p _ (looks p gs s b n)).ended c.if-looked-eq-DEAD.true)
+    λ p gs s b n. constrained_dead s b n _ ((MatchOption-at_none _ _ c.in_default.is (c.look_ups.ensures p _ (looks p gs s b n))).ended)
 
-pub arcs-cut-requires : goal.arcs-cut-requires
+pub arcs-requires : goal.arcs-requires
 unfolding at
-arcs-cut-requires c =
+arcs-requires c =
     let wide : c.args.todo < 2 ^ 64 = search rules in
     let looks : (p : Problem) (gs : List (List ℕ)) → ArraysHold p c.args.supports.now c.args.tables.now c.args.numbers.now → Blocked p gs c.args.numbers.now →
     BeforeFixpoint p gs c.args.work.now c.args.numbers.now c.args.sets.now c.args.k c.args.todo c.args.dirty →
@@ -40,20 +41,19 @@ arcs-cut-requires c =
     λ p gs s b n. looks_pending s b n wide c.requires.5 in
     let looks_made : (p : Problem) (gs : List (List ℕ)) → ArraysHold p c.args.supports.now c.args.tables.now c.args.numbers.now → Blocked p gs c.args.numbers.now →
     BeforeFixpoint p gs c.args.work.now c.args.numbers.now c.args.sets.now c.args.k c.args.todo c.args.dirty →
-    BeforeFixpoint p gs c.args.work.now c.args.numbers.now c.look_ups-looked.new.sets c.args.k
-    (bit_or (bit_and c.args.todo ((2 ^ 64 - 1) - bit_and c.args.todo (at c.args.numbers.now (LOOKS + c.args.k)))) (touched_of c.args.numbers.now c.look_ups-looked.result))
-    (bit_or c.args.dirty (bit_and c.look_ups-looked.result (at c.args.numbers.now LINKED))) =
-    λ p gs s b n. looks_done s b n (c.look_ups-looked.ensures p _ (looks p gs s b n)) c.if-looked-eq-DEAD.false in
+    BeforeFixpoint p gs c.args.work.now c.args.numbers.now c.look_ups.new.sets c.args.k
+    (bit_or (bit_and c.args.todo ((2 ^ 64 - 1) - bit_and c.args.todo (at c.args.numbers.now (LOOKS + c.args.k)))) (touched_of c.args.numbers.now c.in-Some.looked))
+    (bit_or c.args.dirty (bit_and c.in-Some.looked (at c.args.numbers.now LINKED))) =
+    λ p gs s b n. looks_done s b n (MatchOption-at_some _ _ _ c.in-Some.is (c.look_ups.ensures p _ (looks p gs s b n))) in
     record {
       settled = looks_settled c.requires.2 c.requires.3 c.requires.4 c.requires.5
-          (c.look_ups-looked.ensures c.requires.0 _ (looks c.requires.0 c.requires.1 c.requires.2 c.requires.3 c.requires.4))
-          c.if-looked-eq-DEAD.false;
+          (MatchOption-at_some _ _ _ c.in-Some.is (c.look_ups.ensures c.requires.0 _ (looks c.requires.0 c.requires.1 c.requires.2 c.requires.3 c.requires.4)));
       arcs_pending = (c.requires.0, arcs_pending c.requires.2 (looks_made c.requires.0 c.requires.1 c.requires.2 c.requires.3 c.requires.4).startable.pending);
     }
 
-pub returns-then-cut-eq-DEAD : goal.returns-then-cut-eq-DEAD
+pub returns-in_default-arcs : goal.returns-in_default-arcs
 unfolding at
-returns-then-cut-eq-DEAD c =
+returns-in_default-arcs c =
     let wide : c.args.todo < 2 ^ 64 = search rules in
     let looks : (p : Problem) (gs : List (List ℕ)) → ArraysHold p c.args.supports.now c.args.tables.now c.args.numbers.now → Blocked p gs c.args.numbers.now →
     BeforeFixpoint p gs c.args.work.now c.args.numbers.now c.args.sets.now c.args.k c.args.todo c.args.dirty →
@@ -61,12 +61,12 @@ returns-then-cut-eq-DEAD c =
     λ p gs s b n. looks_pending s b n wide c.requires.5 in
     let looks_made : (p : Problem) (gs : List (List ℕ)) → ArraysHold p c.args.supports.now c.args.tables.now c.args.numbers.now → Blocked p gs c.args.numbers.now →
     BeforeFixpoint p gs c.args.work.now c.args.numbers.now c.args.sets.now c.args.k c.args.todo c.args.dirty →
-    BeforeFixpoint p gs c.args.work.now c.args.numbers.now c.look_ups-looked.new.sets c.args.k
-    (bit_or (bit_and c.args.todo ((2 ^ 64 - 1) - bit_and c.args.todo (at c.args.numbers.now (LOOKS + c.args.k)))) (touched_of c.args.numbers.now c.look_ups-looked.result))
-    (bit_or c.args.dirty (bit_and c.look_ups-looked.result (at c.args.numbers.now LINKED))) =
-    λ p gs s b n. looks_done s b n (c.look_ups-looked.ensures p _ (looks p gs s b n)) c.if-looked-eq-DEAD.false in
+    BeforeFixpoint p gs c.args.work.now c.args.numbers.now c.look_ups.new.sets c.args.k
+    (bit_or (bit_and c.args.todo ((2 ^ 64 - 1) - bit_and c.args.todo (at c.args.numbers.now (LOOKS + c.args.k)))) (touched_of c.args.numbers.now c.in-Some.looked))
+    (bit_or c.args.dirty (bit_and c.in-Some.looked (at c.args.numbers.now LINKED))) =
+    λ p gs s b n. looks_done s b n (MatchOption-at_some _ _ _ c.in-Some.is (c.look_ups.ensures p _ (looks p gs s b n))) in
     λ p gs s b n. let m = looks_made p gs s b n in constrained_dead s b m _
-    ((c.arcs-cut.ensures p (arcs_pending s m.startable.pending)).ended c.if-cut-eq-DEAD.true)
+    ((MatchOption-at_none _ _ c.in_default-arcs.is (c.arcs.ensures p (arcs_pending s m.startable.pending))).ended)
 
 pub constrain-requires : goal.constrain-requires
 unfolding at
@@ -78,16 +78,16 @@ constrain-requires c =
     λ p gs s b n. looks_pending s b n wide c.requires.5 in
     let looks_made : (p : Problem) (gs : List (List ℕ)) → ArraysHold p c.args.supports.now c.args.tables.now c.args.numbers.now → Blocked p gs c.args.numbers.now →
     BeforeFixpoint p gs c.args.work.now c.args.numbers.now c.args.sets.now c.args.k c.args.todo c.args.dirty →
-    BeforeFixpoint p gs c.args.work.now c.args.numbers.now c.look_ups-looked.new.sets c.args.k
-    (bit_or (bit_and c.args.todo ((2 ^ 64 - 1) - bit_and c.args.todo (at c.args.numbers.now (LOOKS + c.args.k)))) (touched_of c.args.numbers.now c.look_ups-looked.result))
-    (bit_or c.args.dirty (bit_and c.look_ups-looked.result (at c.args.numbers.now LINKED))) =
-    λ p gs s b n. looks_done s b n (c.look_ups-looked.ensures p _ (looks p gs s b n)) c.if-looked-eq-DEAD.false in
+    BeforeFixpoint p gs c.args.work.now c.args.numbers.now c.look_ups.new.sets c.args.k
+    (bit_or (bit_and c.args.todo ((2 ^ 64 - 1) - bit_and c.args.todo (at c.args.numbers.now (LOOKS + c.args.k)))) (touched_of c.args.numbers.now c.in-Some.looked))
+    (bit_or c.args.dirty (bit_and c.in-Some.looked (at c.args.numbers.now LINKED))) =
+    λ p gs s b n. looks_done s b n (MatchOption-at_some _ _ _ c.in-Some.is (c.look_ups.ensures p _ (looks p gs s b n))) in
     let cuts_made : (p : Problem) (gs : List (List ℕ)) → ArraysHold p c.args.supports.now c.args.tables.now c.args.numbers.now → Blocked p gs c.args.numbers.now →
     BeforeFixpoint p gs c.args.work.now c.args.numbers.now c.args.sets.now c.args.k c.args.todo c.args.dirty →
-    BeforeFixpoint p gs c.args.work.now c.args.numbers.now c.arcs-cut.new.sets c.args.k
+    BeforeFixpoint p gs c.args.work.now c.args.numbers.now c.arcs.new.sets c.args.k
     (bit_or (bit_and c.args.todo ((2 ^ 64 - 1) - bit_and c.args.todo (at c.args.numbers.now (LOOKS + c.args.k)))) c.touched.result) 0 = λ p gs s b n. let m = looks_made p gs s b n in
-    cuts_done s b n wide (c.look_ups-looked.ensures p _ (looks p gs s b n)) c.if-looked-eq-DEAD.false
-    (c.arcs-cut.ensures p (arcs_pending s m.startable.pending)) c.if-cut-eq-DEAD.false (search rules) c.touched.ensures in
+    cuts_done s b n wide (MatchOption-at_some _ _ _ c.in-Some.is (c.look_ups.ensures p _ (looks p gs s b n)))
+    (MatchOption-at_some _ _ _ c.in-Some-arcs.is (c.arcs.ensures p (arcs_pending s m.startable.pending))) (search rules) c.touched.ensures in
     (c.requires.0, c.requires.2, (cuts_made c.requires.0 c.requires.1 c.requires.2 c.requires.3 c.requires.4).startable.pending)
 
 pub returns-then-constrain : goal.returns-then-constrain
@@ -100,16 +100,16 @@ returns-then-constrain c =
     λ p gs s b n. looks_pending s b n wide c.requires.5 in
     let looks_made : (p : Problem) (gs : List (List ℕ)) → ArraysHold p c.args.supports.now c.args.tables.now c.args.numbers.now → Blocked p gs c.args.numbers.now →
     BeforeFixpoint p gs c.args.work.now c.args.numbers.now c.args.sets.now c.args.k c.args.todo c.args.dirty →
-    BeforeFixpoint p gs c.args.work.now c.args.numbers.now c.look_ups-looked.new.sets c.args.k
-    (bit_or (bit_and c.args.todo ((2 ^ 64 - 1) - bit_and c.args.todo (at c.args.numbers.now (LOOKS + c.args.k)))) (touched_of c.args.numbers.now c.look_ups-looked.result))
-    (bit_or c.args.dirty (bit_and c.look_ups-looked.result (at c.args.numbers.now LINKED))) =
-    λ p gs s b n. looks_done s b n (c.look_ups-looked.ensures p _ (looks p gs s b n)) c.if-looked-eq-DEAD.false in
+    BeforeFixpoint p gs c.args.work.now c.args.numbers.now c.look_ups.new.sets c.args.k
+    (bit_or (bit_and c.args.todo ((2 ^ 64 - 1) - bit_and c.args.todo (at c.args.numbers.now (LOOKS + c.args.k)))) (touched_of c.args.numbers.now c.in-Some.looked))
+    (bit_or c.args.dirty (bit_and c.in-Some.looked (at c.args.numbers.now LINKED))) =
+    λ p gs s b n. looks_done s b n (MatchOption-at_some _ _ _ c.in-Some.is (c.look_ups.ensures p _ (looks p gs s b n))) in
     let cuts_made : (p : Problem) (gs : List (List ℕ)) → ArraysHold p c.args.supports.now c.args.tables.now c.args.numbers.now → Blocked p gs c.args.numbers.now →
     BeforeFixpoint p gs c.args.work.now c.args.numbers.now c.args.sets.now c.args.k c.args.todo c.args.dirty →
-    BeforeFixpoint p gs c.args.work.now c.args.numbers.now c.arcs-cut.new.sets c.args.k
+    BeforeFixpoint p gs c.args.work.now c.args.numbers.now c.arcs.new.sets c.args.k
     (bit_or (bit_and c.args.todo ((2 ^ 64 - 1) - bit_and c.args.todo (at c.args.numbers.now (LOOKS + c.args.k)))) c.touched.result) 0 = λ p gs s b n. let m = looks_made p gs s b n in
-    cuts_done s b n wide (c.look_ups-looked.ensures p _ (looks p gs s b n)) c.if-looked-eq-DEAD.false
-    (c.arcs-cut.ensures p (arcs_pending s m.startable.pending)) c.if-cut-eq-DEAD.false (search rules) c.touched.ensures in
+    cuts_done s b n wide (MatchOption-at_some _ _ _ c.in-Some.is (c.look_ups.ensures p _ (looks p gs s b n)))
+    (MatchOption-at_some _ _ _ c.in-Some-arcs.is (c.arcs.ensures p (arcs_pending s m.startable.pending))) (search rules) c.touched.ensures in
     λ p gs s b n. let m = cuts_made p gs s b n in constrained_dead s b m _
     ((c.constrain.ensures p s m.startable.pending).ended c.if-constrain.true)
 
@@ -123,16 +123,16 @@ returns-then-numbers-eq0 c =
     λ p gs s b n. looks_pending s b n wide c.requires.5 in
     let looks_made : (p : Problem) (gs : List (List ℕ)) → ArraysHold p c.args.supports.now c.args.tables.now c.args.numbers.now → Blocked p gs c.args.numbers.now →
     BeforeFixpoint p gs c.args.work.now c.args.numbers.now c.args.sets.now c.args.k c.args.todo c.args.dirty →
-    BeforeFixpoint p gs c.args.work.now c.args.numbers.now c.look_ups-looked.new.sets c.args.k
-    (bit_or (bit_and c.args.todo ((2 ^ 64 - 1) - bit_and c.args.todo (at c.args.numbers.now (LOOKS + c.args.k)))) (touched_of c.args.numbers.now c.look_ups-looked.result))
-    (bit_or c.args.dirty (bit_and c.look_ups-looked.result (at c.args.numbers.now LINKED))) =
-    λ p gs s b n. looks_done s b n (c.look_ups-looked.ensures p _ (looks p gs s b n)) c.if-looked-eq-DEAD.false in
+    BeforeFixpoint p gs c.args.work.now c.args.numbers.now c.look_ups.new.sets c.args.k
+    (bit_or (bit_and c.args.todo ((2 ^ 64 - 1) - bit_and c.args.todo (at c.args.numbers.now (LOOKS + c.args.k)))) (touched_of c.args.numbers.now c.in-Some.looked))
+    (bit_or c.args.dirty (bit_and c.in-Some.looked (at c.args.numbers.now LINKED))) =
+    λ p gs s b n. looks_done s b n (MatchOption-at_some _ _ _ c.in-Some.is (c.look_ups.ensures p _ (looks p gs s b n))) in
     let cuts_made : (p : Problem) (gs : List (List ℕ)) → ArraysHold p c.args.supports.now c.args.tables.now c.args.numbers.now → Blocked p gs c.args.numbers.now →
     BeforeFixpoint p gs c.args.work.now c.args.numbers.now c.args.sets.now c.args.k c.args.todo c.args.dirty →
-    BeforeFixpoint p gs c.args.work.now c.args.numbers.now c.arcs-cut.new.sets c.args.k
+    BeforeFixpoint p gs c.args.work.now c.args.numbers.now c.arcs.new.sets c.args.k
     (bit_or (bit_and c.args.todo ((2 ^ 64 - 1) - bit_and c.args.todo (at c.args.numbers.now (LOOKS + c.args.k)))) c.touched.result) 0 = λ p gs s b n. let m = looks_made p gs s b n in
-    cuts_done s b n wide (c.look_ups-looked.ensures p _ (looks p gs s b n)) c.if-looked-eq-DEAD.false
-    (c.arcs-cut.ensures p (arcs_pending s m.startable.pending)) c.if-cut-eq-DEAD.false (search rules) c.touched.ensures in
+    cuts_done s b n wide (MatchOption-at_some _ _ _ c.in-Some.is (c.look_ups.ensures p _ (looks p gs s b n)))
+    (MatchOption-at_some _ _ _ c.in-Some-arcs.is (c.arcs.ensures p (arcs_pending s m.startable.pending))) (search rules) c.touched.ensures in
     let rested : (p : Problem) (gs : List (List ℕ)) → ArraysHold p c.args.supports.now c.args.tables.now c.args.numbers.now → Blocked p gs c.args.numbers.now →
     BeforeFixpoint p gs c.args.work.now c.args.numbers.now c.args.sets.now c.args.k c.args.todo c.args.dirty →
     BeforeFixpoint p gs c.args.work.now c.args.numbers.now c.if-left-ne0.sets c.args.k 0 0 = λ p gs s b n. let m = cuts_made p gs s b n in
@@ -153,16 +153,16 @@ alternate-requires c =
     λ p gs s b n. looks_pending s b n wide c.requires.5 in
     let looks_made : (p : Problem) (gs : List (List ℕ)) → ArraysHold p c.args.supports.now c.args.tables.now c.args.numbers.now → Blocked p gs c.args.numbers.now →
     BeforeFixpoint p gs c.args.work.now c.args.numbers.now c.args.sets.now c.args.k c.args.todo c.args.dirty →
-    BeforeFixpoint p gs c.args.work.now c.args.numbers.now c.look_ups-looked.new.sets c.args.k
-    (bit_or (bit_and c.args.todo ((2 ^ 64 - 1) - bit_and c.args.todo (at c.args.numbers.now (LOOKS + c.args.k)))) (touched_of c.args.numbers.now c.look_ups-looked.result))
-    (bit_or c.args.dirty (bit_and c.look_ups-looked.result (at c.args.numbers.now LINKED))) =
-    λ p gs s b n. looks_done s b n (c.look_ups-looked.ensures p _ (looks p gs s b n)) c.if-looked-eq-DEAD.false in
+    BeforeFixpoint p gs c.args.work.now c.args.numbers.now c.look_ups.new.sets c.args.k
+    (bit_or (bit_and c.args.todo ((2 ^ 64 - 1) - bit_and c.args.todo (at c.args.numbers.now (LOOKS + c.args.k)))) (touched_of c.args.numbers.now c.in-Some.looked))
+    (bit_or c.args.dirty (bit_and c.in-Some.looked (at c.args.numbers.now LINKED))) =
+    λ p gs s b n. looks_done s b n (MatchOption-at_some _ _ _ c.in-Some.is (c.look_ups.ensures p _ (looks p gs s b n))) in
     let cuts_made : (p : Problem) (gs : List (List ℕ)) → ArraysHold p c.args.supports.now c.args.tables.now c.args.numbers.now → Blocked p gs c.args.numbers.now →
     BeforeFixpoint p gs c.args.work.now c.args.numbers.now c.args.sets.now c.args.k c.args.todo c.args.dirty →
-    BeforeFixpoint p gs c.args.work.now c.args.numbers.now c.arcs-cut.new.sets c.args.k
+    BeforeFixpoint p gs c.args.work.now c.args.numbers.now c.arcs.new.sets c.args.k
     (bit_or (bit_and c.args.todo ((2 ^ 64 - 1) - bit_and c.args.todo (at c.args.numbers.now (LOOKS + c.args.k)))) c.touched.result) 0 = λ p gs s b n. let m = looks_made p gs s b n in
-    cuts_done s b n wide (c.look_ups-looked.ensures p _ (looks p gs s b n)) c.if-looked-eq-DEAD.false
-    (c.arcs-cut.ensures p (arcs_pending s m.startable.pending)) c.if-cut-eq-DEAD.false (search rules) c.touched.ensures in
+    cuts_done s b n wide (MatchOption-at_some _ _ _ c.in-Some.is (c.look_ups.ensures p _ (looks p gs s b n)))
+    (MatchOption-at_some _ _ _ c.in-Some-arcs.is (c.arcs.ensures p (arcs_pending s m.startable.pending))) (search rules) c.touched.ensures in
     let rested : (p : Problem) (gs : List (List ℕ)) → ArraysHold p c.args.supports.now c.args.tables.now c.args.numbers.now → Blocked p gs c.args.numbers.now →
     BeforeFixpoint p gs c.args.work.now c.args.numbers.now c.args.sets.now c.args.k c.args.todo c.args.dirty →
     BeforeFixpoint p gs c.args.work.now c.args.numbers.now c.if-left-ne0.sets c.args.k 0 0 = λ p gs s b n. let m = cuts_made p gs s b n in
@@ -183,16 +183,16 @@ returns c =
     λ p gs s b n. looks_pending s b n wide c.requires.5 in
     let looks_made : (p : Problem) (gs : List (List ℕ)) → ArraysHold p c.args.supports.now c.args.tables.now c.args.numbers.now → Blocked p gs c.args.numbers.now →
     BeforeFixpoint p gs c.args.work.now c.args.numbers.now c.args.sets.now c.args.k c.args.todo c.args.dirty →
-    BeforeFixpoint p gs c.args.work.now c.args.numbers.now c.look_ups-looked.new.sets c.args.k
-    (bit_or (bit_and c.args.todo ((2 ^ 64 - 1) - bit_and c.args.todo (at c.args.numbers.now (LOOKS + c.args.k)))) (touched_of c.args.numbers.now c.look_ups-looked.result))
-    (bit_or c.args.dirty (bit_and c.look_ups-looked.result (at c.args.numbers.now LINKED))) =
-    λ p gs s b n. looks_done s b n (c.look_ups-looked.ensures p _ (looks p gs s b n)) c.if-looked-eq-DEAD.false in
+    BeforeFixpoint p gs c.args.work.now c.args.numbers.now c.look_ups.new.sets c.args.k
+    (bit_or (bit_and c.args.todo ((2 ^ 64 - 1) - bit_and c.args.todo (at c.args.numbers.now (LOOKS + c.args.k)))) (touched_of c.args.numbers.now c.in-Some.looked))
+    (bit_or c.args.dirty (bit_and c.in-Some.looked (at c.args.numbers.now LINKED))) =
+    λ p gs s b n. looks_done s b n (MatchOption-at_some _ _ _ c.in-Some.is (c.look_ups.ensures p _ (looks p gs s b n))) in
     let cuts_made : (p : Problem) (gs : List (List ℕ)) → ArraysHold p c.args.supports.now c.args.tables.now c.args.numbers.now → Blocked p gs c.args.numbers.now →
     BeforeFixpoint p gs c.args.work.now c.args.numbers.now c.args.sets.now c.args.k c.args.todo c.args.dirty →
-    BeforeFixpoint p gs c.args.work.now c.args.numbers.now c.arcs-cut.new.sets c.args.k
+    BeforeFixpoint p gs c.args.work.now c.args.numbers.now c.arcs.new.sets c.args.k
     (bit_or (bit_and c.args.todo ((2 ^ 64 - 1) - bit_and c.args.todo (at c.args.numbers.now (LOOKS + c.args.k)))) c.touched.result) 0 = λ p gs s b n. let m = looks_made p gs s b n in
-    cuts_done s b n wide (c.look_ups-looked.ensures p _ (looks p gs s b n)) c.if-looked-eq-DEAD.false
-    (c.arcs-cut.ensures p (arcs_pending s m.startable.pending)) c.if-cut-eq-DEAD.false (search rules) c.touched.ensures in
+    cuts_done s b n wide (MatchOption-at_some _ _ _ c.in-Some.is (c.look_ups.ensures p _ (looks p gs s b n)))
+    (MatchOption-at_some _ _ _ c.in-Some-arcs.is (c.arcs.ensures p (arcs_pending s m.startable.pending))) (search rules) c.touched.ensures in
     let rested : (p : Problem) (gs : List (List ℕ)) → ArraysHold p c.args.supports.now c.args.tables.now c.args.numbers.now → Blocked p gs c.args.numbers.now →
     BeforeFixpoint p gs c.args.work.now c.args.numbers.now c.args.sets.now c.args.k c.args.todo c.args.dirty →
     BeforeFixpoint p gs c.args.work.now c.args.numbers.now c.if-left-ne0.sets c.args.k 0 0 = λ p gs s b n. let m = cuts_made p gs s b n in

@@ -1,10 +1,7 @@
-use Rattle.model.specs.Kit.{◌+◌, ◌*◌, ◌-◌, ◌≤◌}
+use Rattle.model.specs.Kit.{◌+◌, ◌*◌, ◌≤◌}
 use Rattle.model.specs.Lists.{at}
 use Rattle.prune.proofs.{Copies.Filled}
 use Rattle.prune.proofs.load.Given as goal
 
 abbrev pub invariant-loop-i : goal.invariant-loop-i
 invariant-loop-i l = (l.i ≤ 16) × Filled (λ x. at l.stack (16 * l.k + x)) 0 l.initial.sets l.sets l.i
-
-abbrev pub decreases-loop-i : goal.decreases-loop-i
-decreases-loop-i l = 16 - l.i

@@ -1,10 +1,10 @@
 -- What the functions inside this crate say to each other: sixteen sets at hand, of which the first are those of p's variables.
-use Rattle.std.specs.Prelude.{◌≡◌, Bool, true, false, not, List, ℕ, ◌+◌, ◌-◌, ◌*◌, ◌≤◌, ◌<◌, T, eqb, ltb, length, take}
+use Rattle.std.specs.Prelude.{◌≡◌, Bool, true, false, not, List, ℕ, ◌+◌, ◌-◌, ◌*◌, ◌≤◌, ◌<◌, T, eqb, ltb, length, take, Option, MatchOption}
 use Rattle.model.specs.Kit.{Memᴰ}
 use Rattle.model.specs.{Lists.both, Lists.at, Lists.tabulate, ValueSets.has, ValueSets.mask_of, ValueSets.any_empty, ValueSets.Inside, Problem.Problem, Problem.with_symmetries, Problem.constraint_at}
 use Rattle.model.specs.{Nogood.filtered, Search.nogoods_of, Search.sets_at, Search.is_live, Inner.Pruning.Sets, Inner.Pruning.Way, Inner.Pruning.Prunes}
 use Rattle.model.specs.Inner.WellFormed.{WellFormed}
-use Rattle.arrays.specs.{Inner.Places.MARKS, Inner.Places.DEAD, Inner.Places.WORK, Inner.Tables.Indexed, Inner.Tables.is_by_rows, Inner.Pruning.Given, Inner.Pruning.Ended}
+use Rattle.arrays.specs.{Inner.Places.MARKS, Inner.Places.WORK, Inner.Tables.Indexed, Inner.Tables.is_by_rows, Inner.Pruning.Given, Inner.Pruning.Ended}
 use Rattle.arrays.specs.Inner.Pruning.{Fixed, Arc, sets_of}
 use Rattle.block.specs.{Inner.BlockSets.BlockIn, Inner.Claims.Ascends}
 use Rattle.prune.specs.Inner.Node.{MarksRight, block_of}
@@ -128,13 +128,20 @@ pub record Differ (old new : List ℕ) (changed : ℕ) : Type 0 where
 unfoldable pub cut_below : ℕ → ℕ → List ℕ → List ℕ
 cut_below some v sets = tabulate (length sets) (λ y. mask_of (λ u. both (has (at sets y) u) (not (both (has some y) (ltb u v)))))
 
--- the values below v are taken from the sets of some variables: the answer is the variables whose sets have changed, or DEAD where one is empty
-pub record CutOr (sets cut sets' : List ℕ) (some : ℕ) (r : ℕ) : Type 0 where
-  pub dead : r ≡ DEAD → (y : ℕ) × (T (has some y) × (at cut y ≡ 0))
-  pub cut_to : (r ≡ DEAD → ⊥) → sets' ≡ cut
-  pub full : (r ≡ DEAD → ⊥) → (y : ℕ) → T (has some y) → at sets' y ≡ 0 → at sets y ≡ 0
-  pub differ : (r ≡ DEAD → ⊥) → Differ sets sets' r
-  pub few : (r ≡ DEAD → ⊥) → (x : ℕ) → T (has r x) → T (has some x)
+-- one of the sets of some variables would be empty once they are cut
+abbrev pub CutEmpty : List ℕ → ℕ → Type 0
+CutEmpty cut some = (y : ℕ) × (T (has some y) × (at cut y ≡ 0))
+
+-- they are cut, and r has the variables whose sets changed
+pub record CutTo (sets cut sets' : List ℕ) (some r : ℕ) : Type 0 where
+  pub cut_to : sets' ≡ cut
+  pub full : (y : ℕ) → T (has some y) → at sets' y ≡ 0 → at sets y ≡ 0
+  pub differ : Differ sets sets' r
+  pub few : (x : ℕ) → T (has r x) → T (has some x)
+
+-- the values below v are taken from the sets of some variables: the answer is the variables whose sets have changed, or None where one is empty
+abbrev pub CutOr : List ℕ → List ℕ → List ℕ → ℕ → Option ℕ → Type 0
+CutOr sets cut sets' some r = MatchOption r (CutEmpty cut some) (CutTo sets cut sets' some)
 
 -- ---- copies
 -- sixteen sets from a depth of the stack

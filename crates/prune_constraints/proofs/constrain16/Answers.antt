@@ -1,5 +1,7 @@
 -- The loop: only the constraints left of this round, and those of the next, may take something. Assumes nothing.
-use Rattle.model.specs.Kit.{inr, ◌<◌, arith, rules, count_trailing_zeros}
+use Rattle.model.specs.Kit.{sym, subst, inr, ◌<◌, arith, rules, count_trailing_zeros}
+use Rattle.std.proofs.lemmas.Option.{MatchOption-at_none, MatchOption-at_some}
+use Rattle.prune_constraints.specs.Inner.Revised.{Constrained}
 use Rattle.prune_constraints.proofs.ConstrainLoop.{Chosen, all_due, chosen_some, constrained_begin, constrained_end, k_lt, k_few, k_full, constrained_dead, constrained_more}
 use Rattle.prune_constraints.proofs.ConstrainLoop.{more_less, constrained_same, same_less}
 use Rattle.prune_constraints.proofs.constrain16.Goals as goal
@@ -11,15 +13,16 @@ loop-left-init c = λ p w. constrained_begin p _ _ _ _ (search rules) w
 pub returns-then-next-eq0 : goal.returns-then-next-eq0
 returns-then-next-eq0 c = λ p w. constrained_end p _ _ _ _ _ _ _ c.if-left-eq0.true c.if-next-eq0.true (c.loop-left.invariant p w)
 
-pub returns-then-changed-eq-DEAD : goal.returns-then-changed-eq-DEAD
-returns-then-changed-eq-DEAD c =
+pub returns-in_err-changed : goal.returns-in_err-changed
+returns-in_err-changed c =
     let choice : Chosen c.loop-left.left c.loop-left.next c.if-left-eq0.left c.if-left-eq0.next =
     (elim c.if-left-eq0.branch [
       | then-left-eq0+else-next-eq0 q ↦ all_due q.if-left-eq0.true (c.loop-left.invariant _ c.requires.1).wide_next q.if-next-eq0.false q.left-is q.next-is
       | else-left-eq0 q ↦ inr (q.if-left-eq0.false, q.left-is, q.next-is)
     ]) in
-    let o = choice in λ p w. let i = c.loop-left.invariant p w in constrained_dead i o
-    (c.revise16-changed.ensures p i.held (k_lt i o)) c.if-changed-eq-DEAD.true
+    let o = choice in λ p w. let i = c.loop-left.invariant p w in
+    subst (Constrained p c.args.sets.now c.revise16.new.sets) (sym c.from_residual.ensures)
+    (constrained_dead i o (MatchOption-at_none _ _ c.in_err-changed.was (c.revise16.ensures p i.held (k_lt i o))))
 
 pub loop-left-smaller-then-changed-ne0 : goal.loop-left-smaller-then-changed-ne0
 loop-left-smaller-then-changed-ne0 c =
@@ -29,8 +32,7 @@ loop-left-smaller-then-changed-ne0 c =
       | else-left-eq0 q ↦ inr (q.if-left-eq0.false, q.left-is, q.next-is)
     ]) in
     let o = choice in let i = c.loop-left.invariant _
-    c.requires.1 in more_less i o (c.revise16-changed.ensures _ i.held (k_lt i o))
-    c.if-changed-eq-DEAD.false (search rules) c.waiting-next.ensures (search rules) c.if-changed-ne0.true
+    c.requires.1 in more_less i o (MatchOption-at_some _ _ _ c.in_ok-changed.was (c.revise16.ensures _ i.held (k_lt i o))) (search rules) c.waiting-next.ensures (search rules) c.if-changed-ne0.true
 
 pub loop-left-preserved-then-changed-ne0 : goal.loop-left-preserved-then-changed-ne0
 loop-left-preserved-then-changed-ne0 c =
@@ -40,7 +42,7 @@ loop-left-preserved-then-changed-ne0 c =
       | else-left-eq0 q ↦ inr (q.if-left-eq0.false, q.left-is, q.next-is)
     ]) in
     let o = choice in λ p w. let i = c.loop-left.invariant p w in
-    constrained_more i o (c.revise16-changed.ensures p i.held (k_lt i o)) c.if-changed-eq-DEAD.false (search rules)
+    constrained_more i o (MatchOption-at_some _ _ _ c.in_ok-changed.was (c.revise16.ensures p i.held (k_lt i o))) (search rules)
     c.waiting-next.ensures
 
 pub loop-left-smaller : goal.loop-left-smaller
@@ -51,7 +53,7 @@ loop-left-smaller c =
       | else-left-eq0 q ↦ inr (q.if-left-eq0.false, q.left-is, q.next-is)
     ]) in
     let o = choice in let i = c.loop-left.invariant _
-    c.requires.1 in same_less i o (c.revise16-changed.ensures _ i.held (k_lt i o)) c.if-changed-eq-DEAD.false
+    c.requires.1 in same_less i o (MatchOption-at_some _ _ _ c.in_ok-changed.was (c.revise16.ensures _ i.held (k_lt i o)))
 
 pub loop-left-preserved : goal.loop-left-preserved
 loop-left-preserved c =
@@ -61,7 +63,7 @@ loop-left-preserved c =
       | else-left-eq0 q ↦ inr (q.if-left-eq0.false, q.left-is, q.next-is)
     ]) in
     let o = choice in λ p w. let i = c.loop-left.invariant p w in constrained_same i o
-    (c.revise16-changed.ensures p i.held (k_lt i o)) c.if-changed-eq-DEAD.false c.if-changed-ne0.false
+    (MatchOption-at_some _ _ _ c.in_ok-changed.was (c.revise16.ensures p i.held (k_lt i o))) c.if-changed-ne0.false
 
 pub overflow_cast-k : goal.overflow_cast-k
 overflow_cast-k c =
@@ -73,8 +75,8 @@ overflow_cast-k c =
     let few : count_trailing_zeros 64 c.if-left-eq0.left < 32 = k_few (c.loop-left.invariant _ c.requires.1) choice in
     omega (arith, few)
 
-pub revise16-changed-requires : goal.revise16-changed-requires
-revise16-changed-requires c =
+pub revise16-requires : goal.revise16-requires
+revise16-requires c =
     let choice : Chosen c.loop-left.left c.loop-left.next c.if-left-eq0.left c.if-left-eq0.next =
     (elim c.if-left-eq0.branch [
       | then-left-eq0+else-next-eq0 q ↦ all_due q.if-left-eq0.true (c.loop-left.invariant _ c.requires.1).wide_next q.if-next-eq0.false q.left-is q.next-is

@@ -36,4 +36,4 @@ revise_one-requires c =
 pub returns : goal.returns
 unfolding at
 returns c =
-    λ p g l. look_made g l c.requires.sets c.scope_at-x.ensures c.scope_at-z.ensures c.revise_one.ensures
+    λ p g l. look_made g l c.requires.sets c.scope_at-x.ensures c.scope_at-z.ensures _ c.revise_one.result c.revise_one.ensures

@@ -26,4 +26,4 @@ revise_one-requires c = let s = read_1 c.requires.constraints_held.1 _ c.require
 pub returns : goal.returns
 unfolding at
 returns c =
-    λ p g h. one (read_1 g _ h _ c.scope_at-x.ensures c.requires.fact (λ e. c.if-arity-eq2.false (c.arity.ensures ∙ e))) _ c.requires.sets _ _ c.revise_one.ensures
+    λ p g h. one (read_1 g _ h _ c.scope_at-x.ensures c.requires.fact (λ e. c.if-arity-eq2.false (c.arity.ensures ∙ e))) _ c.requires.sets _ c.revise_one.result c.revise_one.ensures

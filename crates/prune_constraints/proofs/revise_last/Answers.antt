@@ -16,8 +16,8 @@ pub returns : goal.returns
 unfolding at
 returns c =
     λ e q.
-    three_last q _ c.requires.sets c.requires.one_value.0 c.requires.one_value.1 _ (ap₂ (λ (u v : ℕ). 256 * c.args.k + 16 * u + v) c.lowest-u.ensures c.lowest-v.ensures) _ _
-    c.revise_one.ensures
+    three_last q _ c.requires.sets c.requires.one_value.0 c.requires.one_value.1 _ (ap₂ (λ (u v : ℕ). 256 * c.args.k + 16 * u + v) c.lowest-u.ensures c.lowest-v.ensures) _
+    c.revise_one.result c.revise_one.ensures
 
 pub offset_bounds-sets-x : goal.offset_bounds-sets-x
 offset_bounds-sets-x c =

@@ -1,9 +1,9 @@
 -- What the functions inside this crate say to each other: tables of sets, and one constraint at a time.
-use Rattle.std.specs.Prelude.{◌≡◌, not, ◌⊎◌, List, [], ◌∷◌, ◌++◌, ℕ, suc, ◌+◌, ◌*◌, ◌^◌, ◌<◌, T, eqb, length, set}
+use Rattle.std.specs.Prelude.{◌≡◌, not, ◌⊎◌, List, [], ◌∷◌, ◌++◌, ℕ, suc, ◌+◌, ◌*◌, ◌^◌, ◌<◌, T, eqb, length, set, Option, MatchOption}
 use Rattle.model.specs.Kit.{Memᴰ, bit_and, bit_or}
 use Rattle.model.specs.{Lists.any, Lists.at, Lists.same, Lists.ascending, ValueSets.has, ValueSets.mask_of, ValueSets.one_if, Problem.Problem, Problem.Constraint}
 use Rattle.model.specs.Inner.WellFormed.{WellFormed}
-use Rattle.arrays.specs.{Inner.Places.VALUES, Inner.Places.OTHERS, Inner.Places.DEAD, Inner.Layout.Numbers, Inner.Layout.Supports, Inner.Layout.place, Inner.Tables.Words}
+use Rattle.arrays.specs.{Inner.Places.VALUES, Inner.Places.OTHERS, Inner.Layout.Numbers, Inner.Layout.Supports, Inner.Layout.place, Inner.Tables.Words}
 
 -- a set of one value
 pub record OneValue (a : ℕ) : Type 0 where
@@ -76,13 +76,20 @@ pub record ConstraintsHeld (p : Problem) (numbers supports : List ℕ) : Type 0 
   pub tabled : Supports p supports
   pub worded : at numbers VALUES < 9 → Words numbers supports
 
--- the set of x becomes t; at DEAD t is empty and nothing is stored
-pub record SetCut (ds es : List ℕ) (x t r : ℕ) : Type 0 where
-  pub ended : r ≡ DEAD → t ≡ 0
-  pub kept : r ≡ DEAD → es ≡ ds
-  pub full : (r ≡ DEAD → ⊥) → t ≡ 0 → ⊥
-  pub stored : (r ≡ DEAD → ⊥) → es ≡ set ds x t
-  pub moved : (r ≡ DEAD → ⊥) → r ≡ one_if (not (eqb t (at ds x))) x
+-- t is empty, and nothing is stored
+pub record SetEmptied (ds es : List ℕ) (t : ℕ) : Type 0 where
+  pub ended : t ≡ 0
+  pub kept : es ≡ ds
+
+-- t is stored as the set of x, and r has x where that changed
+pub record SetStored (ds es : List ℕ) (x t r : ℕ) : Type 0 where
+  pub full : t ≡ 0 → ⊥
+  pub stored : es ≡ set ds x t
+  pub moved : r ≡ one_if (not (eqb t (at ds x))) x
+
+-- the set of x becomes t: the answer is None where t is empty
+abbrev pub SetCut : List ℕ → List ℕ → ℕ → ℕ → Option ℕ → Type 0
+SetCut ds es x t r = MatchOption r (SetEmptied ds es t) (SetStored ds es x t)
 
 -- the constraints, but those pruned by variable, that have one of the changed variables in their scope: the union of what OTHERS has for each
 pub record Touched (numbers : List ℕ) (changed r : ℕ) : Type 0 where

@@ -13,30 +13,3 @@ loop-y-preserved c = adding_turn c.loop-y.invariant (omega arith) (c.requires.1 
 
 pub returns : goal.returns
 returns c = adding_end c.loop-y.invariant (omega arith)
-
-pub offset_bounds-cover-y : goal.offset_bounds-cover-y
-offset_bounds-cover-y c = omega arith
-
-pub bounds-cover-y : goal.bounds-cover-y
-bounds-cover-y c = omega arith
-
-pub overflow_add-cover : goal.overflow_add-cover
-overflow_add-cover c = omega arith
-
-pub offset_bounds-tables-base : goal.offset_bounds-tables-base
-offset_bounds-tables-base c = omega arith
-
-pub bounds-tables-base : goal.bounds-tables-base
-bounds-tables-base c = omega arith
-
-pub offset_bounds-cover-y-in-loop-y : goal.offset_bounds-cover-y-in-loop-y
-offset_bounds-cover-y-in-loop-y c = omega arith
-
-pub bounds-cover-y-in-loop-y : goal.bounds-cover-y-in-loop-y
-bounds-cover-y-in-loop-y c = omega arith
-
-pub overflow_add-y : goal.overflow_add-y
-overflow_add-y c = omega arith
-
-pub loop-y-smaller : goal.loop-y-smaller
-loop-y-smaller c = omega arith

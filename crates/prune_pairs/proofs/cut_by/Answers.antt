@@ -22,7 +22,7 @@ pub returns-then-is_empty : goal.returns-then-is_empty
 unfolding at
 returns-then-is_empty c =
     let e = eqb-true _ 0 (sym c.is_empty.ensures ∙ c.if-is_empty.true) in
-    λ p w. by_row w c.lowest.ensures (sym c.without_lowest.ensures ∙ e) (omega (arith, x_lt c.requires.1, low_lt c.requires.1 _ c.lowest.ensures)) c.cut_row.ensures
+    λ p w. by_row w c.lowest.ensures (sym c.without_lowest.ensures ∙ e) (omega (arith, x_lt c.requires.1, low_lt c.requires.1 _ c.lowest.ensures)) _ c.cut_row.result c.cut_row.ensures
 
 pub returns-then-loose-x-eq1 : goal.returns-then-loose-x-eq1
 unfolding at
@@ -32,7 +32,7 @@ returns-then-loose-x-eq1 c =
 
 pub returns-then-exceeds : goal.returns-then-exceeds
 unfolding at
-returns-then-exceeds c = λ p w. by_cut w c.cover_of-cover.ensures c.cut.ensures
+returns-then-exceeds c = λ p w. by_cut w c.cover_of-cover.ensures _ c.cut.result c.cut.ensures
 
 pub returns : goal.returns
 unfolding at

@@ -21,33 +21,3 @@ loop-y-preserved c = cutting_same c.loop-y.invariant (omega arith) c.if-new-old.
 
 pub returns : goal.returns
 returns c = cutting_end c.loop-y.invariant (λ i h l. c.requires.2 i (omega arith) l)
-
-pub overflow_sub-y : goal.overflow_sub-y
-overflow_sub-y c = omega arith
-
-pub offset_bounds-sets-y : goal.offset_bounds-sets-y
-offset_bounds-sets-y c = omega arith
-
-pub bounds-sets-y : goal.bounds-sets-y
-bounds-sets-y c = omega arith
-
-pub offset_bounds-row-y : goal.offset_bounds-row-y
-offset_bounds-row-y c = omega arith
-
-pub bounds-row-y : goal.bounds-row-y
-bounds-row-y c = omega arith
-
-pub offset_bounds-sets-y-then-new-old : goal.offset_bounds-sets-y-then-new-old
-offset_bounds-sets-y-then-new-old c = omega arith
-
-pub bounds-sets-y-then-new-old : goal.bounds-sets-y-then-new-old
-bounds-sets-y-then-new-old c = omega arith
-
-pub overflow_shl-changed : goal.overflow_shl-changed
-overflow_shl-changed c = omega arith
-
-pub loop-y-smaller-then-new-old : goal.loop-y-smaller-then-new-old
-loop-y-smaller-then-new-old c = omega arith
-
-pub loop-y-smaller : goal.loop-y-smaller
-loop-y-smaller c = omega arith

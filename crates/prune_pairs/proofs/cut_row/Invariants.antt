@@ -3,6 +3,3 @@ use Rattle.prune_pairs.proofs.cut_row.Given as goal
 
 abbrev pub invariant-loop-y : goal.invariant-loop-y
 invariant-loop-y l = Cutting l.initial.sets l.row l.sets l.changed l.y
-
-abbrev pub decreases-loop-y : goal.decreases-loop-y
-decreases-loop-y l = l.y

@@ -13,21 +13,3 @@ loop-y-preserved c = compared_turn c.loop-y.invariant (omega arith) (c.requires.
 
 pub returns : goal.returns
 returns c = λ e. compared_end c.loop-y.invariant (omega arith) c.requires.0.0 (ne_false _ e)
-
-pub offset_bounds-sets-y : goal.offset_bounds-sets-y
-offset_bounds-sets-y c = omega arith
-
-pub bounds-sets-y : goal.bounds-sets-y
-bounds-sets-y c = omega arith
-
-pub offset_bounds-cover-y : goal.offset_bounds-cover-y
-offset_bounds-cover-y c = omega arith
-
-pub bounds-cover-y : goal.bounds-cover-y
-bounds-cover-y c = omega arith
-
-pub overflow_add-y : goal.overflow_add-y
-overflow_add-y c = omega arith
-
-pub loop-y-smaller : goal.loop-y-smaller
-loop-y-smaller c = omega arith

@@ -4,7 +4,7 @@ use Rattle.prune_symmetries.proofs.{ImageTables.first_lt, ImageTables.cut_missed
 use Rattle.prune_symmetries.proofs.cut.Goals as goal
 
 pub returns-then-not-hits : goal.returns-then-not-hits
-returns-then-not-hits c = record { sixteen = refl; entries = λ p w. cut_missed w c.hits.result c.hits.ensures c.if-not-hits.true-raw }
+returns-then-not-hits c = record { sixteen = refl; entries = λ p w. cut_missed w c.hits.result c.hits.ensures c.if-not-hits.true }
 
 pub take-requires : goal.take-requires
 take-requires c = let a = (first_lt c.requires.1).0 in let b = (first_lt c.requires.1).1 in let d = (first_lt

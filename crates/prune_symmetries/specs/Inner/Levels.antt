@@ -1,11 +1,11 @@
 -- The filter of one symmetry at a prefix: what the crate's function asks and answers, and what its parts say to each other.
 -- A level is what one variable of the prefix adds to the symmetry's list. No list is built: the entries are read from the tables.
-use Rattle.std.specs.Prelude.{◌≡◌, Bool, true, false, List, [], ◌∷◌, ◌++◌, map, ◌⊎◌, ℕ, ◌+◌, ◌-◌, ◌*◌, ◌/◌, ◌%◌, ◌^◌, ◌≤◌, ◌<◌, T, eqb, ltb, leb, length, take}
+use Rattle.std.specs.Prelude.{◌≡◌, Bool, true, false, List, [], ◌∷◌, ◌++◌, map, ◌⊎◌, ℕ, ◌+◌, ◌-◌, ◌*◌, ◌/◌, ◌%◌, ◌^◌, ◌≤◌, ◌<◌, T, eqb, ltb, leb, length, take, Option, MatchOption}
 use Rattle.model.specs.Kit.{bit_and}
 use Rattle.model.specs.Nogood.{Entry, equality, disequality, filtered, FilterEnding, failed, entailed, consistent, filter_ending}
 use Rattle.model.specs.{Lists.at, Lists.choose, Lists.keep, Lists.flat, Lists.up_from, ValueSets.has, ValueSets.members, ValueSets.any_empty, ValueSets.Inside, Problem.Problem, Problem.symmetry_at}
 use Rattle.model.specs.{NogoodClaims.Entails, Search.nogoods_of, Inner.WellFormed.WellFormed}
-use Rattle.arrays.specs.{Inner.Places.SMALLER, Inner.Places.OWN, Inner.Places.ENTAILED, Inner.Places.OBEYED, Inner.Places.FAILED, Inner.Places.WORK, Inner.Tables.ImageTables}
+use Rattle.arrays.specs.{Inner.Places.SMALLER, Inner.Places.OWN, Inner.Places.ENTAILED, Inner.Places.OBEYED, Inner.Places.WORK, Inner.Tables.ImageTables}
 use Rattle.arrays.specs.Inner.Tables.{image_of}
 use Rattle.filter.specs.Inner.Scan.{step_of, None, Live, Passed, Remainder}
 use Rattle.filter.specs.{declared.entry.Step.Step, Inner.Lists.forced, Marks.Vacuous, Marks.NamesGone, Marks.Skippable}
@@ -28,9 +28,9 @@ MarkBy false p ds prefix e m = Resumes p ds prefix e m
 abbrev pub Mark : Problem → List ℕ → List ℕ → ℕ → ℕ → Type 0
 Mark p ds prefix e m = MarkBy (eqb m OBEYED) p ds prefix e m
 
--- how the filter ended at a prefix of k values, by its answer
+-- how the filter ended at a prefix of k values, by its mark
 abbrev pub ending_at : ℕ → ℕ → FilterEnding
-ending_at k r = choose (eqb r FAILED) failed (choose (leb (ENTAILED * k) r) entailed consistent)
+ending_at k m = choose (leb (ENTAILED * k) m) entailed consistent
 
 -- the tables hold p's symmetries; the first k numbers of `work` are values of the initial sets of variables 0 to k - 1;
 -- of sixteen sets the first n are p's variables', none of them empty, and the others are {0}; the levels before `start` say nothing more
@@ -51,15 +51,25 @@ pub record FilterRequires (p : Problem) (sets work tables : List ℕ) (e k start
 abbrev pub leaves : Problem → List ℕ → List ℕ → ℕ → ℕ → List ℕ
 leaves p sets work e k = filtered (take p.variables sets) (nogoods_of p (symmetry_at p e) (take k work))
 
--- the answer says how the filter ended, and is FAILED where it leaves an empty set; else the sets are what it leaves, and the answer is a mark for them
-pub record FilterEnsures (p : Problem) (sets work : List ℕ) (e k : ℕ) (sets' : List ℕ) (r : ℕ) : Type 0 where
-  pub ending : ending_at k r ≡ filter_ending (take p.variables sets) (nogoods_of p (symmetry_at p e) (take k work))
-  pub answers : eqb r FAILED ≡ any_empty (leaves p sets work e k)
-  pub left : (r ≡ FAILED → ⊥) → take p.variables sets' ≡ leaves p sets work e k
-  pub live : (r ≡ FAILED → ⊥) → Live p.variables sets'
-  pub unused : (r ≡ FAILED → ⊥) → (x : ℕ) → p.variables ≤ x → x < 16 → at sets' x ≡ 1
-  pub mark : (r ≡ FAILED → ⊥) → Mark p (take p.variables sets') (take k work) e r
+-- no assignment obeys: what the filter leaves has an empty set
+pub record FilterFailed (p : Problem) (sets work : List ℕ) (e k : ℕ) (sets' : List ℕ) : Type 0 where
+  pub ending : failed ≡ filter_ending (take p.variables sets) (nogoods_of p (symmetry_at p e) (take k work))
+  pub empty : any_empty (leaves p sets work e k) ≡ true
   pub sixteen : length sets' ≡ 16
+
+-- the sets are what the filter leaves, none of them empty; m is a mark for them, and says how it ended
+pub record FilterMade (p : Problem) (sets work : List ℕ) (e k : ℕ) (sets' : List ℕ) (m : ℕ) : Type 0 where
+  pub ending : ending_at k m ≡ filter_ending (take p.variables sets) (nogoods_of p (symmetry_at p e) (take k work))
+  pub full : any_empty (leaves p sets work e k) ≡ false
+  pub left : take p.variables sets' ≡ leaves p sets work e k
+  pub live : Live p.variables sets'
+  pub unused : (x : ℕ) → p.variables ≤ x → x < 16 → at sets' x ≡ 1
+  pub mark : Mark p (take p.variables sets') (take k work) e m
+  pub sixteen : length sets' ≡ 16
+
+-- the answer is None where the filter leaves an empty set, else a mark for what it leaves
+abbrev pub FilterEnsures : Problem → List ℕ → List ℕ → ℕ → ℕ → List ℕ → Option ℕ → Type 0
+FilterEnsures p sets work e k sets' r = MatchOption r (FilterFailed p sets work e k sets') (FilterMade p sets work e k sets')
 
 -- ---- between the functions of the crate: the entries, as the tables hold them
 -- where the tables have the sets of the smaller values of x, sixteen, and the image of (x, v)
@@ -186,12 +196,15 @@ pub record SplitReached (p : Problem) (ss work tables : List ℕ) (e k start : �
   pub before : Vacuous (take p.variables rs) (levels p work e start j)
   pub made : CutsMade p.variables ss (levels p work e start j ++ cuts p e j (at work j)) rs
 
--- how far a pass from a level came
-pub data PassResult (p : Problem) (ss work tables : List ℕ) (e k start : ℕ) (rs : List ℕ) (r : ℕ) : Type 0 where
-  pass_failed : r ≡ FAILED → NoneObeys p.variables ss (levels p work e start k) → PassResult p ss work tables e k start rs r
-  pass_obeyed : r ≡ OBEYED → CutsObeyed p.variables ss (levels p work e start k) rs → PassResult p ss work tables e k start rs r
-  pass_ended : r ≡ ENTAILED * k + k → CutsMade p.variables ss (levels p work e start k) rs → PassResult p ss work tables e k start rs r
-  pass_split : r < k → SplitReached p ss work tables e k start rs r → PassResult p ss work tables e k start rs r
+-- how far a pass from a level came, where some assignment may obey
+pub data PassCame (p : Problem) (ss work tables : List ℕ) (e k start : ℕ) (rs : List ℕ) (r : ℕ) : Type 0 where
+  pass_obeyed : r ≡ OBEYED → CutsObeyed p.variables ss (levels p work e start k) rs → PassCame p ss work tables e k start rs r
+  pass_ended : r ≡ ENTAILED * k + k → CutsMade p.variables ss (levels p work e start k) rs → PassCame p ss work tables e k start rs r
+  pass_split : r < k → SplitReached p ss work tables e k start rs r → PassCame p ss work tables e k start rs r
+
+-- the answer of a pass: None where no assignment obeys
+abbrev pub PassResult : Problem → List ℕ → List ℕ → List ℕ → ℕ → ℕ → ℕ → List ℕ → Option ℕ → Type 0
+PassResult p ss work tables e k start rs r = MatchOption r (NoneObeys p.variables ss (levels p work e start k)) (PassCame p ss work tables e k start rs)
 
 -- the sets with the pair y forced
 abbrev pub forced_by : List ℕ → ℕ → List ℕ

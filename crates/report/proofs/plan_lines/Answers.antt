@@ -1,7 +1,6 @@
 -- `plan_lines`: after i turns the lines of the first i rows stand at the front. Assumes nothing.
-use Rattle.model.specs.Kit.{◌≡◌, refl, sym, ap, ◌∙◌, subst, List, ℕ, ◌+◌, ◌*◌, ◌≤◌, suc-mul, add-one, arith, rules, length}
+use Rattle.model.specs.Kit.{◌≡◌, refl, ◌∙◌, subst, List, ℕ, ◌+◌, ◌*◌, ◌≤◌, arith, length}
 use Rattle.model.specs.{Lists.flat, Run.listed_plans, Written.Written}
-use native.Mathlib.Nat.{zero-mul}
 use Rattle.report.specs.Inner.Text.{plan_lines}
 use Rattle.model.proofs.Written.{written_none}
 use Rattle.report.proofs.{Lines.row_inside, Lines.plans_turn, Lines.lines_step, Lines.lines_fit}
@@ -13,70 +12,50 @@ start d n list = written_none d 0
 
 pub loop-i-init : goal.loop-i-init
 loop-i-init c =
-    (search rules, refl, sym (zero-mul c.args.n), start c.args.out.now c.args.n c.args.list.now)
+    (refl, start c.args.out.now c.args.n c.args.list.now)
 
 pub plan_line-next-requires : goal.plan_line-next-requires
 plan_line-next-requires c =
     omega (
       arith,
-      lines_step c.args.n c.loop-i.i c.loop-i.at c.args.list.now c.loop-i.invariant.2,
-      lines_fit c.args.n c.loop-i.i c.args.plans c.args.list.now c.loop-i-test.true,
-      c.loop-i.invariant.1,
-      c.loop-i.invariant.3.ends,
+      lines_step c.args.n c.loop-i.i (c.loop-i.i * c.args.n) c.args.list.now refl,
+      lines_fit c.args.n c.loop-i.i c.args.plans c.args.list.now (omega arith),
+      c.loop-i.invariant.0,
+      c.loop-i.invariant.1.ends,
       c.requires.1,
     )
 
 pub loop-i-preserved : goal.loop-i-preserved
 loop-i-preserved c = (
-  omega arith,
-  c.plan_line-next.auto.out ∙ c.loop-i.invariant.1,
-  ap (λ (k : ℕ). k + c.args.n) c.loop-i.invariant.2 ∙ sym (suc-mul c.loop-i.i c.args.n) ∙ ap (λ (k : ℕ). k * c.args.n) (sym (add-one c.loop-i.i)),
-  plans_turn c.args.n c.loop-i.i c.loop-i.at c.args.list.now c.loop-i.invariant.2
+  c.plan_line-next.auto.out ∙ c.loop-i.invariant.0,
+  plans_turn c.args.n c.loop-i.i (c.loop-i.i * c.args.n) c.args.list.now refl
       (omega (
         arith,
-        lines_step c.args.n c.loop-i.i c.loop-i.at c.args.list.now c.loop-i.invariant.2,
+        lines_step c.args.n c.loop-i.i (c.loop-i.i * c.args.n) c.args.list.now refl,
         lines_fit c.args.n c.loop-i.i c.args.plans c.args.list.now
-            c.loop-i-test.true,
-        c.loop-i.invariant.3.ends,
+            (omega arith),
+        c.loop-i.invariant.1.ends,
         c.requires.1,
       ))
-      c.loop-i.invariant.3 c.plan_line-next.ensures,
+      c.loop-i.invariant.1 c.plan_line-next.ensures,
 )
 
 pub returns : goal.returns
 returns c =
     let last : c.loop-i.i ≡ c.args.plans = omega arith in
-    subst (λ (k : ℕ). Written c.args.out.now 0 (plan_lines c.args.n k c.args.list.now) c.loop-i.out c.loop-i.next) last c.loop-i.invariant.3
+    subst (λ (k : ℕ). Written c.args.out.now 0 (plan_lines c.args.n k c.args.list.now) c.loop-i.out c.loop-i.next) last c.loop-i.invariant.1
 
 pub overflow_add-at : goal.overflow_add-at
 overflow_add-at c =
-    let inside : c.loop-i.at + c.args.n ≤ length c.args.list.now =
-    row_inside c.args.n c.loop-i.i c.args.plans c.loop-i.at (length c.args.list.now) c.loop-i-test.true c.loop-i.invariant.2 c.requires.0 in
+    let inside : (c.loop-i.i * c.args.n) + c.args.n ≤ length c.args.list.now =
+    row_inside c.args.n c.loop-i.i c.args.plans (c.loop-i.i * c.args.n) (length c.args.list.now) (omega arith) refl c.requires.0 in
     omega (arith, inside)
-
-pub slice_bounds-plan_line-count : goal.slice_bounds-plan_line-count
-slice_bounds-plan_line-count c = omega arith
-
-pub slice_bounds-plan_line-start : goal.slice_bounds-plan_line-start
-slice_bounds-plan_line-start c = omega arith
 
 pub slice_bounds-plan_line-end : goal.slice_bounds-plan_line-end
 slice_bounds-plan_line-end c =
-    let inside : c.loop-i.at + c.args.n ≤ length c.args.list.now =
-    row_inside c.args.n c.loop-i.i c.args.plans c.loop-i.at (length c.args.list.now) c.loop-i-test.true c.loop-i.invariant.2 c.requires.0 in
+    let inside : (c.loop-i.i * c.args.n) + c.args.n ≤ length c.args.list.now =
+    row_inside c.args.n c.loop-i.i c.args.plans (c.loop-i.i * c.args.n) (length c.args.list.now) (omega arith) refl c.requires.0 in
     omega (arith, inside)
-
-pub overflow_add-at-in-loop-i : goal.overflow_add-at-in-loop-i
-overflow_add-at-in-loop-i c =
-    let inside : c.loop-i.at + c.args.n ≤ length c.args.list.now =
-    row_inside c.args.n c.loop-i.i c.args.plans c.loop-i.at (length c.args.list.now) c.loop-i-test.true c.loop-i.invariant.2 c.requires.0 in
-    omega (arith, inside)
-
-pub overflow_add-i : goal.overflow_add-i
-overflow_add-i c = omega arith
-
-pub loop-i-smaller : goal.loop-i-smaller
-loop-i-smaller c = omega arith
 
 pub shape_of-out : goal.shape_of-out
-shape_of-out c = c.loop-i.invariant.1
+shape_of-out c = c.loop-i.invariant.0

@@ -6,4 +6,4 @@ use Rattle.run.proofs.run.Goals as goal
 pub returns : goal.returns
 returns c =
     let h = nothing_lent c.args.sheet.now in
-    record { answers = c.run_counted-r.ensures.0 ∙ h.answer c.args.limit c.args.list.now; leaves = c.run_counted-r.ensures.1 ∙ h.list c.args.limit c.args.list.now }
+    record { answers = c.run_counted.ensures.0 ∙ h.answer c.args.limit c.args.list.now; leaves = c.run_counted.ensures.1 ∙ h.list c.args.limit c.args.list.now }

@@ -1,9 +1,11 @@
 -- `run::run_lent` meets its contract: proofs/Whole. Assumes nothing.
-use Rattle.model.specs.Kit.{ℕ, replicate}
+use Rattle.model.specs.Kit.{refl, ap, ℕ, replicate}
 use Rattle.arrays.specs.Inner.Places.{PLANS, NUMBERS, STACK, SUPPORTS, TABLES, WORK, WANTED}
 use Rattle.sheet.proofs.Whole.{zeros}
 use Rattle.run_search.specs.Inner.Prepared.{Blank}
-use Rattle.run.proofs.{Whole.stopped, Whole.ran_so, Whole.said}
+use Rattle.std.proofs.lemmas.Result.{err_from_is_err_and}
+use Rattle.run_state.specs.Meaning.{tally_in}
+use Rattle.run.proofs.{Whole.ran_refused, Whole.ran_ended, Whole.said}
 use Rattle.run.proofs.run_lent.Goals as goal
 
 -- the arrays as they are made
@@ -18,13 +20,17 @@ blank size = record {
   unlisted = λ n. absurd (n ((zeros WORK).blank WANTED));
 }
 
-pub explore-stop-requires : goal.explore-stop-requires
-explore-stop-requires c = blank _
+pub explore-requires : goal.explore-requires
+explore-requires c = blank _
 
-pub answered-requires : goal.answered-requires
-answered-requires c = stopped _ _ _ _ _ _ _ _ _ _ _ c.explore-stop.ensures
+pub returns-in_err-stop : goal.returns-in_err-stop
+returns-in_err-stop c =
+    let q = err_from_is_err_and c.from_residual.result c.from_residual.ensures.1 in
+    let h = c.in_err-stop.ensures in
+    let e = said _ _ _ _ _ _ _ _ _ _ (ran_refused (replicate WORK 0) _ _ _ c.args.limit _ _ _ h.0 _ _ h.1 (ap tally_in h.2)) ((zeros WORK).blank WANTED) in
+    rw (q.1, q.2) record { answers = e.answer; leaves = e.lists; counts = e.counts }
 
 pub returns : goal.returns
 returns c =
-    let e = said _ _ _ _ _ _ _ _ _ _ (ran_so _ _ _ _ _ _ _ _ _ _ _ c.explore-stop.ensures _ c.nodes_made.ensures _ c.answered.ensures) ((zeros WORK).blank WANTED) in
+    let e = said _ _ _ _ _ _ _ _ _ _ (ran_ended _ _ _ _ _ _ (tally_in c.args.tally.now) _ _ _ _ c.in_ok-stop.ensures _ refl _ c.answered.ensures) ((zeros WORK).blank WANTED) in
     record { answers = e.answer; leaves = e.lists; counts = e.counts }

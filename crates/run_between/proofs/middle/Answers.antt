@@ -1,4 +1,4 @@
--- `run_part::middle` meets its contract. Assumes nothing.
+-- `run_between::middle` meets its contract. Assumes nothing.
 use Rattle.model.specs.Kit.{ap₂, ◌∙◌, ℕ, ◌-◌, ◌^◌, bit_and, rules}
 use Rattle.run_between.proofs.{Steps.range_is}
 use Rattle.run_between.proofs.middle.Goals as goal

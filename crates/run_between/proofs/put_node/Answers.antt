@@ -1,4 +1,4 @@
--- `run_part::put_node` meets its contract: proofs/Steps. Assumes nothing.
+-- `run_between::put_node` meets its contract: proofs/Steps. Assumes nothing.
 use Rattle.run_between.proofs.{Steps.put_asks, Steps.put_node}
 use Rattle.run_between.proofs.put_node.Goals as goal
 

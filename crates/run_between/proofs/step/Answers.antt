@@ -1,4 +1,4 @@
--- `run_part::step` meets its contract: proofs/Steps. Assumes nothing.
+-- `run_between::step` meets its contract: proofs/Steps. Assumes nothing.
 use Rattle.model.specs.Kit.{sym, ◌∙◌, arith}
 use Rattle.model.specs.Lists.{at}
 use Rattle.model.proofs.Lists.{T_of}

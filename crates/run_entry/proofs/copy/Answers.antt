@@ -71,6 +71,3 @@ returns c = record {
   same_slice =
       c.loop-r.invariant.5;
 }
-
-pub slice_bounds-load-end : goal.slice_bounds-load-end
-slice_bounds-load-end c = refl

@@ -16,9 +16,6 @@ pub overflow_sub-numbers : goal.overflow_sub-numbers
 unfolding at
 overflow_sub-numbers c = omega arith
 
-pub returns-then-numbers-made : goal.returns-then-numbers-made
-returns-then-numbers-made c = λ e. absurd (subst T (sym e) tt)
-
 pub overflow_sub-numbers-2 : goal.overflow_sub-numbers-2
 unfolding at
 overflow_sub-numbers-2 c = omega arith

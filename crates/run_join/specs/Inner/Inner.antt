@@ -1,9 +1,8 @@
 -- What the functions inside the crate say to each other.
-use Rattle.std.specs.Prelude.{◌≡◌, Bool, true, false, List, ℕ, ◌+◌, ◌-◌, ◌*◌, ◌/◌, ◌%◌, ◌^◌, ◌≤◌, ◌<◌, T, eqb, length}
-use Rattle.model.specs.{Lists.at, Lists.both, Lists.either, Lists.choose, Lists.same, ValueSets.has, Verdict.Verdict, Verdict.accepted, Verdict.refused}
-use Rattle.run_cut.specs.Parts.{after}
-use Rattle.run_join.specs.Join.{four_at, path_shaped, reach_at, head_shaped, heads_in, goes_on, joined, leads, may_take, stand_path, nearest_of, stands, plans_of, nodes_of, count_of}
-use Rattle.run_join.specs.{declared.Answer.Answer, declared.Answer.TheVariants.Joined, declared.Answer.TheVariants.Missing}
+use Rattle.std.specs.Prelude.{◌≡◌, Bool, true, false, Option, None, Some, List, ℕ, ◌+◌, ◌*◌, ◌/◌, ◌%◌, ◌^◌, ◌≤◌, ◌<◌, T, eqb, length}
+use Rattle.model.specs.{Lists.at, Lists.both, Lists.either, Lists.same, ValueSets.has}
+use Rattle.run_join.specs.Join.{four_at, path_shaped, reach_at, head_shaped, heads_in, goes_on, joined, leads, may_take, stand_path, nearest_of, head_number, stands, plans_of, nodes_of, count_of}
+use Rattle.run_join.specs.declared.Missing.{Missing}
 
 -- a path stands at an offset
 pub record Path (l : List ℕ) (o : ℕ) : Type 0 where
@@ -16,16 +15,15 @@ pub record Heads (l : List ℕ) (n : ℕ) : Type 0 where
   pub fits : 115 * n ≤ length l
   pub shaped : (k : ℕ) → k < n → head_shaped l k ≡ true
 
--- 0 where two paths are the same, 1 where the second comes after the first, else 2
-abbrev pub order_of : List ℕ → List ℕ → ℕ
-order_of a b = choose (same a b) 0 (choose (after a b) 1 2)
+-- head k is a head
+pub record HeadAt (l : List ℕ) (k : ℕ) : Type 0 where
+  pub fits : 115 * k + 115 ≤ length l
+  pub shaped : head_shaped l k ≡ true
 
--- a path stands at an offset, and head k of the first n is looked at, with the best of the heads before it
-pub record AtHead (here : List ℕ) (o : ℕ) (l : List ℕ) (n best k : ℕ) : Type 0 where
-  pub path : Path here o
-  pub heads : Heads l n
-  pub earlier : best ≤ k
-  pub inside : k < n
+-- a head, or none
+abbrev pub HeadOr : List ℕ → Option ℕ → Type 0
+HeadOr l None = Unit {0}
+HeadOr l (Some k) = HeadAt l k
 
 -- head k is marked by a bit
 unfoldable pub marked : List ℕ → ℕ → Bool
@@ -44,11 +42,10 @@ pub record MarkedBack (s l : List ℕ) (n : ℕ) (marks marks' : List ℕ) : Typ
   pub long : length marks' ≡ 1024
   pub bits : (k : ℕ) → k < n → marked marks' k ≡ either (marked marks k) (both (same (reach_at l k) s) (goes_on l k))
 
--- the first of n heads that is marked and not done: 0 if there is none, k + 1 for head k
-pub record Pending (marks done : List ℕ) (n r : ℕ) : Type 0 where
-  pub few : r ≤ n
-  pub none : r ≡ 0 → (k : ℕ) → k < n → T (marked marks k) → T (marked done k)
-  pub one : (r ≡ 0 → ⊥) → T (marked marks (r - 1)) × (T (marked done (r - 1)) → ⊥)
+-- the first of n heads that is marked and not done
+pub record Pending (marks done : List ℕ) (n : ℕ) (r : Option ℕ) : Type 0 where
+  pub none : r ≡ None → (k : ℕ) → k < n → T (marked marks k) → T (marked done k)
+  pub one : (k : ℕ) → r ≡ Some k → (k < n) × T (marked marks k) × (T (marked done k) → ⊥)
 
 -- the heads that lead are marked
 pub record Leading (l : List ℕ) (n : ℕ) (marks : List ℕ) : Type 0 where
@@ -59,11 +56,6 @@ pub record Leading (l : List ℕ) (n : ℕ) (marks : List ℕ) : Type 0 where
 pub record Ways (l : List ℕ) (n : ℕ) (marks : List ℕ) (r : Bool) : Type 0 where
   pub joins : r ≡ joined l
   pub may : (k : ℕ) → k < n → marked marks k ≡ may_take l k
-
--- the number of a refusal, 0 for none
-abbrev pub number_in : Verdict → ℕ
-number_in accepted = 0
-number_in (refused number item) = number
 
 -- sums that have room for another head's figures
 pub record Room (p m : ℕ) (cs : List ℕ) : Type 0 where
@@ -93,7 +85,9 @@ pub record Summed (l : List ℕ) (stand p m : ℕ) (cs : List ℕ) : Type 0 wher
   pub nodes : m ≡ nodes_of l
   pub counts : (x : ℕ) → x < 12 → at cs x ≡ count_of l x
 
--- the answer of heads that are not refused, from where one stands
-pub record Said (l : List ℕ) (joins : Bool) (stand : ℕ) (r : Answer) : Type 0 where
-  pub answers : r ≡ choose joins Joined (Missing stand (nearest_of l (stand_path l stand) (heads_in l)))
-  pub near : nearest_of l (stand_path l stand) (heads_in l) ≤ heads_in l
+-- what is missing of heads that are not refused, from where one stands
+pub record Said (l : List ℕ) (joins : Bool) (stand : ℕ) (r : Option Missing) : Type 0 where
+  pub joined : joins ≡ true → r ≡ None
+  pub missing : joins ≡ false → (m : Missing) → r ≡ Some m → (head_number m.from ≡ stand) × (head_number m.upto ≡ nearest_of l (stand_path l stand) (heads_in l)) ×
+      (head_number m.upto ≤ heads_in l)
+  pub some : joins ≡ false → r ≡ None → ⊥

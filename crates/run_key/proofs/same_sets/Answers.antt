@@ -1,7 +1,7 @@
 -- Whether the sets that are compared are those of an entry. Assumes nothing.
 use Rattle.model.specs.Kit.{refl, sym, subst, T, arith}
 use Rattle.model.specs.Lists.{at}
-use Rattle.run_key.proofs.{Loops.same_turn, Loops.yes_of}
+use Rattle.run_key.proofs.{Loops.same_turn}
 use Rattle.run_key.proofs.same_sets.Goals as goal
 
 pub loop-x-init : goal.loop-x-init
@@ -17,7 +17,7 @@ loop-x-preserved c = (
   refl,
   c.loop-x.invariant.1,
   same_turn c.args.stack.now c.args.numbers.now c.args.work.now c.args.k c.args.pending c.args.low c.args.s c.loop-x.x c.loop-x.invariant.2
-      (c.agrees.ensures (yes_of _ c.if-not-agrees.false-raw)),
+      (c.agrees.ensures c.if-not-agrees.false),
 )
 
 pub returns : goal.returns

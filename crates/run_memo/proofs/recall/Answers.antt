@@ -2,7 +2,6 @@
 use Rattle.model.specs.Kit.{refl, ◌∙◌, arith}
 use Rattle.model.specs.Lists.{at}
 use Rattle.run_state.specs.Meaning.{tally_in}
-use Rattle.run_key.proofs.Loops.{yes_of}
 use Rattle.run_memo.proofs.{Looked.symmetries_few, Looked.copies_so, Looked.looked, Looked.looked_none}
 use Rattle.run_memo.proofs.recall.Goals as goal
 
@@ -26,7 +25,7 @@ copy-requires c =
     copies_so c.requires.0 c.args.stack.now c.args.work.now c.requires.1 c.requires.2 c.args.numbers.now c.args.list.now.now (tally_in c.args.before) c.args.k c.requires.3
     c.pending_at-pending.result c.marks_at-marks.result.low c.marks_at-marks.result.good c.entry_for-s.result
     c.pending_at-pending.ensures c.marks_at-marks.ensures c.entry_for-s.ensures
-    (c.is_same.ensures (yes_of _ c.if-not-is_same.false-raw))
+    (c.is_same.ensures c.if-not-is_same.false)
 
 pub take-requires : goal.take-requires
 unfolding at
@@ -39,6 +38,6 @@ returns c = record {
   looked = λ p supports tables g. looked p c.args.stack.now c.args.work.now supports tables c.args.numbers.now c.args.list.now.now (tally_in c.args.before) c.args.k g
       c.pending_at-pending.result c.marks_at-marks.result.low c.marks_at-marks.result.good c.entry_for-s.result
       c.pending_at-pending.ensures c.marks_at-marks.ensures c.entry_for-s.ensures
-      (c.is_same.ensures (yes_of _ c.if-not-is_same.false-raw)) _ _ c.copy.ensures.copied _ c.take.ensures;
+      (c.is_same.ensures c.if-not-is_same.false) _ _ c.copy.ensures.copied _ c.take.ensures;
   same_slice = c.copy.ensures.same_slice;
 }

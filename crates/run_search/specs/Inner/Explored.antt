@@ -1,11 +1,11 @@
 -- What a run on lent arrays leaves.
-use Rattle.std.specs.Prelude.{◌≡◌, List, map, ℕ, ◌<◌, length}
+use Rattle.std.specs.Prelude.{◌≡◌, List, map, ℕ, length}
 use Rattle.model.specs.{Lists.at, Problem.Problem, Search.nodes, Verdict.accepted, Run.plans_in, Run.nodes_in, Run.Result, Run.result_of, Run.Tally, Sheet.problem_of}
 use Rattle.order.specs.Reordered.{write}
 use Rattle.run_input.specs.Lent.{verdict_lent, order_lent, problem_lent}
-use Rattle.arrays.specs.Inner.Places.{PLANS, DEEPER, REFUSED, WANTED}
+use Rattle.arrays.specs.Inner.Places.{PLANS, WANTED}
 use Rattle.run_state.specs.Inner.Walk.{Summed, all_noted, stop_in, tally_by}
-use Rattle.run_search.specs.Inner.Prepared.{bytes_for, Refusal}
+use Rattle.run_search.specs.Inner.Prepared.{bytes_for}
 
 abbrev pub result_for : List ℕ → List ℕ → List ℕ → List ℕ → ℕ → ℕ → Result
 result_for task b pairs block limit size = result_of (problem_lent b pairs block) limit (bytes_for (at task WANTED) (problem_of b).variables size)
@@ -17,10 +17,8 @@ pub record RunTo (p : Problem) (order : List ℕ) (r : Result) (list work' list'
   pub stopped : stop ≡ stop_in r.ending
   pub wrote : list' ≡ all_noted (map (write order) r.rows) list
 
--- what is lent is refused, and nothing else is changed; or its run has come to its end, and the counts add up
-pub record Explored (task b pairs block : List ℕ) (limit : ℕ) (list : List ℕ) (tally : Tally) (work' list' : List ℕ) (tally' : Tally) (stop : ℕ) : Type 0 where
-  pub refused : stop ≡ REFUSED → Refusal b pairs block work' × (list' ≡ list) × (tally' ≡ tally)
-  pub accepted : (stop ≡ REFUSED → ⊥) → verdict_lent b pairs block ≡ accepted
-  pub ended : (stop ≡ REFUSED → ⊥) → RunTo (problem_lent b pairs block) (order_lent b pairs) (result_for task b pairs block limit (length list)) list work' list' tally' stop
-  pub summed : (stop ≡ REFUSED → ⊥) → Summed tally'
-  pub known : (stop ≡ REFUSED → ⊥) → stop < DEEPER
+-- what is lent is accepted, its run has come to its end, and the counts add up
+pub record Explored (task b pairs block : List ℕ) (limit : ℕ) (list work' list' : List ℕ) (tally' : Tally) (stop : ℕ) : Type 0 where
+  pub accepted : verdict_lent b pairs block ≡ accepted
+  pub ended : RunTo (problem_lent b pairs block) (order_lent b pairs) (result_for task b pairs block limit (length list)) list work' list' tally' stop
+  pub summed : Summed tally'

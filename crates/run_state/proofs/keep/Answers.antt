@@ -6,7 +6,7 @@ use Rattle.run_state.proofs.{Prefix.small, Written.order_at, Written.settling_in
 use Rattle.run_state.proofs.keep.Goals as goal
 
 pub loop-i-init : goal.loop-i-init
-loop-i-init c = (omega arith, put_none _ _ _ _)
+loop-i-init c = put_none _ _ _ _
 
 pub overflow_cast-list : goal.overflow_cast-list
 overflow_cast-list c =
@@ -20,46 +20,21 @@ overflow_add-list c =
 pub bounds-list-start : goal.bounds-list-start
 unfolding at
 bounds-list-start c =
-    omega (arith, c.loop-i.invariant.1.sized, settling_inside c.args.numbers.now c.args.n c.loop-i.i c.requires.by_index.1 (omega arith))
+    omega (arith, c.loop-i.invariant.sized, settling_inside c.args.numbers.now c.args.n c.loop-i.i c.requires.by_index.1 (omega arith))
 
 pub loop-i-preserved : goal.loop-i-preserved
 unfolding at
 loop-i-preserved c =
-    let i : c.loop-i.i < c.args.n = omega arith in (
-      omega arith,
-      subst (λ (x : ℕ). Put c.args.start (order_in c.args.numbers.now c.args.n) c.args.work.now c.args.list.now (c.loop-i.i + 1)
-          (set c.loop-i.list (c.args.start + x) (at c.args.work.now c.loop-i.i)))
-          (order_at c.args.numbers.now c.args.n c.loop-i.i i)
-          (put_turn c.args.start c.args.n (order_in c.args.numbers.now c.args.n) c.args.work.now c.args.list.now c.requires.by_index.1 c.requires.n_bound.2 c.loop-i.i c.loop-i.list
-          c.loop-i.invariant.1 i),
-    )
+    let i : c.loop-i.i < c.args.n = omega arith in
+    subst (λ (x : ℕ). Put c.args.start (order_in c.args.numbers.now c.args.n) c.args.work.now c.args.list.now (c.loop-i.i + 1)
+    (set c.loop-i.list (c.args.start + x) (at c.args.work.now c.loop-i.i))) (order_at c.args.numbers.now c.args.n c.loop-i.i i)
+    (put_turn c.args.start c.args.n (order_in c.args.numbers.now c.args.n) c.args.work.now c.args.list.now c.requires.by_index.1 c.requires.n_bound.2 c.loop-i.i c.loop-i.list c.loop-i.invariant i)
 
 pub returns : goal.returns
 returns c =
     let e : c.loop-i.i ≡ c.args.n = omega arith in
     put_all c.args.start c.args.n (order_in c.args.numbers.now c.args.n) c.args.work.now c.args.list.now c.requires.by_index.1 c.requires.n_bound.2 c.loop-i.list
-    (subst (λ (k : ℕ). Put c.args.start (order_in c.args.numbers.now c.args.n) c.args.work.now c.args.list.now k c.loop-i.list) e c.loop-i.invariant.1)
-
-pub overflow_add-x : goal.overflow_add-x
-overflow_add-x c = omega arith
-
-pub offset_bounds-numbers-i : goal.offset_bounds-numbers-i
-offset_bounds-numbers-i c = omega arith
-
-pub bounds-numbers-i : goal.bounds-numbers-i
-bounds-numbers-i c = omega arith
-
-pub offset_bounds-work-i : goal.offset_bounds-work-i
-offset_bounds-work-i c = omega arith
-
-pub bounds-work-i : goal.bounds-work-i
-bounds-work-i c = omega arith
-
-pub overflow_add-i : goal.overflow_add-i
-overflow_add-i c = omega arith
-
-pub loop-i-smaller : goal.loop-i-smaller
-loop-i-smaller c = omega arith
+    (subst (λ (k : ℕ). Put c.args.start (order_in c.args.numbers.now c.args.n) c.args.work.now c.args.list.now k c.loop-i.list) e c.loop-i.invariant)
 
 pub shape_of-list : goal.shape_of-list
-shape_of-list c = c.loop-i.invariant.1.sized
+shape_of-list c = c.loop-i.invariant.sized

@@ -8,39 +8,22 @@ use Rattle.run_task.proofs.put_order.Goals as goal
 
 pub loop-k-init : goal.loop-k-init
 unfolding ordered
-loop-k-init c = (omega arith, refl)
+loop-k-init c = refl
 
 pub bounds-numbers-k : goal.bounds-numbers-k
 bounds-numbers-k c = omega
-    (arith, ap length c.loop-k.invariant.1, length_ordered c.args.order.now c.loop-k.k c.args.numbers.now)
+    (arith, ap length c.loop-k.invariant, length_ordered c.args.order.now c.loop-k.k c.args.numbers.now)
 
 pub loop-k-preserved : goal.loop-k-preserved
 unfolding ordered at
-loop-k-preserved c = (
-  omega arith,
-  ap₂ (λ (s : List ℕ) (v : ℕ). set s (ORDER + c.loop-k.k) v) c.loop-k.invariant.1 c.long.ensures.0
-      ∙ ap (λ (k : ℕ). ordered c.args.order.now k c.args.numbers.now) (sym (add-one c.loop-k.k)),
-)
+loop-k-preserved c =
+    ap₂ (λ (s : List ℕ) (v : ℕ). set s (ORDER + c.loop-k.k) v) c.loop-k.invariant c.long.ensures.0
+    ∙ ap (λ (k : ℕ). ordered c.args.order.now k c.args.numbers.now) (sym (add-one c.loop-k.k))
 
 pub returns : goal.returns
 returns c =
     let e : c.loop-k.k ≡ 12 = omega arith in
-    c.loop-k.invariant.1 ∙ ap (λ (k : ℕ). ordered c.args.order.now k c.args.numbers.now) e
-
-pub bounds-order-k : goal.bounds-order-k
-bounds-order-k c = omega arith
-
-pub overflow_add-numbers : goal.overflow_add-numbers
-overflow_add-numbers c = omega arith
-
-pub offset_bounds-numbers-k : goal.offset_bounds-numbers-k
-offset_bounds-numbers-k c = omega arith
-
-pub overflow_add-k : goal.overflow_add-k
-overflow_add-k c = omega arith
-
-pub loop-k-smaller : goal.loop-k-smaller
-loop-k-smaller c = omega arith
+    c.loop-k.invariant ∙ ap (λ (k : ℕ). ordered c.args.order.now k c.args.numbers.now) e
 
 pub shape_of-numbers : goal.shape_of-numbers
-shape_of-numbers c = ap length c.loop-k.invariant.1 ∙ length_ordered c.args.order.now c.loop-k.k c.args.numbers.now
+shape_of-numbers c = ap length c.loop-k.invariant ∙ length_ordered c.args.order.now c.loop-k.k c.args.numbers.now

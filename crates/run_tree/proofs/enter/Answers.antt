@@ -2,6 +2,7 @@
 use Rattle.model.specs.Kit.{refl, sym, ◌∙◌, subst, ℕ, ◌<◌, arith}
 use Rattle.model.specs.Lists.{at}
 use Rattle.run_tree.proofs.Turns.{child_asks, entered_dead, plan_asks, plan_bytes, plan_order, plan_sized, entered_plan, entered_inner}
+use Rattle.std.proofs.lemmas.Result.{err_from_is_err_and}
 use Rattle.run_tree.proofs.enter.Goals as goal
 
 pub child-requires : goal.child-requires
@@ -29,6 +30,14 @@ list_plan-requires c = let q = c.child.ensures _ _ (child_asks c.requires.0 _ _ 
   );
 }
 
+pub returns-in_err-list_plan-clause-entered : goal.returns-in_err-list_plan-clause-entered
+unfolding at
+returns-in_err-list_plan-clause-entered c = λ p made g.
+    let r = c.child.ensures _ _ (child_asks p _ _ _ _ _ _ made _ _ g c.ranges.m.fits _ c.lowest-lowest.ensures) in
+    let v = g.values.prefix.ready.indexed.numbered.variables in
+    let q = err_from_is_err_and c.from_residual.result c.from_residual.ensures.1 in
+    rw (q.1, q.2) (entered_plan p _ _ _ _ _ _ made _ _ g c.ranges.m.fits _ c.lowest-lowest.ensures _ _ _ r c.if-child.false (c.if-k-numbers.true ∙ v) _ _ _ c.in_err-list_plan.ensures.listed)
+
 pub returns-then-k-numbers : goal.returns-then-k-numbers
 unfolding at
 returns-then-k-numbers c = record {
@@ -36,8 +45,8 @@ returns-then-k-numbers c = record {
       let q = c.child.ensures _ _ (child_asks p _ _ _ _ _ _ made _ _ g c.ranges.m.fits _ c.lowest-lowest.ensures) in
       let v = g.values.prefix.ready.indexed.numbered.variables in
       entered_plan p _ _ _ _ _ _ made _ _ g c.ranges.m.fits _ c.lowest-lowest.ensures _ _ _ q c.if-child.false (c.if-k-numbers.true ∙ v) _ _ _
-      c.list_plan.ensures.listed);
-  same_slice = c.list_plan.ensures.same_slice;
+      c.in_ok-list_plan.ensures.listed);
+  same_slice = c.in_ok-list_plan.ensures.same_slice;
 }
 
 pub returns : goal.returns

@@ -1,28 +1,31 @@
-use Rattle.model.specs.Kit.{refl, sym, ap, ◌∙◌}
-use Rattle.sheet.specs.Meaning.{means}
+use Rattle.std.proofs.lemmas.Result.{err_from_is_err_and}
+use Rattle.model.specs.Kit.{sym, ap, ◌∙◌}
+use Rattle.model.specs.Refusals.{verdict_from}
 use Rattle.sheet.proofs.{Whole.whole_no, Whole.whole_yes, Whole.formed, Whole.compile_no, Whole.tables_asked, Whole.compile_yes}
 use Rattle.sheet.proofs.compile.Goals as goal
 
-pub ask-answer-requires : goal.ask-answer-requires
-ask-answer-requires c =
-    (formed _ _ _ _ c.read-form.ensures _ c.in-Passed.is, c.read-form.ensures.headed _ c.in-Passed.is)
+pub returns-in_err-h : goal.returns-in_err-h
+returns-in_err-h c =
+    let p = err_from_is_err_and c.from_residual.result c.from_residual.ensures.1 in
+    rw (p.1, p.2) (compile_no _ _ _ _ _ (whole_no _ _ _ _ c.read.ensures _ c.in_err-h.was))
 
-pub returns-in_default : goal.returns-in_default
-returns-in_default c =
-    compile_no _ _ _ _ _ _ _ c.in_default.is (whole_yes _ _ _ _ c.read-form.ensures _ c.ask-answer.result c.in-Passed.is c.ask-answer.ensures)
+pub ask-requires : goal.ask-requires
+ask-requires c = (formed _ _ _ _ c.read.ensures _ c.in_ok-h.was, c.read.ensures.headed _ c.in_ok-h.was)
+
+pub returns-in_err-ask : goal.returns-in_err-ask
+returns-in_err-ask c =
+    let p = err_from_is_err_and c.from_residual-in_err-ask.result c.from_residual-in_err-ask.ensures.1 in
+    rw (p.1, p.2)
+    (compile_no _ _ _ _ _ (sym (ap verdict_from c.in_err-ask.was) ∙ whole_yes _ _ _ _ c.read.ensures _ c.ask.result c.in_ok-h.was c.ask.ensures))
 
 pub decode_all-requires : goal.decode_all-requires
 decode_all-requires c = (
-  tables_asked _ _ _ c.ask-answer.result (formed _ _ _ _ c.read-form.ensures _ c.in-Passed.is) c.in-Accepted.is c.ask-answer.ensures,
-  c.read-form.ensures.headed _ c.in-Passed.is,
-  c.requires.2,
+  tables_asked _ _ _ c.ask.result (formed _ _ _ _ c.read.ensures _ c.in_ok-h.was) c.in_ok-ask.was c.ask.ensures,
+  c.read.ensures.headed _ c.in_ok-h.was,
 )
 
-pub returns-in-Refused : goal.returns-in-Refused
-returns-in-Refused c = compile_no _ _ _ _ _ _ _ refl (whole_no _ _ _ _ c.read-form.ensures _ _ c.in-Refused.is)
-
-pub returns-in-Accepted : goal.returns-in-Accepted
-returns-in-Accepted c =
-    let yes = formed _ _ _ _ c.read-form.ensures _ c.in-Passed.is in
-    compile_yes _ _ _ _ _ yes (sym (whole_yes _ _ _ _ c.read-form.ensures _ c.ask-answer.result c.in-Passed.is c.ask-answer.ensures) ∙ ap means c.in-Accepted.is)
-    (tables_asked _ _ _ c.ask-answer.result yes c.in-Accepted.is c.ask-answer.ensures) c.decode_all.ensures
+pub returns : goal.returns
+returns c =
+    let yes = formed _ _ _ _ c.read.ensures _ c.in_ok-h.was in
+    compile_yes _ _ _ _ _ yes (sym (whole_yes _ _ _ _ c.read.ensures _ c.ask.result c.in_ok-h.was c.ask.ensures) ∙ ap verdict_from c.in_ok-ask.was)
+    (tables_asked _ _ _ c.ask.result yes c.in_ok-ask.was c.ask.ensures) c.decode_all.ensures

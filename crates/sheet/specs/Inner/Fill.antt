@@ -1,7 +1,8 @@
 -- What the questions on the constraints store: the scope of each, the constraints that touch a variable, and the support sets.
-use Rattle.std.specs.Prelude.{◌≡◌, Bool, true, List, ℕ, zero, suc, ◌+◌, ◌*◌, ◌/◌, ◌%◌, ◌^◌, ◌≤◌, ◌<◌, set, T, ltb}
+use Rattle.std.specs.Prelude.{◌≡◌, Bool, true, List, ℕ, zero, suc, ◌+◌, ◌*◌, ◌/◌, ◌%◌, ◌^◌, ◌<◌, Option, Some, None, Result, Ok, Err, set, T, ltb}
 use Rattle.model.specs.Kit.{bit_or}
 use Rattle.model.specs.{Lists.at, Lists.all, Lists.both, Lists.ascending, Lists.choose, ValueSets.union_mask, Sheet.word, Sheet.words}
+use Rattle.model.specs.declared.refusals.{Question.Question, Question.TheVariants.RowValues, Question.TheVariants.RowOrder}
 use Rattle.arrays.specs.Inner.Places.{SCOPES}
 
 -- ---- scopes
@@ -44,9 +45,9 @@ least_key b from a zero = 0
 least_key b from a (suc i) = row_key b from a i + 1
 
 -- question 13 to the first i rows
-unfoldable pub order : List ℕ → ℕ → ℕ → ℕ → ℕ
-order b from a zero = 0
-order b from a (suc i) = choose (ltb (row_key b from a i) (least_key b from a i)) 13 (order b from a i)
+unfoldable pub order : List ℕ → ℕ → ℕ → ℕ → Result Unit Question
+order b from a zero = Ok tt
+order b from a (suc i) = choose (ltb (row_key b from a i) (least_key b from a i)) (Err RowOrder) (order b from a i)
 
 -- the support sets from a base on with the row of a key, and with the first i rows
 unfoldable pub with_row : ℕ → ℕ → List ℕ → List ℕ
@@ -65,15 +66,15 @@ abbrev pub supports_with : List ℕ → ℕ → ℕ → List ℕ → List ℕ
 supports_with b o k l = with_rows b (o + 4 + 2 * word b o) (word b o) (256 * k) (word b (o + 2)) l
 
 -- ---- what the functions say
--- the key of a row at an offset, 4096 where a value is not below d
-pub record RowRead (b : List ℕ) (o a d r : ℕ) : Type 0 where
-  pub good : r < 4096 → (r ≡ key_to b o a) × T (all (λ w. ltb w d) (words b o a))
-  pub bad : 4096 ≤ r → T (all (λ w. ltb w d) (words b o a)) → ⊥
+-- the key of a row at an offset, if each value is below d
+pub record RowRead (b : List ℕ) (o a d : ℕ) (r : Option ℕ) : Type 0 where
+  pub good : (key : ℕ) → r ≡ Some key → (key < 4096) × (key ≡ key_to b o a) × T (all (λ w. ltb w d) (words b o a))
+  pub bad : r ≡ None → T (all (λ w. ltb w d) (words b o a)) → ⊥
 
 -- questions 12 and 13 to n rows
-pub record RowsAsked (b : List ℕ) (from a n d base : ℕ) (old new : List ℕ) (r : ℕ) : Type 0 where
-  pub refused : r ≡ 12 → (i : ℕ) × (i < n) × (T (row_fits b from a d i) → ⊥)
-  pub passed : (r ≡ 12 → ⊥) → (r ≡ order b from a n) × ((i : ℕ) → i < n → T (row_fits b from a d i)) × (new ≡ with_rows b from a base n old)
+pub record RowsAsked (b : List ℕ) (from a n d base : ℕ) (old new : List ℕ) (r : Result Unit Question) : Type 0 where
+  pub refused : r ≡ Err RowValues → (i : ℕ) × (i < n) × (T (row_fits b from a d i) → ⊥)
+  pub passed : (r ≡ Err RowValues → ⊥) → (r ≡ order b from a n) × ((i : ℕ) → i < n → T (row_fits b from a d i)) × (new ≡ with_rows b from a base n old)
 
 -- question 11 to the scope of a variables at an offset
 pub record ScopeAsked (b : List ℕ) (from a n k : ℕ) (old new : List ℕ) (r : Bool) : Type 0 where

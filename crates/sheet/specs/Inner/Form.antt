@@ -1,10 +1,9 @@
 -- What questions 1 to 14 leave in the arrays.
-use Rattle.std.specs.Prelude.{◌≡◌, Bool, true, List, ℕ, length, set}
-use Rattle.model.specs.{Lists.at, Verdict.accepted, Sheet.header_of, Sheet.problem_of, Sheet.form_verdict, Sheet.verdict_of}
+use Rattle.std.specs.Prelude.{◌≡◌, Bool, true, List, ℕ, Result, Ok, Err, length, set}
+use Rattle.model.specs.{Lists.at, Verdict.accepted, Sheet.header_of, Sheet.problem_of, Sheet.form_verdict, Sheet.verdict_of, Refusals.verdict_from, declared.refusals.Refusal.Refusal}
 use Rattle.arrays.specs.Inner.{Places.VARIABLES, Places.VALUES, Places.CONSTRAINTS, Places.SYMMETRIES, Places.IMAGES, Places.NUMBERS, Places.SUPPORTS, Layout.Numbers, Layout.Supports, Layout.Compiled}
 use Rattle.reader.specs.{Inner.Read.stated, declared.Header.Header}
-use Rattle.sheet.specs.{Meaning.means, Meaning.Answers, Meaning.compilable, declared.Answer.Answer, declared.Answer.TheVariants.Accepted, declared.Answer.TheVariants.Refused}
-use Rattle.sheet.specs.{declared.form.Form.Form, declared.form.Form.TheVariants.Passed, declared.form.Form.TheVariants.Refused as NotPassed}
+use Rattle.sheet.specs.Meaning.{Answers, compilable}
 
 -- an array of n zeros
 pub record Zeros (n : ℕ) (l : List ℕ) : Type 0 where
@@ -23,18 +22,18 @@ pub record Formed (b : List ℕ) (numbers supports : List ℕ) : Type 0 where
   pub numbers_length : length numbers ≡ NUMBERS
   pub supports_length : length supports ≡ SUPPORTS
 
-pub record FormAsked (b : List ℕ) (numbers supports : List ℕ) (r : Answer) : Type 0 where
-  pub answers : Answers (form_verdict b) r
-  pub formed : r ≡ Accepted → Formed b numbers supports
+pub record FormAsked (b : List ℕ) (numbers supports : List ℕ) (r : Result Unit Refusal) : Type 0 where
+  pub answers : Answers (form_verdict b) (verdict_from r)
+  pub formed : r ≡ Ok tt → Formed b numbers supports
 
 -- the same with the header as read
-abbrev pub answer : Form → Answer
-answer (Passed h) = Accepted
-answer (NotPassed number item) = Refused number item
+abbrev pub without_header : Result Header Refusal → Result Unit Refusal
+without_header (Ok h) = Ok tt
+without_header (Err refused_by) = Err refused_by
 
-pub record FormRead (b : List ℕ) (numbers supports : List ℕ) (r : Form) : Type 0 where
-  pub asked : FormAsked b numbers supports (answer r)
-  pub headed : (h : Header) → r ≡ Passed h → stated h ≡ header_of b
+pub record FormRead (b : List ℕ) (numbers supports : List ℕ) (r : Result Header Refusal) : Type 0 where
+  pub asked : FormAsked b numbers supports (without_header r)
+  pub headed : (h : Header) → r ≡ Ok h → stated h ≡ header_of b
 
 -- the arrays have their lengths
 pub record Sized (numbers supports images : List ℕ) : Type 0 where
@@ -43,10 +42,10 @@ pub record Sized (numbers supports images : List ℕ) : Type 0 where
   pub images_length : length images ≡ IMAGES
 
 -- the answer to all questions, and the compiled problem of an accepted sheet
-pub record Compilation (b : List ℕ) (numbers supports images : List ℕ) (r : Answer) : Type 0 where
-  pub answers : means r ≡ verdict_of b
-  pub compiled : r ≡ Accepted → Compiled (problem_of b) numbers supports images
-  pub sizes : r ≡ Accepted → Sized numbers supports images
+pub record Compilation (b : List ℕ) (numbers supports images : List ℕ) (r : Result Unit Refusal) : Type 0 where
+  pub answers : verdict_from r ≡ verdict_of b
+  pub compiled : r ≡ Ok tt → Compiled (problem_of b) numbers supports images
+  pub sizes : r ≡ Ok tt → Sized numbers supports images
 
 -- whether they do, and then the compiled problem
 pub record Recompilation (b : List ℕ) (numbers supports images : List ℕ) (r : Bool) : Type 0 where

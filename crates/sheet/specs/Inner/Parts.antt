@@ -1,8 +1,8 @@
 -- The questions in parts, each with what is asked after it, and what the first parts leave.
-use Rattle.std.specs.Prelude.{List, ◌≡◌, ℕ, ◌+◌, ◌*◌, ◌≤◌, ◌<◌, length}
-use Rattle.model.specs.{Lists.below, Lists.at, Verdict.Verdict, Sheet.header_of, Sheet.word, Sheet.header_verdict, Sheet.sets_verdict}
+use Rattle.std.specs.Prelude.{List, ◌≡◌, ℕ, ◌+◌, ◌*◌, ◌≤◌, ◌<◌, Result, Ok, length}
+use Rattle.model.specs.{Lists.below, Lists.at, Verdict.Verdict, Sheet.header_of, Sheet.word, Sheet.header_verdict, Sheet.sets_verdict, Refusals.verdict_from, declared.refusals.Refusal.Refusal}
 use Rattle.arrays.specs.Inner.Places.{INITIAL, SCOPES}
-use Rattle.sheet.specs.{Meaning.Answers, declared.Answer.Answer, declared.Answer.TheVariants.Accepted}
+use Rattle.sheet.specs.Meaning.{Answers}
 
 -- ---- questions 1 to 7
 abbrev pub header_asked : List ℕ → Verdict → Verdict
@@ -40,6 +40,6 @@ pub record AllSets (b : List ℕ) (n : ℕ) (old new : List ℕ) : Type 0 where
   pub low : (i : ℕ) → i < INITIAL → at new i ≡ at old i
   pub high : (i : ℕ) → SCOPES ≤ i → at new i ≡ at old i
 
-pub record SetsAsked (b : List ℕ) (n : ℕ) (old new : List ℕ) (r : Answer) : Type 0 where
-  pub answers : Answers (sets_asked b) r
-  pub filled : r ≡ Accepted → AllSets b n old new
+pub record SetsAsked (b : List ℕ) (n : ℕ) (old new : List ℕ) (r : Result Unit Refusal) : Type 0 where
+  pub answers : Answers (sets_asked b) (verdict_from r)
+  pub filled : r ≡ Ok tt → AllSets b n old new

@@ -9,7 +9,7 @@ loop-n-init c = (search rules, search rules, came_first)
 
 pub returns-then-seen-k : goal.returns-then-seen-k
 returns-then-seen-k c =
-    found c.args.k c.loop-n.seen c.loop-n.n c.numbered.result c.loop-n-test.true c.loop-n.invariant.2
+    found c.args.k c.loop-n.seen c.loop-n.n c.numbered.result (omega arith) c.loop-n.invariant.2
     c.numbered.ensures (sym c.passes.ensures ∙ c.if-passes.true) c.if-seen-k.true
 
 pub loop-n-preserved : goal.loop-n-preserved
@@ -19,18 +19,18 @@ loop-n-preserved c =
       | then-passes+else-seen-k w ↦ (
         search rules,
         omega (arith, w.seen-is, w.if-seen-k.false, c.loop-n.invariant.1),
-        subst (λ (s : ℕ). Came s (c.loop-n.n + 1)) (sym w.seen-is) (came_accepted c.loop-n.seen c.loop-n.n c.loop-n-test.true c.loop-n.invariant.2 (e ∙ w.if-passes.true)),
+        subst (λ (s : ℕ). Came s (c.loop-n.n + 1)) (sym w.seen-is) (came_accepted c.loop-n.seen c.loop-n.n (omega arith) c.loop-n.invariant.2 (e ∙ w.if-passes.true)),
       )
       | else-passes w ↦ (
         search rules,
         omega (arith, w.seen-is, c.loop-n.invariant.1),
-        subst (λ (s : ℕ). Came s (c.loop-n.n + 1)) (sym w.seen-is) (came_refused c.loop-n.seen c.loop-n.n c.loop-n-test.true c.loop-n.invariant.2 (e ∙ w.if-passes.false)),
+        subst (λ (s : ℕ). Came s (c.loop-n.n + 1)) (sym w.seen-is) (came_refused c.loop-n.seen c.loop-n.n (omega arith) c.loop-n.invariant.2 (e ∙ w.if-passes.false)),
       )
     ])
 
 pub returns : goal.returns
 returns c =
     record {
-      past = λ z. omega (arith, came_last c.loop-n.seen c.loop-n.n c.loop-n-test.false c.loop-n.invariant.2, c.loop-n.invariant.1);
+      past = λ z. omega (arith, came_last c.loop-n.seen c.loop-n.n (omega arith) c.loop-n.invariant.2, c.loop-n.invariant.1);
       here = λ z. absurd (z refl);
     }

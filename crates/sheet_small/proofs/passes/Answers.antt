@@ -1,10 +1,16 @@
 -- `passes`: a table that moves a number that is no pair is refused; of any other the questions say it. Assumes nothing.
-use Rattle.model.specs.Kit.{sym, ap, ◌∙◌, ◌-◌, ◌%◌, arith, length-take-le}
+use Rattle.std.specs.Prelude.{Result, Ok, Err}
+use Rattle.std.specs.Result.{is_ok}
+use Rattle.model.specs.{Refusals.verdict_from, declared.refusals.Refusal.Refusal}
+use Rattle.model.specs.Kit.{◌≡◌, refl, sym, ap, ◌∙◌, ◌-◌, ◌%◌, arith, length-take-le}
 use Rattle.model.specs.Verdict.{is_accepted}
-use Rattle.sheet.specs.Meaning.{means}
 use Rattle.sheet_small.specs.Small.{is_sheet}
 use Rattle.sheet_small.proofs.{Pruned.parts, Pruned.few, Pruned.moved_refused}
 use Rattle.sheet_small.proofs.passes.Goals as goal
+
+ok_accepts : (r : Result Unit Refusal) → is_ok r ≡ is_accepted (verdict_from r)
+ok_accepts (Ok done) = refl
+ok_accepts (Err by) = refl
 
 pub moved-requires : goal.moved-requires
 moved-requires c =
@@ -21,11 +27,6 @@ pub slice_bounds-question-end : goal.slice_bounds-question-end
 slice_bounds-question-end c =
     sym (length-take-le c.numbered-d.result.size c.numbered-d.result.bytes (omega (arith, c.numbered-d.ensures.length_bytes, c.numbered-d.ensures.fits)))
 
-pub returns-in-Accepted : goal.returns-in-Accepted
+pub returns : goal.returns
 unfolding is_sheet
-returns-in-Accepted c = sym (ap is_sheet (sym c.numbered-d.ensures.is) ∙ ap is_accepted (sym c.question-answer.ensures ∙ ap means c.in-Accepted.is))
-
-pub returns-in-Refused : goal.returns-in-Refused
-unfolding is_sheet
-returns-in-Refused c = sym (ap is_sheet (sym c.numbered-d.ensures.is) ∙ ap is_accepted
-    (sym c.question-answer.ensures ∙ ap means c.in-Refused.is))
+returns c = c.is_ok.ensures.value ∙ ok_accepts c.question.result ∙ ap is_accepted c.question.ensures ∙ ap is_sheet c.numbered-d.ensures.is

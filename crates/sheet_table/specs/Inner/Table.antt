@@ -1,6 +1,7 @@
 -- Questions 15 and 16 for one table (paper 01): what is known of the problem before they are asked, and their answer.
-use Rattle.std.specs.Prelude.{Bool, true, false, List, ℕ, ◌+◌, ◌*◌, ◌≤◌, length}
+use Rattle.std.specs.Prelude.{Bool, true, false, List, ℕ, ◌+◌, ◌*◌, ◌≤◌, Result, Ok, Err, length}
 use Rattle.model.specs.{Problem.Problem, Problem.respects, Sheet.words, Sheet.permutes_pairs, Inner.WellFormed.Stated}
+use Rattle.model.specs.declared.refusals.{Question.Question, Question.TheVariants.PairsPermuted, Question.TheVariants.Respected}
 use Rattle.arrays.specs.Inner.Layout.{Numbers, Supports}
 
 -- the numbers hold those of the problem
@@ -28,11 +29,11 @@ pub record Asked (p : Problem) (sheet : List ℕ) (offset : ℕ) (numbers suppor
 abbrev pub table_of : Problem → List ℕ → ℕ → List ℕ
 table_of p sheet offset = words sheet offset (p.variables * p.values)
 
-abbrev pub answer_of : Bool → Bool → ℕ
-answer_of false respectful = 15
-answer_of true false = 16
-answer_of true true = 0
+abbrev pub answer_of : Bool → Bool → Result Unit Question
+answer_of false respectful = Err PairsPermuted
+answer_of true false = Err Respected
+answer_of true true = Ok tt
 
--- 0 where both answers are yes, else the number of the first that is no
-abbrev pub table_answer : Problem → List ℕ → ℕ → ℕ
+-- the first question whose answer is no, if there is one
+abbrev pub table_answer : Problem → List ℕ → ℕ → Result Unit Question
 table_answer p sheet offset = answer_of (permutes_pairs p (table_of p sheet offset)) (respects p (table_of p sheet offset))

@@ -9,5 +9,5 @@ pub returns : goal.returns
 unfolding slot_bytes
 returns c =
     let n = length c.args.table.now in
-    c.copy.ensures ∙ ap (λ (l : List ℕ). placed l (c.args.p + 4) c.args.table.now) c.place.ensures
+    c.place-2.ensures ∙ ap (λ (l : List ℕ). placed l (c.args.p + 4) c.args.table.now) c.place.ensures
     ∙ placed_then c.args.store.now c.args.p (1 ∷ c.args.key ∷ two_bytes n) (omega (arith, c.requires.0)) c.args.table.now

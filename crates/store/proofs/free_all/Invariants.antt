@@ -1,9 +1,6 @@
-use Rattle.model.specs.Kit.{◌≡◌, ◌≤◌, ◌-◌, length}
+use Rattle.model.specs.Kit.{◌≡◌, length}
 use Rattle.store.specs.Inner.Layout.{freed}
 use Rattle.store.proofs.free_all.Given as goal
 
 abbrev pub invariant-loop-i : goal.invariant-loop-i
-invariant-loop-i l = (l.i ≤ 4) × (l.store ≡ freed l.initial.store l.owner l.key l.i) × (length l.store ≡ length l.initial.store)
-
-abbrev pub decreases-loop-i : goal.decreases-loop-i
-decreases-loop-i l = 4 - l.i
+invariant-loop-i l = (l.store ≡ freed l.initial.store l.owner l.key l.i) × (length l.store ≡ length l.initial.store)

@@ -1,7 +1,9 @@
 -- The store's bytes: sixteen slots of 2,052 bytes, four an owner. A slot has a flag (0 is free), the key, the table's length in two bytes, low
 -- byte first, and 2,048 bytes for the table. Any bytes of the store's size are a store; zeros are the empty one.
-use Rattle.std.specs.Prelude.{Bool, not, List, ◌∷◌, ◌++◌, ℕ, zero, suc, ◌+◌, ◌*◌, min, length, take, drop, set, ltb, eqb}
+use Rattle.std.specs.Prelude.{Bool, not, Option, Some, None, Result, Ok, Err, List, ◌∷◌, ◌++◌, ℕ, zero, suc, ◌+◌, ◌*◌, min, length, take, drop, set, ltb, eqb}
 use Rattle.model.specs.{ValueSets.least, Lists.both, Lists.either, Lists.choose, Lists.at, Verdict.Verdict, Verdict.ask, Verdict.is_accepted, Sheet.«word», Bytes.two_bytes, Written.placed}
+use Rattle.model.specs.declared.{refusals.Question.Question}
+use Rattle.model.specs.declared.refusals.Question.TheVariants as question
 use Rattle.store.specs.Store.{none, table, Store, put, fetch, remove, StoreCall, call, call_verdict, StoreReply, reply_of, size}
 
 -- ---- what the bytes mean
@@ -20,6 +22,10 @@ table_at b p = take (min 2048 («word» b (p + 2))) (drop (p + 4) b)
 -- an owner's slot for a key: of two slots with one key the first counts; 4 where none has it
 unfoldable pub slot_with : List ℕ → ℕ → ℕ → ℕ
 slot_with b owner key = least 4 (λ i. holds b key (slot_at owner i))
+
+-- a slot of four, none where there is no such
+abbrev pub slot_in : ℕ → Option ℕ
+slot_in k = choose (ltb k 4) (Some k) None
 
 unfoldable pub store_of : List ℕ → Store
 store_of b owner key = choose (both (ltb owner 4) (ltb (slot_with b owner key) 4)) (table (table_at b (slot_at owner (slot_with b owner key)))) none
@@ -47,6 +53,10 @@ abbrev pub changed : List ℕ → StoreCall → List ℕ
 changed b (call owner key (put t)) = placed b (slot_at owner (slot_for b owner key)) (slot_bytes key t)
 changed b (call owner key (fetch room)) = b
 changed b (call owner key remove) = freed b owner key 4
+
+-- the questions that are put to every call first: 255 of the bytes' length, then 31 of the owner
+abbrev pub asked_first : ℕ → ℕ → Result Unit Question
+asked_first long owner = choose (eqb long size) (choose (ltb owner 4) (Ok tt) (Err question.Owner)) (Err question.BufferLength)
 
 -- ---- a call on lent bytes of any length: asked first, refusal 255 where they have not the store's size
 unfoldable pub verdict_on : List ℕ → StoreCall → Verdict

@@ -1,28 +1,12 @@
--- `put`: after i turns the buffer has the first i bytes at the place. Assumes nothing.
-use Rattle.model.specs.Kit.{◌≡◌, refl, sym, ap, ◌∙◌, List, ℕ, ◌+◌, ◌<◌, add-one, arith, rules, length, get_or, set, length-set}
+-- The part of the buffer is the bytes. Assumes nothing.
+use Rattle.model.specs.Kit.{refl, sym, subst, List, ℕ, ◌+◌, arith, length}
+use Rattle.std.proofs.lemmas.Slice.{put_mid-paste}
 use Rattle.model.specs.Written.{Written}
-use native.Mathlib.Nat.{le_antisymm}
-use lib.Seq.{paste, paste-zero, paste-suc}
 use Rattle.model.proofs.Written.{written_paste}
 use Rattle.wire.proofs.put.Goals as goal
 
--- a turn stores one byte more
-turn : (d : List ℕ) (at : ℕ) (t : List ℕ) (i : ℕ) (o : List ℕ) → at + i < length d → i < length t → o ≡ paste d at t i → set o (at + i) (get_or t i 0) ≡ paste d at t (i + 1)
-turn d at t i o h k e = ap (λ (l : List ℕ). set l (at + i) (get_or t i 0)) e ∙ paste-suc d at t i 0 h k ∙ ap (paste d at t) (sym (add-one i))
-
-whole : (d : List ℕ) (at : ℕ) (t : List ℕ) (i : ℕ) (o : List ℕ) → i ≡ length t → o ≡ paste d at t i → Written d at t o (at + i)
-whole d at t i o e p = rw p (written_paste d at t i e)
-
-pub loop-i-init : goal.loop-i-init
-loop-i-init c = (search rules, paste-zero c.args.out.now c.args.at c.args.bytes.now, refl)
-
-pub loop-i-preserved : goal.loop-i-preserved
-loop-i-preserved c =
-    (search rules, turn c.args.out.now c.args.at c.args.bytes.now c.loop-i.i c.loop-i.out (omega arith) (omega arith) c.loop-i.invariant.1, simp length-set c.loop-i.invariant.2)
-
 pub returns : goal.returns
 returns c =
-    whole c.args.out.now c.args.at c.args.bytes.now c.loop-i.i c.loop-i.out (le_antisymm c.loop-i.invariant.0 c.loop-i-test.false) c.loop-i.invariant.1
-
-pub shape_of-out : goal.shape_of-out
-shape_of-out c = c.loop-i.invariant.2
+    let t : List ℕ = c.args.bytes.now in
+    subst (λ (l : List ℕ). Written c.args.out.now c.args.at t l (c.args.at + length t))
+    (sym (put_mid-paste _ _ _ _ t (length t) c.copy_from_slice.ensures.after (omega arith) refl)) (written_paste c.args.out.now c.args.at t (length t) refl)

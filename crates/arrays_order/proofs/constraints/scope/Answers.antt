@@ -1,5 +1,5 @@
 -- By the number of names. Assumes nothing.
-use Rattle.model.specs.Kit.{ap, arith, length, rules}
+use Rattle.model.specs.Kit.{ap, arith, length}
 use Rattle.arrays_order.proofs.{Tables.framed_none, Sorts.stays_1, Scopes.scope_one, Scopes.scope_two, Scopes.scope_three, Scopes.for_names}
 use Rattle.arrays_order.proofs.constraints.scope.Goals as goal
 
@@ -12,13 +12,13 @@ returns-then-a-eq1 c = (
 
 pub entry-y-requires : goal.entry-y-requires
 entry-y-requires c =
-    omega (arith, c.scope_at-2.ensures, c.requires.2.1.variable 1 (omega (arith, c.requires.2.1.arity, c.requires.2.1.some, c.arity-a.ensures, c.if-a-eq1.false)))
+    omega (arith, c.scope_at-2.ensures, c.requires.1.variable 1 (omega (arith, c.requires.1.arity, c.requires.1.some, c.arity-a.ensures, c.if-a-eq1.false)))
 
 pub two-requires : goal.two-requires
 two-requires c =
-    let q = scope_two _ _ _ c.requires.2.1 _ c.arity-a.ensures _ _ c.scope_at.ensures c.entry-x.ensures _ _
+    let q = scope_two _ _ _ c.requires.1 _ c.arity-a.ensures _ _ c.scope_at.ensures c.entry-x.ensures _ _
     c.scope_at-2.ensures c.entry-y.ensures c.if-a-eq2.true in
-    (search rules, q.0, q.1, q.2, c.requires.3)
+    (q.0, q.1, q.2)
 
 pub returns-then-a-eq2 : goal.returns-then-a-eq2
 returns-then-a-eq2 c = (
@@ -30,14 +30,14 @@ returns-then-a-eq2 c = (
 
 pub entry-z-requires : goal.entry-z-requires
 entry-z-requires c =
-    omega (arith, c.scope_at-3.ensures, c.requires.2.1.variable 2 (omega (arith, c.requires.2.1.arity, c.requires.2.1.some, c.arity-a.ensures, c.if-a-eq1.false, c.if-a-eq2.false)))
+    omega (arith, c.scope_at-3.ensures, c.requires.1.variable 2 (omega (arith, c.requires.1.arity, c.requires.1.some, c.arity-a.ensures, c.if-a-eq1.false, c.if-a-eq2.false)))
 
 pub three-requires : goal.three-requires
 three-requires c =
-    let q = scope_three _ _ _ c.requires.2.1 _ c.arity-a.ensures _ _ c.scope_at.ensures c.entry-x.ensures _ _
+    let q = scope_three _ _ _ c.requires.1 _ c.arity-a.ensures _ _ c.scope_at.ensures c.entry-x.ensures _ _
     c.scope_at-2.ensures c.entry-y.ensures _ _ c.scope_at-3.ensures c.entry-z.ensures
     c.if-a-eq1.false c.if-a-eq2.false in
-    (search rules, search rules, c.requires.2.2 (ap length q.6), q.0, q.1, q.2, q.3, q.4, q.5, c.requires.3)
+    (c.requires.2 (ap length q.6), q.0, q.1, q.2, q.3, q.4, q.5)
 
 pub returns : goal.returns
 returns c = (
@@ -50,4 +50,4 @@ returns c = (
 )
 
 pub entry-x-requires : goal.entry-x-requires
-entry-x-requires c = omega (arith, c.scope_at.ensures, c.requires.2.1.variable 0 c.requires.2.1.some)
+entry-x-requires c = omega (arith, c.scope_at.ensures, c.requires.1.variable 0 c.requires.1.some)

@@ -8,10 +8,7 @@ returns-then-y-z c = c.third.ensures
 
 pub third-requires-2 : goal.third-requires-2
 third-requires-2 c = (
-  search rules,
-  search rules,
-  narrow_transposed _ _ _ _ c.requires.2 c.transpose_each.ensures,
-  search rules,
+  narrow_transposed _ _ _ _ c.requires.0 c.transpose_each.ensures,
   search rules,
   search rules,
   search rules,
@@ -19,4 +16,4 @@ third-requires-2 c = (
 )
 
 pub returns : goal.returns
-returns c = after_transpose _ _ _ _ _ _ _ _ c.requires.7 c.transpose_each.ensures c.third-2.ensures
+returns c = after_transpose _ _ _ _ _ _ _ _ c.requires.5 c.transpose_each.ensures c.third-2.ensures

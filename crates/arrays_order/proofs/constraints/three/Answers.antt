@@ -8,10 +8,7 @@ returns-then-x-y c = c.second.ensures
 
 pub second-requires-2 : goal.second-requires-2
 second-requires-2 c = (
-  search rules,
-  search rules,
-  narrow_swapped _ _ _ _ c.requires.2 c.swap.ensures,
-  search rules,
+  narrow_swapped _ _ _ _ c.requires.0 c.swap.ensures,
   search rules,
   search rules,
   search rules,
@@ -20,4 +17,4 @@ second-requires-2 c = (
 )
 
 pub returns : goal.returns
-returns c = after_swap _ _ _ _ _ _ _ _ c.requires.6 c.swap.ensures c.second-2.ensures
+returns c = after_swap _ _ _ _ _ _ _ _ c.requires.4 c.swap.ensures c.second-2.ensures

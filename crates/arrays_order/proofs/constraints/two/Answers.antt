@@ -7,4 +7,4 @@ pub returns-then-x-y : goal.returns-then-x-y
 returns-then-x-y c = stays_2 _ _ _ _ (search rules) (search rules)
 
 pub returns : goal.returns
-returns c = after_2 _ _ _ _ _ _ _ c.requires.3 c.transpose.ensures (stays_2 _ _ _ _ (omega arith) (search rules))
+returns c = after_2 _ _ _ _ _ _ _ c.requires.2 c.transpose.ensures (stays_2 _ _ _ _ (omega arith) (search rules))

@@ -4,13 +4,13 @@ use Rattle.arrays_order.proofs.{Moves.images_begin, Moves.images_turn, Moves.ima
 use Rattle.arrays_order.proofs.images.rename.Goals as goal
 
 pub loop-e-init : goal.loop-e-init
-loop-e-init c = (search rules, images_begin _ _ _ _)
+loop-e-init c = images_begin _ _ _ _
 
 pub loop-e-preserved : goal.loop-e-preserved
-loop-e-preserved c = (search rules, images_turn _ _ _ _ _ _ _ (search rules) c.loop-e.invariant.1 c.symmetry.ensures)
+loop-e-preserved c = images_turn _ _ _ _ _ _ _ (search rules) c.loop-e.invariant c.symmetry.ensures
 
 pub returns : goal.returns
-returns c = images_end _ _ _ _ _ _ _ (search rules) (search rules) c.loop-e.invariant.1
+returns c = images_end _ _ _ _ _ _ _ (search rules) (search rules) c.loop-e.invariant
 
 pub shape_of-images : goal.shape_of-images
-shape_of-images c = c.loop-e.invariant.1.size
+shape_of-images c = c.loop-e.invariant.size

@@ -1,10 +1,6 @@
-use Rattle.model.specs.Kit.{◌-◌, ◌≤◌}
 use Rattle.model.specs.{Inner.Filling.Filled}
 use Rattle.arrays_order.specs.Inner.Steps.{Added}
 use Rattle.arrays_order.proofs.supports.add.Given as goal
 
 abbrev pub invariant-loop-w : goal.invariant-loop-w
-invariant-loop-w l = (l.w ≤ 16) × Filled (λ u. u) (Added l.s l.v l.initial.columns) l.w l.initial.columns l.columns
-
-abbrev pub decreases-loop-w : goal.decreases-loop-w
-decreases-loop-w l = 16 - l.w
+invariant-loop-w l = Filled (λ u. u) (Added l.s l.v l.initial.columns) l.w l.initial.columns l.columns

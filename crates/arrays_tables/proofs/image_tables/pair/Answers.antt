@@ -14,5 +14,5 @@ returns c =
     let byte : c.image-y.result < 256 = search rules in
     λ old d.
     pair_more _ _ _ _ _ _ _ c.requires.0 c.requires.1 d _ c.store_sets.ensures _ c.image-y.ensures byte
-    (T_of _ (sym c.contains.ensures ∙ c.if-not-contains.false)) c.requires.2 _ _
+    (T_of _ (sym c.contains.ensures ∙ c.if-not-contains.false)) c.told-tables _ _
     (c.only-one.ensures ∙ ap (λ (n : ℕ). only_mask n (c.image-y.result % 16)) c.full.ensures) c.union-more.ensures

@@ -1,15 +1,10 @@
--- Sixteen sets are stored one after another. Assumes nothing.
-use Rattle.model.specs.Kit.{refl, arith, rules}
-use Rattle.model.specs.{Lists.at}
-use Rattle.model.proofs.Filling.{filled_end, filled_begin, filled_turn}
+-- A part of the tables. Assumes nothing.
+use Rattle.model.specs.Kit.{ap, ◌∙◌, List, ℕ, arith, length}
+use Rattle.model.specs.Lists.{at}
+use Rattle.arrays.proofs.Copies.{filled_copied}
 use Rattle.arrays_tables.proofs.image_tables.store_sets.Goals as goal
 
-pub loop-i-init : goal.loop-i-init
-loop-i-init c = (search rules, filled_begin _ _ _)
-
-pub loop-i-preserved : goal.loop-i-preserved
-unfolding at
-loop-i-preserved c = (search rules, filled_turn _ _ _ _ _ _ _ c.loop-i.invariant.1 refl (omega arith) (λ v l e. omega arith) refl)
-
 pub returns : goal.returns
-returns c = filled_end _ _ _ _ _ _ (search rules) (search rules) c.loop-i.invariant.1
+returns c =
+    let same = c.copy_from_slice.ensures.after in
+    filled_copied c.args.tables.now _ c.args.from 16 _ (omega arith) (ap length same ∙ c.told-sets) (λ v l. ap (λ (k : List ℕ). at k v) same)

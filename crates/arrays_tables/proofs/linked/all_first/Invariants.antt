@@ -1,10 +1,7 @@
-use Rattle.model.specs.Kit.{◌≡◌, ◌-◌, ◌≤◌}
+use Rattle.model.specs.Kit.{◌≡◌}
 use Rattle.model.specs.{Problem.Problem, Lists.at, Inner.Filling.Gathered}
 use Rattle.arrays.specs.{Inner.Tables.is_by_rows, Inner.Places.CONSTRAINTS, Inner.Layout.Numbers}
 use Rattle.arrays_tables.proofs.linked.all_first.Given as goal
 
 abbrev pub invariant-loop-k : goal.invariant-loop-k
-invariant-loop-k l = (l.k ≤ l.c) × (l.c ≡ at l.numbers CONSTRAINTS) × ((p : Problem) → Numbers p l.numbers → Gathered (is_by_rows p) l.k l.all)
-
-abbrev pub decreases-loop-k : goal.decreases-loop-k
-decreases-loop-k l = l.c - l.k
+invariant-loop-k l = (l.c ≡ at l.numbers CONSTRAINTS) × ((p : Problem) → Numbers p l.numbers → Gathered (is_by_rows p) l.k l.all)

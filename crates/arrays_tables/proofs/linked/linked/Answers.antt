@@ -6,5 +6,5 @@ use Rattle.arrays_tables.proofs.linked.linked.Goals as goal
 pub returns : goal.returns
 returns c =
     let small : c.all_first-set.result < 2 ^ 64 = search rules in
-    link_numbers _ _ _ c.requires.2 small c.all_first-set.ensures
+    link_numbers _ _ _ c.told-numbers small c.all_first-set.ensures
     c.variables_of-variables.ensures _ c.others.ensures

@@ -5,15 +5,12 @@ use Rattle.model.proofs.Filling.{filled_begin, filled_turn, filled_end}
 use Rattle.arrays_tables.proofs.linked.others.Goals as goal
 
 pub loop-x-init : goal.loop-x-init
-loop-x-init c = (search rules, filled_begin _ _ _)
+loop-x-init c = filled_begin _ _ _
 
 pub loop-x-preserved : goal.loop-x-preserved
 unfolding at
-loop-x-preserved c = (
-  search rules,
-  filled_turn _ _ _ _ _ _ _ c.loop-x.invariant.1 refl (omega arith) (λ v l e. omega arith)
-      (ap (λ (n : ℕ). bit_and n ((2 ^ 64 - 1) - c.args.set)) (c.loop-x.invariant.1.other _ (λ v l e. omega arith))),
-)
+loop-x-preserved c = filled_turn _ _ _ _ _ _ _ c.loop-x.invariant refl (omega arith) (λ v l e. omega arith)
+    (ap (λ (n : ℕ). bit_and n ((2 ^ 64 - 1) - c.args.set)) (c.loop-x.invariant.other _ (λ v l e. omega arith)))
 
 pub returns : goal.returns
-returns c = filled_end _ _ _ _ _ _ (search rules) (search rules) c.loop-x.invariant.1
+returns c = filled_end _ _ _ _ _ _ (search rules) (search rules) c.loop-x.invariant

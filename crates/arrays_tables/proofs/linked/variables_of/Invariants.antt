@@ -1,10 +1,7 @@
-use Rattle.model.specs.Kit.{not, ◌≡◌, ◌-◌, ◌≤◌, eqb, bit_and}
+use Rattle.model.specs.Kit.{not, ◌≡◌, eqb, bit_and}
 use Rattle.model.specs.{Lists.at, Inner.Filling.Gathered}
 use Rattle.arrays.specs.Inner.Places.{VARIABLES}
 use Rattle.arrays_tables.proofs.linked.variables_of.Given as goal
 
 abbrev pub invariant-loop-x : goal.invariant-loop-x
-invariant-loop-x l = (l.x ≤ l.n) × (l.n ≡ at l.numbers VARIABLES) × Gathered (λ y. not (eqb (bit_and (at l.numbers y) l.set) 0)) l.x l.all
-
-abbrev pub decreases-loop-x : goal.decreases-loop-x
-decreases-loop-x l = l.n - l.x
+invariant-loop-x l = (l.n ≡ at l.numbers VARIABLES) × Gathered (λ y. not (eqb (bit_and (at l.numbers y) l.set) 0)) l.x l.all

@@ -5,11 +5,11 @@ use Rattle.model.proofs.Filling.{filled_begin, filled_turn, filled_end}
 use Rattle.arrays_tables.proofs.rows.across.Goals as goal
 
 pub loop-v-init : goal.loop-v-init
-loop-v-init c = (search rules, filled_begin _ _ _)
+loop-v-init c = filled_begin _ _ _
 
 pub loop-v-preserved : goal.loop-v-preserved
 unfolding at
-loop-v-preserved c = (search rules, filled_turn _ _ _ _ _ _ _ c.loop-v.invariant.1 refl (omega arith) (λ v l e. omega arith) refl)
+loop-v-preserved c = filled_turn _ _ _ _ _ _ _ c.loop-v.invariant refl (omega arith) (λ v l e. omega arith) refl
 
 pub returns : goal.returns
-returns c = filled_end _ _ _ _ _ _ (search rules) (search rules) c.loop-v.invariant.1
+returns c = filled_end _ _ _ _ _ _ (search rules) (search rules) c.loop-v.invariant

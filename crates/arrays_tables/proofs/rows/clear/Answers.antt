@@ -1,13 +1,13 @@
--- All sets are full. Assumes nothing.
-use Rattle.model.specs.Kit.{refl, arith, rules}
-use Rattle.model.proofs.Filling.{filled_begin, filled_turn, filled_end}
+-- The front of the tables. Assumes nothing.
+use Rattle.model.specs.Kit.{◌≡◌, refl, ◌∙◌, arith, length, length-take-le}
+use Rattle.model.specs.Lists.{at}
+use Rattle.arrays.specs.Inner.Places.{SMALLER}
+use Rattle.arrays.proofs.Copies.{filled_copied, filled_front}
 use Rattle.arrays_tables.proofs.rows.clear.Goals as goal
 
-pub loop-i-init : goal.loop-i-init
-loop-i-init c = (search rules, filled_begin _ _ _)
-
-pub loop-i-preserved : goal.loop-i-preserved
-loop-i-preserved c = (search rules, filled_turn _ _ _ _ _ _ _ c.loop-i.invariant.1 refl (omega arith) (λ v l e. omega arith) refl)
-
 pub returns : goal.returns
-returns c = filled_end _ _ _ _ _ _ (search rules) (search rules) c.loop-i.invariant.1
+unfolding at
+returns c =
+    let long : length c.fill.new.self ≡ SMALLER = c.fill.ensures.len ∙ length-take-le SMALLER c.args.tables.now (omega arith) in
+    filled_front _ SMALLER c.args.tables.now _
+    (filled_copied c.args.tables.now c.fill.new.self 0 SMALLER _ (omega arith) long (λ v h. c.fill.ensures.clones v 0 (omega (arith, long, c.fill.ensures.len)) refl))

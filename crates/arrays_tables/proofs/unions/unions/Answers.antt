@@ -8,22 +8,21 @@ use Rattle.arrays_tables.proofs.unions.unions.Goals as goal
 use Rattle.arrays_tables.proofs.unions.unions.Goals.{else-arity-eq3, then-arity-eq3}
 
 pub loop-k-init : goal.loop-k-init
-loop-k-init c = (search rules, search rules, unions_begin _ _)
+loop-k-init c = (search rules, unions_begin _ _)
 
 pub loop-k-preserved : goal.loop-k-preserved
 unfolding at
 loop-k-preserved c =
     let counted : (c.if-arity-eq3.some ≡ c.loop-k.some + 1) ⊎ (c.if-arity-eq3.some ≡ c.loop-k.some) =
     (elim c.if-arity-eq3.branch [ then-arity-eq3 w ↦ inl w.some-is | else-arity-eq3 w ↦ inr w.some-is ]) in (
-      search rules,
-      ⊎_elim (λ e. omega (arith, c.loop-k.invariant.1, e)) (λ e. omega (arith, c.loop-k.invariant.1, e)) counted,
+      ⊎_elim (λ e. omega (arith, c.loop-k.invariant.0, e)) (λ e. omega (arith, c.loop-k.invariant.0, e)) counted,
       (elim c.if-arity-eq3.branch [
         | then-arity-eq3 w ↦ subst₂ (Unions _ _ _) (sym w.numbers-is) (sym w.some-is)
-            (unions_turn _ _ _ _ _ _ _ c.loop-k.invariant.2 w.unite.ensures.size (λ j h. w.unite.ensures.other j (λ v l e. omega arith)) (omega arith) (λ t. (w.unite.ensures.here, omega arith)))
-        | else-arity-eq3 w ↦ subst₂ (Unions _ _ _) (sym w.numbers-is) (sym w.some-is) (unions_turn _ _ _ _ _ _ _ c.loop-k.invariant.2 refl (λ j h. refl) (omega arith)
-            (λ t. absurd (w.if-arity-eq3.false (c.arity.ensures ∙ ap arity_in (c.loop-k.invariant.2.kept (SCOPES + c.loop-k.k) (omega arith)) ∙ t))))
+            (unions_turn _ _ _ _ _ _ _ c.loop-k.invariant.1 w.unite.ensures.size (λ j h. w.unite.ensures.other j (λ v l e. omega arith)) (omega arith) (λ t. (w.unite.ensures.here, omega arith)))
+        | else-arity-eq3 w ↦ subst₂ (Unions _ _ _) (sym w.numbers-is) (sym w.some-is) (unions_turn _ _ _ _ _ _ _ c.loop-k.invariant.1 refl (λ j h. refl) (omega arith)
+            (λ t. absurd (w.if-arity-eq3.false (c.arity.ensures ∙ ap arity_in (c.loop-k.invariant.1.kept (SCOPES + c.loop-k.k) (omega arith)) ∙ t))))
       ]),
     )
 
 pub returns : goal.returns
-returns c = unions_end _ _ _ _ _ (search rules) (search rules) c.loop-k.invariant.2
+returns c = unions_end _ _ _ _ _ (search rules) (search rules) c.loop-k.invariant.1

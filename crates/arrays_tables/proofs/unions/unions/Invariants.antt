@@ -1,9 +1,6 @@
-use Rattle.model.specs.Kit.{◌-◌, ◌≤◌}
+use Rattle.model.specs.Kit.{◌≤◌}
 use Rattle.arrays_tables.specs.Inner.Steps.{Unions}
 use Rattle.arrays_tables.proofs.unions.unions.Given as goal
 
 abbrev pub invariant-loop-k : goal.invariant-loop-k
-invariant-loop-k l = (l.k ≤ 32) × (l.some ≤ l.k) × Unions l.supports l.k l.initial.numbers l.numbers l.some
-
-abbrev pub decreases-loop-k : goal.decreases-loop-k
-decreases-loop-k l = 32 - l.k
+invariant-loop-k l = (l.some ≤ l.k) × Unions l.supports l.k l.initial.numbers l.numbers l.some

@@ -13,8 +13,8 @@ returns-then-turns-eq0 c = no_turns _ _ _ c.if-turns-eq0.true
 pub returns-then-not-waits : goal.returns-then-not-waits
 returns-then-not-waits c = no_wait _ _ _ (sym c.waits.ensures ∙ c.if-not-waits.true)
 
-pub serve-s-requires : goal.serve-s-requires
-serve-s-requires c = (
+pub serve-requires : goal.serve-requires
+serve-requires c = (
   c.requires.0,
   c.requires.1,
   sym c.waits.ensures ∙ not-false _
@@ -29,4 +29,4 @@ returns c = some_due _ _ _ (
   λ i. (c.slice_known-1.given i).fits,
 ) c.requires.1
     (sym c.waits.ensures ∙ c.if-not-waits.false)
-    (some _ c.if-turns-eq0.false) _ _ c.serve-s.ensures
+    (some _ c.if-turns-eq0.false) _ _ c.serve.ensures

@@ -8,19 +8,17 @@ use Rattle.desk_turns.proofs.round.go_round.Goals.{else-best-took, then-best-too
 
 pub loop-i-init : goal.loop-i-init
 unfolding at
-loop-i-init c = (omega arith, round_begin _ _ (c.requires, λ i. (c.slice_known-1.given i).fits))
+loop-i-init c = round_begin _ _ (c.requires, λ i. (c.slice_known-1.given i).fits)
 
 pub loop-i-preserved : goal.loop-i-preserved
 unfolding at
-loop-i-preserved c = (
-  omega (arith, c.loop-i-test.true),
-  round_more _ _ c.loop-i.i c.loop-i-test.true _ _ _ c.loop-i.invariant.1 _ _ c.give-took.ensures _ _
-      ((elim c.if-best-took.branch [ then-best-took q ↦ inl (q.if-best-took.true, q.next-is, q.best-is) | else-best-took q ↦ inr (q.if-best-took.false, q.next-is, q.best-is) ])),
-)
+loop-i-preserved c =
+    round_more _ _ c.loop-i.i (omega arith) _ _ _ c.loop-i.invariant _ _ c.give-took.ensures _ _
+    ((elim c.if-best-took.branch [ then-best-took q ↦ inl (q.if-best-took.true, q.next-is, q.best-is) | else-best-took q ↦ inr (q.if-best-took.false, q.next-is, q.best-is) ]))
 
 pub returns : goal.returns
 unfolding at
-returns c = round_end _ _ c.loop-i.i _ _ _ c.loop-i-test.false c.loop-i.invariant.0 c.loop-i.invariant.1
+returns c = round_end _ _ c.loop-i.i _ _ _ (omega arith) (omega arith) c.loop-i.invariant
 
 pub overflow_cast-first : goal.overflow_cast-first
 overflow_cast-first c = omega (arith, c.slice_known-2-1.given NEXT)
@@ -29,7 +27,7 @@ pub overflow_add-k : goal.overflow_add-k
 overflow_add-k c = omega (arith, c.slice_known-2-1.given NEXT)
 
 pub give-took-requires : goal.give-took-requires
-give-took-requires c = (c.loop-i.invariant.1.bytes.0, omega arith)
+give-took-requires c = (c.loop-i.invariant.bytes.0, omega arith)
 
 pub shape_of-queue : goal.shape_of-queue
-shape_of-queue c = c.loop-i.invariant.1.bytes.0 ∙ sym c.requires
+shape_of-queue c = c.loop-i.invariant.bytes.0 ∙ sym c.requires

@@ -8,7 +8,7 @@ use Rattle.desk_turns.proofs.{Counting.counts_begin, Counting.counts_turn, Count
 use Rattle.desk_turns.proofs.serve.put_counts.Goals as goal
 
 pub loop-x-init : goal.loop-x-init
-loop-x-init c = (omega arith, refl, counts_begin c.args.queue.now (added c.args.before c.args.more) (c.args.p + COUNTS))
+loop-x-init c = (refl, counts_begin c.args.queue.now (added c.args.before c.args.more) (c.args.p + COUNTS))
 
 pub overflow_add-k : goal.overflow_add-k
 unfolding at
@@ -26,16 +26,15 @@ pub loop-x-preserved : goal.loop-x-preserved
 unfolding at four_bytes
 loop-x-preserved c =
     let n = length_added c.args.before c.args.more in (
-      omega (arith, c.loop-x-test.true),
-      c.four.auto.out ∙ c.loop-x.invariant.1,
-      counts_turn c.args.queue.now (added c.args.before c.args.more) (c.args.p + COUNTS) c.loop-x.x _ _ _ (omega (arith, n, c.loop-x-test.true)) (omega (arith, n, c.requires.0)) c.loop-x.invariant.2
-          (ap four_bytes (sym (at_added c.args.before c.args.more c.loop-x.x (omega (arith, c.loop-x-test.true))))) c.four.ensures.bytes,
+      c.four.auto.out ∙ c.loop-x.invariant.0,
+      counts_turn c.args.queue.now (added c.args.before c.args.more) (c.args.p + COUNTS) c.loop-x.x _ _ _ (omega (arith, n)) (omega (arith, n, c.requires.0)) c.loop-x.invariant.1
+          (ap four_bytes (sym (at_added c.args.before c.args.more c.loop-x.x (omega (arith))))) c.four.ensures.bytes,
     )
 
 pub returns : goal.returns
 returns c =
-    counts_end c.args.queue.now (added c.args.before c.args.more) (c.args.p + COUNTS) c.loop-x.x _ (omega (arith, c.loop-x-test.false, length_added c.args.before c.args.more))
-    c.loop-x.invariant.2
+    counts_end c.args.queue.now (added c.args.before c.args.more) (c.args.p + COUNTS) c.loop-x.x _ (omega (arith, length_added c.args.before c.args.more))
+    c.loop-x.invariant.1
 
 pub shape_of-queue : goal.shape_of-queue
-shape_of-queue c = c.loop-x.invariant.1
+shape_of-queue c = c.loop-x.invariant.0

@@ -14,49 +14,40 @@ unfolding at
 overflow_cast-bytes-3 c = omega (arith, c.requires.1.short)
 
 pub loop-i-init : goal.loop-i-init
-loop-i-init c = (omega arith, filled_begin _ _ _)
+loop-i-init c = filled_begin _ _ _
 
 pub offset_bounds-work-i : goal.offset_bounds-work-i
 unfolding at
-offset_bounds-work-i c = omega (arith, c.loop-i-test.true, c.requires.1.short)
+offset_bounds-work-i c = omega (arith, c.requires.1.short)
 
 pub bounds-work-i : goal.bounds-work-i
 unfolding at
-bounds-work-i c = omega (arith, c.loop-i-test.true, c.requires.1.short)
+bounds-work-i c = omega (arith, c.requires.1.short)
 
 pub overflow_cast-bytes-in-loop-i : goal.overflow_cast-bytes-in-loop-i
 unfolding at
-overflow_cast-bytes-in-loop-i c = omega (arith, c.requires.1.bytes c.loop-i.i c.loop-i-test.true)
+overflow_cast-bytes-in-loop-i c = omega (arith, c.requires.1.bytes c.loop-i.i (omega arith))
 
 pub overflow_add-bytes-in-loop-i : goal.overflow_add-bytes-in-loop-i
 unfolding at
-overflow_add-bytes-in-loop-i c = omega (arith, c.loop-i-test.true, c.requires.1.short)
+overflow_add-bytes-in-loop-i c = omega (arith, c.requires.1.short)
 
 pub bounds-bytes-i : goal.bounds-bytes-i
 unfolding at
-bounds-bytes-i c = omega (arith, c.loop-i-test.true, c.requires.1.short)
-
-pub overflow_add-i : goal.overflow_add-i
-unfolding at
-overflow_add-i c = omega (arith, c.loop-i-test.true, c.requires.1.short)
+bounds-bytes-i c = omega (arith, c.requires.1.short)
 
 pub loop-i-preserved : goal.loop-i-preserved
 unfolding at
-loop-i-preserved c = (
-  omega (arith, c.loop-i-test.true),
-  filled_turn (λ j. 8 + j) _ _ _ c.loop-i.i _ _ c.loop-i.invariant.1 refl
-      (let n : length c.loop-i.bytes ≡ 20 = c.loop-i.invariant.1.size ∙ ap length (begun_is _ _ _ _ _ c.four.ensures.bytes) in
-      omega (arith, n, c.loop-i-test.true, c.requires.1.short)) (λ v l e. omega arith) refl,
-)
+loop-i-preserved c =
+    filled_turn (λ j. 8 + j) _ _ _ c.loop-i.i _ _ c.loop-i.invariant refl
+    (let n : length c.loop-i.bytes ≡ 20 = c.loop-i.invariant.size ∙ ap length (begun_is _ _ _ _ _ c.four.ensures.bytes) in
+    omega (arith, n, c.requires.1.short)) (λ v l e. omega arith) refl
 
 pub returns : goal.returns
 unfolding at
 returns c = λ h s.
     told h _ _ _ _ _ s (begun_is _ _ _ _ _ c.four.ensures.bytes)
-    (filled_end (λ j. 8 + j) _ _ _ _ c.loop-i.i c.loop-i-test.false c.loop-i.invariant.0 c.loop-i.invariant.1)
+    (filled_end (λ j. 8 + j) _ _ _ _ c.loop-i.i (omega arith) (omega arith) c.loop-i.invariant)
 
 pub four-requires : goal.four-requires
 four-requires c = (omega arith, omega (arith, c.requires.1.narrow))
-
-pub loop-i-smaller : goal.loop-i-smaller
-loop-i-smaller c = omega (arith, c.loop-i-test.true)

@@ -24,9 +24,9 @@ overflow_add-nodes c =
           c.share-more.ensures _ _ _ _ c.go_on-part.ensures,
     )
 
-pub run_bytes-bytes-requires : goal.run_bytes-bytes-requires
+pub run_bytes-requires : goal.run_bytes-requires
 unfolding at
-run_bytes-bytes-requires c =
+run_bytes-requires c =
     let d : QueueBytes c.args.queue.now = (c.requires.0, λ i. (c.slice_known-1.given i).fits) in (
       _,
       shows c.args.queue.now c.args.k d c.requires.1 c.requires.2 c.args.turns c.requires.3 _ _ _ c.read_long-limit.ensures
@@ -56,6 +56,6 @@ returns c =
     c.standing_after-standing.ensures in
     done c.args.queue.now c.args.k d c.requires.1 c.requires.2 c.args.turns c.requires.3 _ _ _ c.read_long-limit.ensures
     c.nodes_at-made.ensures c.share-more.ensures _ _ _ _ c.go_on-part.ensures _
-    c.standing_after-standing.ensures _ _ _ _ _ _ (c.run_bytes-bytes.ensures _ shown)
+    c.standing_after-standing.ensures _ _ _ _ _ _ (c.run_bytes.ensures _ shown)
     c.place.ensures c.counts_at-before.ensures c.put_counts.ensures refl
     c.turns_for.ensures

@@ -1,6 +1,7 @@
 -- `standing_after`: by the ending, and where the run was spent by the limit. Assumes nothing.
-use Rattle.model.specs.Kit.{◌≡◌, refl, sym, ap, Bool, true, false, ℕ, ◌≤◌, ◌<◌, arith, lt-ltb, le-ltb}
+use Rattle.model.specs.Kit.{◌≡◌, refl, sym, ap, ◌∙◌, Bool, true, false, ℕ, ◌≤◌, ◌<◌, arith, lt-ltb, le-ltb}
 use Rattle.model.specs.Run.{finished, spent, full}
+use Rattle.run_state.specs.Inner.Cut.{stop_of, cut_in}
 use Rattle.desk.specs.{Queue.running, Queue.over, Queue.standing_after, Inner.Layout.standing_byte}
 use Rattle.desk_turns.proofs.serve.standing_after.Goals as goal
 
@@ -10,22 +11,22 @@ goes plans made limit l = sym (ap (λ (t : Bool). standing_byte (elim t [ true �
 stops : (plans made limit : ℕ) → limit ≤ made → 2 ≡ standing_byte (standing_after limit (spent plans made))
 stops plans made limit l = sym (ap (λ (t : Bool). standing_byte (elim t [ true ↦ running | false ↦ over (spent plans made) ])) (le-ltb made limit l))
 
-pub returns-then-stop-eq-ALL : goal.returns-then-stop-eq-ALL
-returns-then-stop-eq-ALL c (finished plans made) e f = refl
-returns-then-stop-eq-ALL c (spent plans made) e f = absurd (omega arith)
-returns-then-stop-eq-ALL c (full plans made) e f = absurd (omega arith)
+pub returns-in-Ok : goal.returns-in-Ok
+returns-in-Ok c (finished plans made) e f = refl
+returns-in-Ok c (spent plans made) e f = absurd (let z = ap stop_of c.in-Ok.is in omega arith)
+returns-in-Ok c (full plans made) e f = absurd (let z = ap stop_of c.in-Ok.is in omega arith)
 
-pub returns-then-stop-eq-FULL : goal.returns-then-stop-eq-FULL
-returns-then-stop-eq-FULL c (finished plans made) e f = absurd (omega arith)
-returns-then-stop-eq-FULL c (spent plans made) e f = absurd (omega arith)
-returns-then-stop-eq-FULL c (full plans made) e f = refl
+pub returns-in-Err-Full : goal.returns-in-Err-Full
+returns-in-Err-Full c (finished plans made) e f = absurd (let z = rw c.in-Err-Full.is at c.in-Err-Full.field-0-is in let y = ap stop_of c.in-Err-Full.is ∙ ap cut_in z in omega arith)
+returns-in-Err-Full c (spent plans made) e f = absurd (let z = rw c.in-Err-Full.is at c.in-Err-Full.field-0-is in let y = ap stop_of c.in-Err-Full.is ∙ ap cut_in z in omega arith)
+returns-in-Err-Full c (full plans made) e f = refl
 
-pub returns-then-made-limit : goal.returns-then-made-limit
-returns-then-made-limit c (finished plans made) e f = absurd (c.if-stop-eq-ALL.false e)
-returns-then-made-limit c (spent plans made) e f = goes plans made _ (omega arith)
-returns-then-made-limit c (full plans made) e f = absurd (c.if-stop-eq-FULL.false e)
+pub returns-in-Err-Spent : goal.returns-in-Err-Spent
+returns-in-Err-Spent c (finished plans made) e f = absurd (let z = rw c.in-Err-Spent.is at c.in-Err-Spent.field-0-is in let y = ap stop_of c.in-Err-Spent.is ∙ ap cut_in z in omega arith)
+returns-in-Err-Spent c (spent plans made) e f = goes plans made _ (omega arith)
+returns-in-Err-Spent c (full plans made) e f = absurd (let z = rw c.in-Err-Spent.is at c.in-Err-Spent.field-0-is in let y = ap stop_of c.in-Err-Spent.is ∙ ap cut_in z in omega arith)
 
-pub returns : goal.returns
-returns c (finished plans made) e f = absurd (c.if-stop-eq-ALL.false e)
-returns c (spent plans made) e f = stops plans made _ (omega arith)
-returns c (full plans made) e f = absurd (c.if-stop-eq-FULL.false e)
+pub returns-in-Err-Spent-2 : goal.returns-in-Err-Spent-2
+returns-in-Err-Spent-2 c (finished plans made) e f = absurd (let z = rw c.in-Err-Spent-2.is at c.in-Err-Spent-2.field-0-is in let y = ap stop_of c.in-Err-Spent-2.is ∙ ap cut_in z in omega arith)
+returns-in-Err-Spent-2 c (spent plans made) e f = stops plans made _ (omega arith)
+returns-in-Err-Spent-2 c (full plans made) e f = absurd (let z = rw c.in-Err-Spent-2.is at c.in-Err-Spent-2.field-0-is in let y = ap stop_of c.in-Err-Spent-2.is ∙ ap cut_in z in omega arith)

@@ -16,28 +16,21 @@ all_written {e} {n} d ws i h k w = whole (length_bytes ws ∙ sym h) (subst (λ 
 
 pub loop-i-init : goal.loop-i-init
 loop-i-init c =
-    (omega arith, refl, refl, start c.args.sets.now)
+    (refl, refl, start c.args.sets.now)
 
 pub loop-i-preserved : goal.loop-i-preserved
 loop-i-preserved c = (
-  omega arith,
-  c.two-at.auto.out ∙ c.loop-i.invariant.1,
-  omega (arith, c.two-at.ensures.ends, c.loop-i.invariant.2),
-  bytes_turn c.loop-i.i c.args.words.now (omega arith) (omega (arith, c.loop-i.invariant.2, c.loop-i.invariant.0, c.requires)) c.loop-i.invariant.3 c.two-at.ensures,
+  c.two-at.auto.out ∙ c.loop-i.invariant.0,
+  omega (arith, c.two-at.ensures.ends, c.loop-i.invariant.1),
+  bytes_turn c.loop-i.i c.args.words.now (omega arith) (omega (arith, c.loop-i.invariant.1, c.requires)) c.loop-i.invariant.2 c.two-at.ensures,
 )
 
 pub returns : goal.returns
 returns c =
-    all_written c.args.sets.now c.args.words.now c.loop-i.i c.requires c.loop-i-test.false c.loop-i.invariant.3
+    all_written c.args.sets.now c.args.words.now c.loop-i.i c.requires (omega arith) c.loop-i.invariant.2
 
 pub two-at-requires : goal.two-at-requires
 two-at-requires c = omega arith
 
-pub overflow_add-i : goal.overflow_add-i
-overflow_add-i c = omega arith
-
-pub loop-i-smaller : goal.loop-i-smaller
-loop-i-smaller c = omega arith
-
 pub shape_of-sets : goal.shape_of-sets
-shape_of-sets c = c.loop-i.invariant.1
+shape_of-sets c = c.loop-i.invariant.0

@@ -1,6 +1,6 @@
 -- `eight`: two halves. Assumes nothing.
 use Rattle.model.specs.Kit.{refl, arith}
-use Rattle.model.specs.{Lists.at, Bytes.four_bytes}
+use Rattle.model.specs.{Bytes.four_bytes}
 use Rattle.export_join.proofs.{Wides.eight_put}
 use Rattle.export_join.proofs.pieces.eight.Goals as goal
 

@@ -5,13 +5,13 @@ use Rattle.export_parts.proofs.heads.put_path.Goals as goal
 
 pub shape_of-out : goal.shape_of-out
 shape_of-out c =
-    c.put_values.auto.out ∙ length-set c.args.out.now c.args.start c.lesser-kept.result
+    c.put_values.auto.out ∙ length-set c.args.out.now c.args.start c.min-kept.result
 
 pub returns : goal.returns
 returns c =
-    path_put c.args.out.now (set c.args.out.now c.args.start c.lesser-kept.result) c.put_values.new.out c.args.start (take c.args.n c.args.path.now) c.lesser-kept.result _
+    path_put c.args.out.now (set c.args.out.now c.args.start c.min-kept.result) c.put_values.new.out c.args.start (take c.args.n c.args.path.now) c.min-kept.result _
     c.requires
-    (kept_is c.args.path.now c.args.n c.lesser-kept.result c.lesser.result c.lesser.ensures c.lesser-kept.ensures) refl c.put_values.ensures (omega arith)
+    (kept_is c.args.path.now c.args.n c.min-kept.result c.min.result (omega arith) (omega arith)) refl c.put_values.ensures (omega arith)
 
 pub put_values-requires : goal.put_values-requires
 put_values-requires c = simp length-set (omega arith)

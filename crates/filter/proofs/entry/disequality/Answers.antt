@@ -8,7 +8,7 @@ unfolding at
 returns-then-is_empty c =
     cut_failed c.args.sets.now c.args.x c.args.v c.without-left.result.bits c.without-left.ensures c.is_empty.result c.is_empty.ensures c.if-is_empty.true
 
-pub returns : goal.returns
+pub returns-else-is_empty : goal.returns-else-is_empty
 unfolding at
-returns c =
+returns-else-is_empty c =
     cut_next c.args.sets.now c.args.x c.args.v c.without-left.result.bits c.without-left.ensures c.is_empty.result c.is_empty.ensures c.if-is_empty.false

@@ -14,7 +14,7 @@ unfolding at
 returns-then-others-set c =
     keep_obeyed c.args.sets.now c.args.x c.args.v c.without-others.result.bits c.without-others.ensures c.is_empty.result c.is_empty.ensures c.if-is_empty.false c.if-others-set.true
 
-pub returns : goal.returns
+pub returns-else-others-set : goal.returns-else-others-set
 unfolding at
-returns c =
+returns-else-others-set c =
     keep_split c.args.sets.now c.args.x c.args.v c.without-others.result.bits c.without-others.ensures (omega arith) c.is_empty.result c.is_empty.ensures c.if-is_empty.false c.if-others-set.false

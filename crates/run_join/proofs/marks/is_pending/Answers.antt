@@ -8,6 +8,6 @@ pub returns-then-is_marked : goal.returns-then-is_marked
 returns-then-is_marked c =
     ap not c.is_marked-then-is_marked.ensures ∙ sym (ap (λ (x : Bool). both x (not (marked c.args.done.now c.args.k))) (sym c.is_marked.ensures ∙ c.if-is_marked.true))
 
-pub returns : goal.returns
-returns c =
-    sym (ap (λ (x : Bool). both x (not (marked c.args.done.now c.args.k))) (sym c.is_marked.ensures ∙ c.if-is_marked.false))
+pub returns-else-is_marked : goal.returns-else-is_marked
+returns-else-is_marked c =
+    c.if-is_marked.false ∙ sym (ap (λ (x : Bool). both x (not (marked c.args.done.now c.args.k))) (sym c.is_marked.ensures ∙ c.if-is_marked.false))

@@ -1,9 +1,6 @@
-use Rattle.model.specs.Kit.{◌≡◌, ◌-◌, ◌≤◌}
-use Rattle.run_join.specs.{Join.path_at, Join.best_of}
+use Rattle.model.specs.Kit.{◌≡◌, ◌≤◌}
+use Rattle.run_join.specs.Join.{best_of, head_number}
 use Rattle.run_join.proofs.steps.best_from.Given as goal
 
 abbrev pub invariant-loop-k : goal.invariant-loop-k
-invariant-loop-k here = (here.k ≤ here.n) × (here.best ≡ best_of here.l (path_at here.here here.o) here.k) × (here.best ≤ here.k)
-
-abbrev pub decreases-loop-k : goal.decreases-loop-k
-decreases-loop-k l = l.n - l.k
+invariant-loop-k l = (head_number l.best ≡ best_of l.l l.here l.k) × (head_number l.best ≤ l.k)

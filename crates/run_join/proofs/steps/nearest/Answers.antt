@@ -1,26 +1,31 @@
--- `nearest`: from where one stands. Assumes nothing.
-use Rattle.model.specs.Kit.{sym, ap, ◌∙◌, ℕ, ◌-◌, arith, List}
-use Rattle.run_join.specs.Join.{stand_path, nearest_of}
-use Rattle.run_join.proofs.{Turns.start_path, Turns.start_is, Turns.reach_path, Turns.stand_pred}
+-- `nearest`: after k turns it is that of the first k heads. Assumes nothing.
+use Rattle.model.specs.Kit.{◌≡◌, refl, sym, ap, ◌∙◌, suc, arith, Bool}
+use Rattle.model.specs.Lists.{choose}
+use Rattle.run_join.specs.Join.{nearest_of, head_number}
+use Rattle.run_join.proofs.Turns.{head_at, head_or, near_turn, chosen_few}
 use Rattle.run_join.proofs.steps.nearest.Goals as goal
+use Rattle.run_join.proofs.steps.nearest.Goals.{then-is_nearer, else-is_nearer}
 
-pub returns-then-stand-eq0 : goal.returns-then-stand-eq0
-returns-then-stand-eq0 c = (
-  c.nearest_from.ensures.0 ∙ ap (λ (s : List ℕ). nearest_of c.args.l.now s c.args.n) start_is
-      ∙ ap (λ (i : ℕ). nearest_of c.args.l.now (stand_path c.args.l.now i) c.args.n) (sym c.if-stand-eq0.true),
-  c.nearest_from.ensures.1,
-)
+pub loop-k-init : goal.loop-k-init
+unfolding nearest_of
+loop-k-init c = (refl, omega arith)
 
-pub nearest_from-requires-2 : goal.nearest_from-requires-2
-nearest_from-requires-2 c =
-    (reach_path c.args.l.now c.args.n (c.args.stand - 1) c.requires.0 (omega (arith, c.requires.1, c.if-stand-eq0.false)) c.reach_place.result c.reach_place.ensures, c.requires.0)
+pub is_nearer-requires : goal.is_nearer-requires
+is_nearer-requires c = (head_or c.args.l.now c.args.n c.requires c.loop-k.near (omega arith), head_at c.args.l.now c.args.n c.requires c.loop-k.k (omega arith))
+
+pub loop-k-preserved : goal.loop-k-preserved
+loop-k-preserved c =
+    let l = c.args.l.now in
+    let s = c.args.here.now in
+    let k = c.loop-k.k in
+    let t = c.is_nearer.result in
+    let picked : head_number c.if-is_nearer.near ≡ choose t (suc k) (head_number c.loop-k.near) = elim c.if-is_nearer.branch [
+      | then-is_nearer w ↦ ap head_number w.near-is ∙ sym (ap (λ (b : Bool). choose b (suc k) (head_number c.loop-k.near)) w.if-is_nearer.true)
+      | else-is_nearer w ↦ ap head_number w.near-is ∙ sym (ap (λ (b : Bool). choose b (suc k) (head_number c.loop-k.near)) w.if-is_nearer.false)
+    ] in
+    (near_turn l s k c.loop-k.near c.if-is_nearer.near t picked c.loop-k.invariant.0 c.is_nearer.ensures, chosen_few l s k c.loop-k.near c.if-is_nearer.near t picked c.loop-k.invariant.1)
 
 pub returns : goal.returns
-returns c = (
-  c.nearest_from-2.ensures.0 ∙ ap (λ (s : List ℕ). nearest_of c.args.l.now s c.args.n) (stand_pred c.args.l.now c.args.stand c.reach_place.result c.if-stand-eq0.false
-      c.reach_place.ensures),
-  c.nearest_from-2.ensures.1,
-)
-
-pub nearest_from-requires : goal.nearest_from-requires
-nearest_from-requires c = (start_path, c.requires.0)
+returns c =
+    let e : c.loop-k.k ≡ c.args.n = omega arith in
+    (c.loop-k.invariant.0 ∙ ap (nearest_of c.args.l.now c.args.here.now) e, omega arith)

@@ -5,45 +5,19 @@ use Rattle.run_join.proofs.{Sums.counts_turn}
 use Rattle.run_join.proofs.walks.add_counts.Goals as goal
 
 pub loop-i-init : goal.loop-i-init
-loop-i-init c = (omega arith, (search rules, λ x h. absurd (omega arith), λ x h. absurd (omega arith), λ x h. refl))
+loop-i-init c = (search rules, λ x h. absurd (omega arith), λ x h. absurd (omega arith), λ x h. refl)
 
 pub overflow_add-sums : goal.overflow_add-sums
 unfolding at
 overflow_add-sums c =
-    omega (arith, c.four_at.ensures.1, c.requires.1 c.loop-i.i c.loop-i-test.true, c.loop-i.invariant.1.3 c.loop-i.i (omega arith))
+    omega (arith, c.four_at.ensures.1, c.requires.1 c.loop-i.i (omega arith), c.loop-i.invariant.3 c.loop-i.i (omega arith))
 
 pub loop-i-preserved : goal.loop-i-preserved
 unfolding at
-loop-i-preserved c = (
-  omega arith,
-  counts_turn c.args.counts c.args.l.now c.loop-i.sums c.args.k c.loop-i.i _ c.four_at.result c.loop-i-test.true c.loop-i.invariant.1
-      c.four_at.ensures.0 c.four_at.ensures.1 refl,
-)
+loop-i-preserved c =
+    counts_turn c.args.counts c.args.l.now c.loop-i.sums c.args.k c.loop-i.i _ c.four_at.result (omega arith) c.loop-i.invariant
+    c.four_at.ensures.0 c.four_at.ensures.1 refl
 
 pub returns : goal.returns
 returns c =
-    record { each = λ x h. c.loop-i.invariant.1.1 x (omega arith); few = λ x h. c.loop-i.invariant.1.2 x (omega arith) }
-
-pub offset_bounds-sums-i : goal.offset_bounds-sums-i
-offset_bounds-sums-i c = omega arith
-
-pub overflow_mul-k : goal.overflow_mul-k
-overflow_mul-k c = omega arith
-
-pub overflow_add-k : goal.overflow_add-k
-overflow_add-k c = omega arith
-
-pub overflow_mul-i : goal.overflow_mul-i
-overflow_mul-i c = omega arith
-
-pub overflow_add-k-in-loop-i : goal.overflow_add-k-in-loop-i
-overflow_add-k-in-loop-i c = omega arith
-
-pub offset_bounds-sums-i-in-loop-i : goal.offset_bounds-sums-i-in-loop-i
-offset_bounds-sums-i-in-loop-i c = omega arith
-
-pub overflow_add-i : goal.overflow_add-i
-overflow_add-i c = omega arith
-
-pub loop-i-smaller : goal.loop-i-smaller
-loop-i-smaller c = omega arith
+    record { each = λ x h. c.loop-i.invariant.1 x (omega arith); few = λ x h. c.loop-i.invariant.2 x (omega arith) }

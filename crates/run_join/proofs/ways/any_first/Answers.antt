@@ -1,27 +1,16 @@
--- `any_first`: those passed are not. Assumes nothing.
-use Rattle.model.specs.Kit.{sym, ◌∙◌, false, arith, below_more}
-use Rattle.run_join.proofs.{Leads.first_one, Leads.first_none}
+-- `any_first`: head by head. Assumes nothing.
+use Rattle.model.specs.Kit.{refl, ◌∙◌, arith, []}
+use Rattle.model.specs.Lists.{below, both, same}
+use Rattle.std.proofs.Common.{rules, tests}
+use Rattle.std.proofs.lemmas.Iterator.{YieldsList-from_range}
+use Rattle.std.proofs.lemmas.Iterator.Search.{any_from_yields_List}
+use Rattle.run_join.specs.{Join.from_at, Inner.Inner.marked}
+use Rattle.run_join.proofs.Slices.{range_any}
 use Rattle.run_join.proofs.ways.any_first.Goals as goal
 
-pub loop-k-init : goal.loop-k-init
-loop-k-init c = (omega arith, λ j h. absurd (omega arith))
-
-pub returns-then-is_first : goal.returns-then-is_first
-returns-then-is_first c =
-    first_one _ c.args.n c.loop-k.k c.loop-k-test.true (sym c.is_first.ensures ∙ c.if-is_first.true)
-
-pub loop-k-preserved : goal.loop-k-preserved
-loop-k-preserved c = (omega arith, below_more _ _ c.loop-k.invariant.1 (sym c.is_first.ensures ∙ c.if-is_first.false))
-
 pub returns : goal.returns
+unfolding below
 returns c =
-    first_none _ c.args.n c.loop-k.k (omega arith) c.loop-k.invariant.1
-
-pub is_first-requires : goal.is_first-requires
-is_first-requires c = (c.requires, omega arith)
-
-pub overflow_add-k : goal.overflow_add-k
-overflow_add-k c = omega arith
-
-pub loop-k-smaller : goal.loop-k-smaller
-loop-k-smaller c = omega arith
+    any_from_yields_List (λ k. both (marked c.args.marks.now k) (same (from_at c.args.l.now k) [])) _ _ c.any.result c.any.ensures.ran (YieldsList-from_range 0 c.args.n c.args.n refl (omega arith))
+    (λ x b q k. search (rules, tests))
+    ∙ range_any (λ k. both (marked c.args.marks.now k) (same (from_at c.args.l.now k) [])) 0 c.args.n

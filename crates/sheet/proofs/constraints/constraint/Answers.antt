@@ -1,3 +1,4 @@
+use Rattle.std.proofs.lemmas.Result.{err_from_is_err_and}
 use Rattle.model.specs.Kit.{arith}
 use Rattle.sheet.proofs.ConstraintTurn.{few, product, refused_9, refused_10, refused_9_later, refused_11, refused_rows, passed}
 use Rattle.sheet.proofs.constraints.constraint.Goals as goal
@@ -75,8 +76,8 @@ returns-then-not-scope c = refused_11 _ _ _ _ _ _ _ _ c.requires.3
     c.if-not-counts_fit.false c.if-third-next.false _
     c.requires.1 _ c.scope.ensures c.if-not-scope.true
 
-pub ask-refused-requires : goal.ask-refused-requires
-ask-refused-requires c =
+pub ask-requires : goal.ask-requires
+ask-requires c =
     let f = few c.read_word-a.result c.read_word-r.result _
     c.counts_fit.ensures c.if-not-counts_fit.false in (
       f.0,
@@ -97,24 +98,14 @@ ask-refused-requires c =
           (arith, c.requires.5),
     )
 
-pub returns-then-refused-ne0 : goal.returns-then-refused-ne0
-returns-then-refused-ne0 c =
-    refused_rows _ _ _ _ _ _ _ _ c.requires.3 c.if-third-o.false _ _ c.read_word-a.ensures
-    c.read_word-r.ensures _ c.counts_fit.ensures
-    c.if-not-counts_fit.false c.if-third-next.false _
-    c.requires.1 _ c.scope.ensures c.if-not-scope.false _ c.requires.2
-    (omega (arith, c.requires.2, c.requires.0.sixteen)) _ c.ask-refused.ensures c.if-refused-ne0.true
+pub returns-in_err-ask : goal.returns-in_err-ask
+returns-in_err-ask c =
+    let p = err_from_is_err_and c.from_residual.result c.from_residual.ensures.1 in
+    rw (p.1, p.2)
+    (refused_rows _ _ _ _ _ _ _ _ c.requires.3 c.if-third-o.false _ _ c.read_word-a.ensures c.read_word-r.ensures _ c.counts_fit.ensures c.if-not-counts_fit.false
+    c.if-third-next.false _ c.requires.1 _ c.scope.ensures c.if-not-scope.false _ c.requires.2 (omega (arith, c.requires.2, c.requires.0.sixteen)) _ c.ask.ensures _ c.in_err-ask.was)
 
 pub returns : goal.returns
 returns c =
-    passed _ _ _ _ _ _ _ _ c.requires.3 c.if-third-o.false _ _ c.read_word-a.ensures
-    c.read_word-r.ensures _ c.counts_fit.ensures
-    c.if-not-counts_fit.false c.if-third-next.false _
-    c.requires.1 _ c.scope.ensures c.if-not-scope.false _ c.requires.2
-    (omega (arith, c.requires.2, c.requires.0.sixteen)) _ c.ask-refused.ensures c.if-refused-ne0.false
-
-pub overflow_mul-from : goal.overflow_mul-from
-overflow_mul-from c = omega (arith, few c.read_word-a.result c.read_word-r.result _ c.counts_fit.ensures c.if-not-counts_fit.false)
-
-pub overflow_mul-k : goal.overflow_mul-k
-overflow_mul-k c = omega (arith, c.requires.5)
+    passed _ _ _ _ _ _ _ _ c.requires.3 c.if-third-o.false _ _ c.read_word-a.ensures c.read_word-r.ensures _ c.counts_fit.ensures c.if-not-counts_fit.false
+    c.if-third-next.false _ c.requires.1 _ c.scope.ensures c.if-not-scope.false _ c.requires.2 (omega (arith, c.requires.2, c.requires.0.sixteen)) _ c.ask.ensures c.in_ok-ask.was

@@ -6,13 +6,10 @@ pub loop-i-init : goal.loop-i-init
 loop-i-init c = (omega arith, scope_none _ _ _ _ _ _ c.requires.1)
 
 pub returns-then-x-least : goal.returns-then-x-least
-returns-then-x-least c = scope_low _ _ _ _ _ _ _ _ _ _ _ c.loop-i.invariant.1 _ c.read_word-x.ensures c.loop-i-test.true c.if-x-least.true
+returns-then-x-least c = scope_low _ _ _ _ _ _ _ _ _ _ _ c.loop-i.invariant.1 _ c.read_word-x.ensures (omega arith) c.if-x-least.true
 
 pub returns-then-n-x : goal.returns-then-n-x
-returns-then-n-x c = scope_high _ _ _ _ _ _ _ _ _ _ _ c.loop-i.invariant.1 _ c.read_word-x.ensures c.loop-i-test.true c.if-n-x.true
-
-pub touch-requires : goal.touch-requires
-touch-requires c = (c.requires.3, omega (arith, c.if-n-x.false, c.requires.2))
+returns-then-n-x c = scope_high _ _ _ _ _ _ _ _ _ _ _ c.loop-i.invariant.1 _ c.read_word-x.ensures (omega arith) c.if-n-x.true
 
 pub overflow_mul-packed : goal.overflow_mul-packed
 overflow_mul-packed c = omega (
@@ -21,7 +18,7 @@ overflow_mul-packed c = omega (
       (omega (arith, c.if-n-x.false, c.requires.2)),
   unit_small
       c.loop-i.i c.loop-i.unit
-      (omega (arith, c.loop-i-test.true, c.requires.1))
+      (omega (arith, c.requires.1))
       c.loop-i.invariant.1.power,
 )
 
@@ -32,7 +29,7 @@ overflow_add-packed c = omega (
   part c.read_word-x.result
       c.loop-i.unit (omega (arith, c.if-n-x.false, c.requires.2)),
   unit_small c.loop-i.i c.loop-i.unit
-      (omega (arith, c.loop-i-test.true, c.requires.1))
+      (omega (arith, c.requires.1))
       c.loop-i.invariant.1.power,
 )
 
@@ -40,44 +37,17 @@ pub overflow_mul-unit : goal.overflow_mul-unit
 overflow_mul-unit c = omega (
   arith,
   unit_small c.loop-i.i c.loop-i.unit
-      (omega (arith, c.loop-i-test.true, c.requires.1))
+      (omega (arith, c.requires.1))
       c.loop-i.invariant.1.power,
 )
 
 pub loop-i-preserved : goal.loop-i-preserved
 loop-i-preserved c = (
-  omega (arith, c.loop-i-test.true),
+  omega (arith),
   scope_more _ _ _ _ _ _ _ _ _ _ _ c.loop-i.invariant.1 _
       c.read_word-x.ensures _ c.touch.ensures c.if-x-least.false c.if-n-x.false
       c.requires.2,
 )
 
 pub returns : goal.returns
-returns c = scope_end _ _ _ _ _ _ _ _ _ _ _ c.loop-i.invariant.1 c.loop-i-test.false c.loop-i.invariant.0
-
-pub overflow_mul-i : goal.overflow_mul-i
-overflow_mul-i c = omega (arith, c.loop-i-test.true, c.requires.1)
-
-pub overflow_add-from : goal.overflow_add-from
-overflow_add-from c = omega (arith, c.loop-i-test.true, c.requires.4, c.well_formed)
-
-pub read_word-x-requires : goal.read_word-x-requires
-read_word-x-requires c = omega (arith, c.loop-i-test.true, c.requires.4)
-
-pub overflow_add-least : goal.overflow_add-least
-overflow_add-least c = omega (arith, c.if-n-x.false, c.requires.2)
-
-pub overflow_add-i : goal.overflow_add-i
-overflow_add-i c = omega (arith, c.loop-i-test.true, c.requires.1)
-
-pub loop-i-smaller : goal.loop-i-smaller
-loop-i-smaller c = omega (arith, c.loop-i-test.true)
-
-pub overflow_add-numbers : goal.overflow_add-numbers
-overflow_add-numbers c = omega (arith, c.requires.3)
-
-pub offset_bounds-numbers-k : goal.offset_bounds-numbers-k
-offset_bounds-numbers-k c = omega (arith, c.requires.3)
-
-pub bounds-numbers-k : goal.bounds-numbers-k
-bounds-numbers-k c = omega (arith, c.requires.3)
+returns c = scope_end _ _ _ _ _ _ _ _ _ _ _ c.loop-i.invariant.1 (omega arith) c.loop-i.invariant.0

@@ -23,6 +23,3 @@ overflow_add-result c = omega (
       c.requires.2 c.requires.0 c.requires.1,
   c.requires.3,
 )
-
-pub overflow_mul-result : goal.overflow_mul-result
-overflow_mul-result c = omega (arith, pair_room c.args.h.variables c.args.h.values c.requires.0 c.requires.1)

@@ -1,10 +1,7 @@
-use Rattle.model.specs.Kit.{◌≡◌, ◌-◌, ◌≤◌, length}
+use Rattle.model.specs.Kit.{◌≡◌, ◌≤◌, length}
 use Rattle.sheet.proofs.{SetsTurn.ZeroTo}
 use Rattle.arrays.specs.Inner.Places.{NUMBERS}
 use Rattle.sheet.proofs.sets.fill.Given as goal
 
 abbrev pub invariant-loop-x : goal.invariant-loop-x
 invariant-loop-x l = (l.x ≤ 16) × (l.first.bits ≡ 1) × (length l.initial.numbers ≡ NUMBERS) × ZeroTo l.x l.initial.numbers l.numbers
-
-abbrev pub decreases-loop-x : goal.decreases-loop-x
-decreases-loop-x l = 16 - l.x

@@ -1,5 +1,8 @@
-use Rattle.model.specs.Kit.{ℕ, ◌<◌, ap, subst, arith}
-use Rattle.model.specs.Sheet.{Header as Numbers, problem_of}
+use Rattle.std.proofs.lemmas.Result.{err_from_is_err_and}
+use Rattle.model.specs.Kit.{◌≡◌, ℕ, ◌<◌, ap, subst, arith}
+use Rattle.model.specs.Sheet.{Header as Numbers, header_of, problem_of}
+use Rattle.model.specs.declared.refusals.Question.{Question}
+use Rattle.sheet.proofs.Mapped.{mapped_ok, mapped_err}
 use Rattle.sheet.proofs.TablesTurn.{tables_none, tables_more, tables_no, tables_end, table_asked, table_room}
 use Rattle.sheet.proofs.{Stating.form_passed, FormTurn.pair_room, FormTurn.same_size}
 use Rattle.sheet.proofs.tables.ask.Goals as goal
@@ -25,26 +28,29 @@ overflow_mul-size-2 c =
 pub loop-e-init : goal.loop-e-init
 loop-e-init c = (omega arith, tables_none _ _ (ap (λ (x : Numbers). x.third) c.requires.1))
 
-pub table_question-number-requires : goal.table_question-number-requires
-table_question-number-requires c = (
+pub table_question-requires : goal.table_question-requires
+table_question-requires c = (
   problem_of c.args.sheet.now,
   table_asked _ _ _ _ _ c.requires.0 c.loop-e.invariant.1
-      (subst (λ (x : ℕ). c.loop-e.e < x) (ap (λ (x : Numbers). x.symmetries) c.requires.1) c.loop-e-test.true),
+      (subst (λ (x : ℕ). c.loop-e.e < x) (ap (λ (x : Numbers). x.symmetries) c.requires.1) (omega arith)),
 )
 
-pub returns-then-number-ne0 : goal.returns-then-number-ne0
-returns-then-number-ne0 c =
-    tables_no _ _ _ c.loop-e.invariant.1 (subst (λ (x : ℕ). c.loop-e.e < x)
-    (ap (λ (x : Numbers). x.symmetries) c.requires.1) c.loop-e-test.true) _
-    (c.table_question-number.ensures _ (table_asked _ _ _ _ _ c.requires.0 c.loop-e.invariant.1
-    (subst (λ (x : ℕ). c.loop-e.e < x) (ap (λ (x : Numbers). x.symmetries) c.requires.1)
-    c.loop-e-test.true))) c.if-number-ne0.true
+pub returns-in_err-map_err : goal.returns-in_err-map_err
+returns-in_err-map_err c =
+    let inside : c.loop-e.e < (header_of c.args.sheet.now).symmetries = subst (λ (x : ℕ). c.loop-e.e < x) (ap (λ (x : Numbers). x.symmetries) c.requires.1) (omega arith) in
+    let h = mapped_err c.map_err.result _ c.table_question.result c.in_err-map_err.field-0.0 c.map_err.ensures.cases c.in_err-map_err.was in
+    let q : Question = h.0 in
+    let g = h.2 in
+    let e : c.in_err-map_err.field-0.0 ≡ record { question = q; item = c.loop-e.e } = grind arith in
+    let p = err_from_is_err_and c.from_residual.result c.from_residual.ensures.1 in
+    rw (p.1, p.2, e)
+    (tables_no _ _ _ c.loop-e.invariant.1 inside _ (c.table_question.ensures _ (table_asked _ _ _ _ _ c.requires.0 c.loop-e.invariant.1 inside)) q h.1)
 
 pub overflow_add-at : goal.overflow_add-at
 overflow_add-at c =
     let f = form_passed c.args.sheet.now c.requires.0.passed in
     let l : c.loop-e.e < _ = subst (λ (x : ℕ). c.loop-e.e < x)
-    (ap (λ (x : Numbers). x.symmetries) c.requires.1) c.loop-e-test.true in
+    (ap (λ (x : Numbers). x.symmetries) c.requires.1) (omega arith) in
     omega (
       arith,
       c.loop-e.invariant.1.here,
@@ -56,29 +62,14 @@ overflow_add-at c =
       c.well_formed,
     )
 
-pub overflow_add-e : goal.overflow_add-e
-overflow_add-e c =
-    let f = (form_passed c.args.sheet.now c.requires.0.passed).fits in
-    omega (
-      arith,
-      subst (λ (x : ℕ). c.loop-e.e < x) (ap (λ (x : Numbers). x.symmetries) c.requires.1)
-          c.loop-e-test.true,
-      f.symmetries,
+pub loop-e-preserved : goal.loop-e-preserved
+loop-e-preserved c =
+    let inside : c.loop-e.e < (header_of c.args.sheet.now).symmetries = subst (λ (x : ℕ). c.loop-e.e < x) (ap (λ (x : Numbers). x.symmetries) c.requires.1) (omega arith) in
+    let h = mapped_ok c.map_err.result _ c.table_question.result tt c.map_err.ensures.cases c.in_ok-map_err.was in (
+      omega arith,
+      tables_more _ _ _ c.loop-e.invariant.1 inside _ (c.table_question.ensures _ (table_asked _ _ _ _ _ c.requires.0 c.loop-e.invariant.1 inside)) _ _
+          (ap (λ (x : Numbers). x.variables) c.requires.1) (ap (λ (x : Numbers). x.values) c.requires.1) h,
     )
 
-pub loop-e-preserved : goal.loop-e-preserved
-loop-e-preserved c = (
-  omega (arith, c.loop-e-test.true),
-  tables_more _ _ _ c.loop-e.invariant.1 (subst (λ (x : ℕ). c.loop-e.e < x)
-      (ap (λ (x : Numbers). x.symmetries) c.requires.1) c.loop-e-test.true) _
-      (c.table_question-number.ensures _ (table_asked _ _ _ _ _ c.requires.0 c.loop-e.invariant.1
-      (subst (λ (x : ℕ). c.loop-e.e < x) (ap (λ (x : Numbers). x.symmetries) c.requires.1)
-      c.loop-e-test.true))) _ _ (ap (λ (x : Numbers). x.variables) c.requires.1)
-      (ap (λ (x : Numbers). x.values) c.requires.1) c.if-number-ne0.false,
-)
-
 pub returns : goal.returns
-returns c = tables_end _ _ _ c.loop-e.invariant.1 (omega (arith, c.loop-e-test.false, ap (λ (x : Numbers). x.symmetries) c.requires.1))
-
-pub loop-e-smaller : goal.loop-e-smaller
-loop-e-smaller c = omega (arith, c.loop-e-test.true)
+returns c = tables_end _ _ _ c.loop-e.invariant.1 (omega (arith, ap (λ (x : Numbers). x.symmetries) c.requires.1))

@@ -11,12 +11,6 @@ pub returns-then-ahead-eq3 : goal.returns-then-ahead-eq3
 returns-then-ahead-eq3 c =
     λ q p vs codes z w s. whole_walked p vs _ _ codes _ _ _ _ _ _ _ s c.if-ahead-eq3.true (c.turned.ensures q p codes (walk_whole p vs _ _ codes _ _ _ _ _ _ _ s c.if-ahead-eq3.true))
 
-pub returns-then-ahead-ne2 : goal.returns-then-ahead-ne2
-returns-then-ahead-ne2 c = λ q. absurd (subst T (sym q) tt)
-
-pub returns-then-arity-ne3 : goal.returns-then-arity-ne3
-returns-then-arity-ne3 c = λ q. absurd (subst T (sym q) tt)
-
 pub scope_at-requires : goal.scope_at-requires
 scope_at-requires c =
     let Walks : Problem → List ℕ → List ℕ → ℕ → ℕ → Type 0 =
@@ -43,12 +37,6 @@ number-requires c =
     λ p vs codes z w s. carried_image p vs _ _ codes _ _ _ _ _ _ _ s c.if-ahead-ne2.false (three p vs codes z w s) in
     omega
     (arith, variable_lt c.requires.0 c.requires.5.lent.ready.framed.stated _ (image c.requires.0 c.requires.1 c.requires.2 c.requires.3 c.requires.4 c.requires.5))
-
-pub returns-then-set-eq0 : goal.returns-then-set-eq0
-returns-then-set-eq0 c = λ q. absurd (subst T (sym q) tt)
-
-pub pick-m-requires : goal.pick-m-requires
-pick-m-requires c = (omega (arith, c.requires.5.chosen.inside, c.requires.5.lent.ready.framed.stated.most), c.if-set-eq0.false)
 
 pub rows_from-requires : goal.rows_from-requires
 rows_from-requires c =

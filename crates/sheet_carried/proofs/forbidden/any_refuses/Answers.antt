@@ -32,8 +32,5 @@ overflow_cast-k c = record { fits = lt_of_le_of_lt (trailing_le 64 _) (lit< tt) 
 pub refused-requires : goal.refused-requires
 refused-requires c = (c.requires.0, c.requires.1.ready, pending_next c.requires.0 _ _ _ _ _ c.requires.1 _ _ (c.loop-pending.invariant c.requires.0 c.requires.1 c.requires.2) c.loop-pending-test.true)
 
-pub overflow_sub-pending : goal.overflow_sub-pending
-overflow_sub-pending c = omega arith
-
 pub loop-pending-smaller : goal.loop-pending-smaller
 loop-pending-smaller c = rest_less _ c.loop-pending-test.true

@@ -44,15 +44,6 @@ returns c =
     (sym c.clash-2.ensures ∙ c.if-clash-2.false)
     (sym c.clash-3.ensures ∙ c.if-clash-3.false)
 
-pub clash-requires : goal.clash-requires
-clash-requires c = tt
-
-pub clash-requires-2 : goal.clash-requires-2
-clash-requires-2 c = tt
-
-pub clash-requires-3 : goal.clash-requires-3
-clash-requires-3 c = tt
-
 pub number-s-requires : goal.number-s-requires
 number-s-requires c = omega (arith, (variables_small c.requires.0 _ _ _ _ _ c.requires.1).0)
 

@@ -1,4 +1,4 @@
-use Rattle.model.specs.Kit.{sym, ap, ◌∙◌, subst, ⊎_elim, ℕ, ◌+◌, ◌*◌, ◌^◌, ◌<◌, arith, not-true, not-false}
+use Rattle.model.specs.Kit.{sym, ap, ◌∙◌, subst, ℕ, ◌+◌, ◌*◌, ◌^◌, ◌<◌, arith}
 use Rattle.model.specs.{declared.ValueSet.ValueSet, ValueSets.only_mask, ValueSets.union_mask}
 use Rattle.model.proofs.Sets.{mask_lt}
 use Rattle.sheet_table.specs.Inner.Forbidden.{Lacking}
@@ -18,7 +18,7 @@ loop-v-preserved c =
           let q = ap (λ (s : ValueSet). s.bits) u.set-is ∙ u.union-set.ensures ∙ ap (union_mask c.loop-v.set.bits)
           (u.only.ensures ∙ ap (λ (f : ℕ). only_mask f c.loop-v.v) u.full.ensures) in (
             subst (λ (s : ℕ). s < 2 ^ 16) (sym q) (mask_lt 16 _),
-            lacking_more _ _ _ _ _ _ _ c.loop-v.invariant.2 c.support.ensures _ c.loop-v.invariant.1 c.loop-v-test.true q
+            lacking_more _ _ _ _ _ _ _ c.loop-v.invariant.2 c.support.ensures _ c.loop-v.invariant.1 (omega arith) q
                 (sym c.contains.ensures ∙ u.if-not-contains.true),
           )
       | else-not-contains u ↦
@@ -28,40 +28,19 @@ loop-v-preserved c =
     (omega arith, r.0, r.1)
 
 pub returns : goal.returns
-returns c = lacking_all _ _ _ _ _ _ c.loop-v-test.false c.loop-v.invariant.0 c.loop-v.invariant.2
+returns c = lacking_all _ _ _ _ _ _ (omega arith) c.loop-v.invariant.0 c.loop-v.invariant.2
 
 pub overflow_mul-step : goal.overflow_mul-step
 overflow_mul-step c =
-    let place : c.args.base + c.args.step * c.loop-v.v < SUPPORTS = lacking_place _ _ _ c.requires.0 c.loop-v-test.true in
+    let place : c.args.base + c.args.step * c.loop-v.v < SUPPORTS = lacking_place _ _ _ c.requires.0 (omega arith) in
     omega (arith, place)
 
 pub overflow_add-base : goal.overflow_add-base
 overflow_add-base c =
-    let place : c.args.base + c.args.step * c.loop-v.v < SUPPORTS = lacking_place _ _ _ c.requires.0 c.loop-v-test.true in
+    let place : c.args.base + c.args.step * c.loop-v.v < SUPPORTS = lacking_place _ _ _ c.requires.0 (omega arith) in
     omega (arith, place)
 
 pub support-requires : goal.support-requires
 support-requires c =
-    let place : c.args.base + c.args.step * c.loop-v.v < SUPPORTS = lacking_place _ _ _ c.requires.0 c.loop-v-test.true in
+    let place : c.args.base + c.args.step * c.loop-v.v < SUPPORTS = lacking_place _ _ _ c.requires.0 (omega arith) in
     place
-
-pub contains-requires : goal.contains-requires
-contains-requires c = tt
-
-pub full-requires : goal.full-requires
-full-requires c = tt
-
-pub overflow_cast-v : goal.overflow_cast-v
-overflow_cast-v c = omega arith
-
-pub only-requires : goal.only-requires
-only-requires c = tt
-
-pub union-set-requires : goal.union-set-requires
-union-set-requires c = tt
-
-pub overflow_add-v : goal.overflow_add-v
-overflow_add-v c = omega arith
-
-pub loop-v-smaller : goal.loop-v-smaller
-loop-v-smaller c = omega arith

@@ -14,12 +14,6 @@ returns c =
     (at c.args.numbers.now c.args.y) = ap₂ bit_and (ap₂ bit_and c.number.ensures c.number-2.ensures) c.number-3.ensures in
     λ p r ma mb. c.refusing.ensures p _ (on_lowest p _ _ r _ _ _ ma mb c.requires.4 _ found c.if-set-eq0.false)
 
-pub number-requires : goal.number-requires
-number-requires c = omega (arith, variable_lt c.requires.0 c.requires.1.framed.stated _ c.requires.2)
-
-pub number-requires-2 : goal.number-requires-2
-number-requires-2 c = omega (arith, variable_lt c.requires.0 c.requires.1.framed.stated _ c.requires.3)
-
 pub overflow_cast-set : goal.overflow_cast-set
 overflow_cast-set c = record { fits = lt_of_le_of_lt (trailing_le 64 _) (lit< tt) }
 

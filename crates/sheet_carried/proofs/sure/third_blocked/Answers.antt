@@ -7,12 +7,3 @@ returns-then-contains c = λ p t e s. sure_blocked p _ _ _ _ s e (sym c.contains
 
 pub returns : goal.returns
 returns c = λ p t e s. c.blocked.ensures p t
-
-pub overflow_cast-e : goal.overflow_cast-e
-overflow_cast-e c = omega arith
-
-pub contains-requires : goal.contains-requires
-contains-requires c = tt
-
-pub blocked-requires : goal.blocked-requires
-blocked-requires c = c.requires

@@ -16,9 +16,6 @@ returns-then-z-y c =
     λ p h. let i = three_in p _ _ c.args.moves.now _ c.args.k _ _ _ h c.requires.2 c.requires.3 in ((h.ready.framed, i.0, i.2), i.1) in
     λ q p h. let r = ready p h in whole_down p _ _ _ _ _ _ _ _ h c.requires.2 c.requires.3 c.if-z-y.true (c.seconds_from-then-z-y.ensures q p r.0 r.1)
 
-pub returns : goal.returns
-returns c = λ q. absurd (subst T (sym q) tt)
-
 pub seconds_from-requires : goal.seconds_from-requires
 seconds_from-requires c =
     let ready : (p : Problem) → Three p c.args.numbers.now c.args.supports.now c.args.m c.args.x c.args.y c.args.z → Two p c.args.numbers.now c.args.x c.args.z × (c.args.y < p.variables) =

@@ -4,15 +4,6 @@ use Rattle.sheet_table.specs.Inner.Forbidden.{Three, Whole}
 use Rattle.sheet_carried.proofs.{Wholes.three_of, Wholes.three_in, Wholes.whole_in, Wholes.whole_kept}
 use Rattle.sheet_carried.proofs.turned.turned.Goals as goal
 
-pub returns-then-x-y : goal.returns-then-x-y
-returns-then-x-y c = λ q. absurd (subst T (sym q) tt)
-
-pub returns-then-x-z : goal.returns-then-x-z
-returns-then-x-z c = λ q. absurd (subst T (sym q) tt)
-
-pub returns-then-set-eq0 : goal.returns-then-set-eq0
-returns-then-set-eq0 c = λ q. absurd (subst T (sym q) tt)
-
 pub rows_from-requires : goal.rows_from-requires
 rows_from-requires c =
     let At : Problem → List ℕ → Type 0 = λ p codes. Whole p c.args.numbers.now c.args.supports.now codes c.args.moves.now c.args.k in

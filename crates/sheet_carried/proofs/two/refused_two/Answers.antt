@@ -7,12 +7,6 @@ use Rattle.sheet_carried.proofs.{Couples.couple_lt, Couples.couple_row, Couples.
 use Rattle.arrays.specs.Inner.Places.{SUPPORTS}
 use Rattle.sheet_carried.proofs.two.refused_two.Goals as goal
 
-pub returns-then-set-eq0 : goal.returns-then-set-eq0
-returns-then-set-eq0 c = λ q. absurd (subst T (sym q) tt)
-
-pub returns-then-arity-ne2 : goal.returns-then-arity-ne2
-returns-then-arity-ne2 c = λ q. absurd (subst T (sym q) tt)
-
 pub returns : goal.returns
 returns c =
     let found : bit_and c.number.result c.number-2.result ≡ bit_and (at c.args.numbers.now (c.args.a / 16)) (at c.args.numbers.now (c.args.b / 16)) = ap₂ bit_and c.number.ensures c.number-2.ensures in
@@ -21,12 +15,6 @@ returns c =
     λ q p t.
     couple_blocked p _ _ _ _ t _ found c.if-set-eq0.false c.requires.1
     (sym (c.arity.ensures p t.ready.framed (inside p t)) ∙ c.if-arity-ne2.false) _ c.support.ensures (sym c.contains.ensures ∙ not-true _ q)
-
-pub number-requires : goal.number-requires
-number-requires c = omega (arith, variable_lt c.requires.0.0 c.requires.0.1.ready.framed.stated _ c.requires.0.1.second)
-
-pub number-requires-2 : goal.number-requires-2
-number-requires-2 c = omega (arith, variable_lt c.requires.0.0 c.requires.0.1.ready.framed.stated _ c.requires.0.1.third)
 
 pub overflow_cast-k : goal.overflow_cast-k
 overflow_cast-k c = record { fits = lt_of_le_of_lt (trailing_le 64 _) (lit< tt) }

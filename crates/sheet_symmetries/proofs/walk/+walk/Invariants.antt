@@ -7,9 +7,6 @@ use Rattle.sheet_symmetries.proofs.walk.+walk.Given as goal
 abbrev pub decreases-walk : goal.decreases-walk
 decreases-walk l = l.ahead
 
-abbrev pub invariant-loop-set : goal.invariant-loop-set
-invariant-loop-set l =
-    (p : Problem) (vs : List ℕ) (z : ℕ) → Walking p vs l.numbers l.supports l.codes l.moves l.k l.ahead l.key z l.a l.b → (l.ahead ≡ 0 → ⊥) → Choices p vs l.codes l.k l.ahead l.set.bits
-
-abbrev pub decreases-loop-set : goal.decreases-loop-set
-decreases-loop-set l = l.set.bits
+abbrev pub invariant-loop-v : goal.invariant-loop-v
+invariant-loop-v l =
+    (p : Problem) (vs : List ℕ) (z : ℕ) → Walking p vs l.numbers l.supports l.codes l.moves l.k l.ahead l.key z l.a l.b → (l.ahead ≡ 0 → ⊥) → Choices p vs l.codes l.k l.ahead l.v-iterator.left.bits

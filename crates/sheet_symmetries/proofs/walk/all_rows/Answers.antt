@@ -7,9 +7,6 @@ use Rattle.sheet_symmetries.proofs.walk.all_rows.Goals as goal
 some : ◌≡◌ {A = ℕ} 1 0 → ⊥
 some e = omega arith
 
-pub returns-then-ahead-ne1 : goal.returns-then-ahead-ne1
-returns-then-ahead-ne1 c = λ q. absurd (subst T (sym q) tt)
-
 pub scope_at-x-requires : goal.scope_at-x-requires
 scope_at-x-requires c =
     let At : Problem → List ℕ → Type 0 = λ p vs. Ready p c.args.numbers.now c.args.supports.now × Chosen p vs c.args.k c.args.ahead c.args.key in
@@ -30,7 +27,7 @@ returns c =
     ∙ ap (at (constraint_at p c.args.k).scope) e in
     let chosen : (p : Problem) (vs : List ℕ) → At p vs → Chosen p vs c.args.k 1 c.args.key = λ p vs h. subst (λ (n : ℕ). Chosen p vs c.args.k n c.args.key) c.if-ahead-ne1.false h.1 in
     λ q p vs codes r h.
-    choices_over p vs codes _ _ _ (c.choices.ensures p vs codes r (chosen p vs (r, h)) some (variable p vs (r, h))) (eqb-true _ _ (sym c.is_empty.ensures ∙ q))
+    choices_over (c.choices.ensures p vs codes r (chosen p vs (r, h)) some (variable p vs (r, h))) (eqb-true _ _ (sym c.is_empty.ensures ∙ q))
 
 pub overflow_sub-arity : goal.overflow_sub-arity
 overflow_sub-arity c =

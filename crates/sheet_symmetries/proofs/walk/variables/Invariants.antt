@@ -9,6 +9,3 @@ kept p codes x = doublings p codes x (members (at p.initial x))
 abbrev pub invariant-loop-x : goal.invariant-loop-x
 invariant-loop-x l = (p : Problem) → Lent p l.numbers l.supports l.codes l.moves → (l.x ≤ p.variables) ×
     (all (kept p l.codes) (up_from l.x (p.variables - l.x)) ≡ all (kept p l.codes) (below p.variables))
-
-abbrev pub decreases-loop-x : goal.decreases-loop-x
-decreases-loop-x l = l.n - l.x

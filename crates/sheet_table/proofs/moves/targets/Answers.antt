@@ -9,7 +9,7 @@ loop-x-init c = (c.requires.1, λ p f d b. (omega arith, moving_none p f.stated 
 
 pub loop-x-preserved : goal.loop-x-preserved
 loop-x-preserved c =
-    let inside : (p : Problem) → Framed p c.args.numbers.now → c.loop-x.x < p.variables = λ p f. omega (arith, c.number-n.ensures, f.numbered.variables, c.loop-x-test.true) in
+    let inside : (p : Problem) → Framed p c.args.numbers.now → c.loop-x.x < p.variables = λ p f. omega (arith, c.number-n.ensures, f.numbered.variables) in
     let small : 192 + c.loop-x.x < 256 = omega (arith, inside c.requires.0.0 c.requires.0.1, c.requires.0.1.stated.few) in (
       blank_moves _ _ _ _ small c.goes_to.ensures.0 c.loop-x.invariant.0,
       λ p f d a. (
@@ -20,12 +20,12 @@ loop-x-preserved c =
 
 pub returns : goal.returns
 returns c =
-    λ p f d a. moved_all p f.stated _ _ _ (omega (arith, c.number-n.ensures, f.numbered.variables, c.loop-x-test.false, (c.loop-x.invariant.1 p f d a).0)) c.loop-x.invariant.0.small
+    λ p f d a. moved_all p f.stated _ _ _ (omega (arith, c.number-n.ensures, f.numbered.variables, (c.loop-x.invariant.1 p f d a).0)) c.loop-x.invariant.0.small
     (c.loop-x.invariant.1 p f d a).1
 
 pub goes_to-requires : goal.goes_to-requires
 goes_to-requires c =
-    let inside : (p : Problem) → Framed p c.args.numbers.now → c.loop-x.x < p.variables = λ p f. omega (arith, c.number-n.ensures, f.numbered.variables, c.loop-x-test.true) in
+    let inside : (p : Problem) → Framed p c.args.numbers.now → c.loop-x.x < p.variables = λ p f. omega (arith, c.number-n.ensures, f.numbered.variables) in
     (c.requires.0.0, c.requires.0.1, inside c.requires.0.0 c.requires.0.1)
 
 pub overflow_cast-moves : goal.overflow_cast-moves
@@ -33,21 +33,12 @@ overflow_cast-moves c = omega (arith, c.goes_to.ensures.0)
 
 pub overflow_add-moves : goal.overflow_add-moves
 overflow_add-moves c =
-    let inside : (p : Problem) → Framed p c.args.numbers.now → c.loop-x.x < p.variables = λ p f. omega (arith, c.number-n.ensures, f.numbered.variables, c.loop-x-test.true) in
+    let inside : (p : Problem) → Framed p c.args.numbers.now → c.loop-x.x < p.variables = λ p f. omega (arith, c.number-n.ensures, f.numbered.variables) in
     let small : 192 + c.loop-x.x < 256 = omega (arith, inside c.requires.0.0 c.requires.0.1, c.requires.0.1.stated.few) in
     omega (arith, small)
 
 pub bounds-moves-x : goal.bounds-moves-x
 bounds-moves-x c =
-    let inside : (p : Problem) → Framed p c.args.numbers.now → c.loop-x.x < p.variables = λ p f. omega (arith, c.number-n.ensures, f.numbered.variables, c.loop-x-test.true) in
+    let inside : (p : Problem) → Framed p c.args.numbers.now → c.loop-x.x < p.variables = λ p f. omega (arith, c.number-n.ensures, f.numbered.variables) in
     let small : 192 + c.loop-x.x < 256 = omega (arith, inside c.requires.0.0 c.requires.0.1, c.requires.0.1.stated.few) in
     omega (arith, small)
-
-pub overflow_add-x : goal.overflow_add-x
-overflow_add-x c =
-    let inside : (p : Problem) → Framed p c.args.numbers.now → c.loop-x.x < p.variables = λ p f. omega (arith, c.number-n.ensures, f.numbered.variables, c.loop-x-test.true) in
-    let small : 192 + c.loop-x.x < 256 = omega (arith, inside c.requires.0.0 c.requires.0.1, c.requires.0.1.stated.few) in
-    omega (arith, small)
-
-pub loop-x-smaller : goal.loop-x-smaller
-loop-x-smaller c = omega arith

@@ -1,4 +1,4 @@
-use Rattle.model.specs.Kit.{⊎_elim, ◌≡◌, refl, sym, ap, ◌∙◌, subst, ℕ, ◌+◌, ◌*◌, ◌%◌, ◌≤◌, ◌<◌, arith, not-false, length, length-set}
+use Rattle.model.specs.Kit.{◌≡◌, refl, sym, ap, ◌∙◌, subst, ℕ, ◌+◌, ◌*◌, ◌%◌, ◌≤◌, ◌<◌, arith, length, length-set}
 use Rattle.model.specs.{Lists.at, Problem.Problem}
 use native.Mathlib.Nat.{mod-lt}
 use Rattle.model.proofs.{Lists.T_of, Lists.at_replicate, Pairs.is_pair_lt}
@@ -16,7 +16,7 @@ pub returns-then-not-is_pair : goal.returns-then-not-is_pair
 returns-then-not-is_pair c =
     let At : Problem → Type 0 = λ p. TableAt p c.args.sheet.now c.args.offset c.args.numbers.now in
     let inside : (p : Problem) → At p → c.loop-q.q < p.variables * p.values =
-    λ p l. subst (λ (n : ℕ). c.loop-q.q < n) (size_is p _ l.framed _ _ c.number.ensures c.number-d.ensures) c.loop-q-test.true in
+    λ p l. subst (λ (n : ℕ). c.loop-q.q < n) (size_is p _ l.framed _ _ c.number.ensures c.number-d.ensures) (omega arith) in
     let room : c.args.offset + 2 * c.loop-q.q + 2 ≤ length c.args.sheet.now = omega (arith, inside c.requires.0.0 c.requires.0.1, c.requires.0.1.whole) in
     record {
       room = c.loop-q.invariant.0;
@@ -30,7 +30,7 @@ unfolding at
 returns-then-seen-y-eq1 c =
     let At : Problem → Type 0 = λ p. TableAt p c.args.sheet.now c.args.offset c.args.numbers.now in
     let inside : (p : Problem) → At p → c.loop-q.q < p.variables * p.values =
-    λ p l. subst (λ (n : ℕ). c.loop-q.q < n) (size_is p _ l.framed _ _ c.number.ensures c.number-d.ensures) c.loop-q-test.true in
+    λ p l. subst (λ (n : ℕ). c.loop-q.q < n) (size_is p _ l.framed _ _ c.number.ensures c.number-d.ensures) (omega arith) in
     let room : c.args.offset + 2 * c.loop-q.q + 2 ≤ length c.args.sheet.now = omega (arith, inside c.requires.0.0 c.requires.0.1, c.requires.0.1.whole) in
     record { room = c.loop-q.invariant.0; drawn = λ p l. drawn_no p _ _ _ (read_twice p _ _ _ _ _ (c.loop-q.invariant.2 p l).1 (inside p l) c.read_word-y.ensures c.if-seen-y-eq1.true) }
 
@@ -38,7 +38,7 @@ pub returns-then-y-q : goal.returns-then-y-q
 returns-then-y-q c =
     let At : Problem → Type 0 = λ p. TableAt p c.args.sheet.now c.args.offset c.args.numbers.now in
     let inside : (p : Problem) → At p → c.loop-q.q < p.variables * p.values =
-    λ p l. subst (λ (n : ℕ). c.loop-q.q < n) (size_is p _ l.framed _ _ c.number.ensures c.number-d.ensures) c.loop-q-test.true in
+    λ p l. subst (λ (n : ℕ). c.loop-q.q < n) (size_is p _ l.framed _ _ c.number.ensures c.number-d.ensures) (omega arith) in
     let room : c.args.offset + 2 * c.loop-q.q + 2 ≤ length c.args.sheet.now = omega (arith, inside c.requires.0.0 c.requires.0.1, c.requires.0.1.whole) in
     record {
       room = c.loop-q.invariant.0;
@@ -52,7 +52,7 @@ unfolding at
 loop-q-preserved c =
     let At : Problem → Type 0 = λ p. TableAt p c.args.sheet.now c.args.offset c.args.numbers.now in
     let inside : (p : Problem) → At p → c.loop-q.q < p.variables * p.values =
-    λ p l. subst (λ (n : ℕ). c.loop-q.q < n) (size_is p _ l.framed _ _ c.number.ensures c.number-d.ensures) c.loop-q-test.true in
+    λ p l. subst (λ (n : ℕ). c.loop-q.q < n) (size_is p _ l.framed _ _ c.number.ensures c.number-d.ensures) (omega arith) in
     let values : (p : Problem) → At p → c.number-d.result ≡ p.values = λ p l. c.number-d.ensures ∙ l.framed.numbered.values in
     let value : (1 ≤ c.number-d.result) × (c.loop-q.q % c.number-d.result < 16) = let v = values c.requires.0.0 c.requires.0.1 in
     let one : 1 ≤ c.number-d.result = omega (arith, c.requires.0.1.framed.stated.one) in
@@ -87,7 +87,7 @@ pub returns : goal.returns
 returns c =
     let At : Problem → Type 0 = λ p. TableAt p c.args.sheet.now c.args.offset c.args.numbers.now in
     let over : (p : Problem) → At p → c.loop-q.q ≡ p.variables * p.values =
-    λ p l. omega (arith, size_is p _ l.framed _ _ c.number.ensures c.number-d.ensures, c.loop-q-test.false, (c.loop-q.invariant.2 p l).0) in
+    λ p l. omega (arith, size_is p _ l.framed _ _ c.number.ensures c.number-d.ensures, (c.loop-q.invariant.2 p l).0) in
     record {
       room = c.loop-q.invariant.0;
       drawn = λ p l. drawn_yes p l.framed.stated _ _ _
@@ -101,7 +101,7 @@ pub overflow_mul-q : goal.overflow_mul-q
 overflow_mul-q c =
     let At : Problem → Type 0 = λ p. TableAt p c.args.sheet.now c.args.offset c.args.numbers.now in
     let inside : (p : Problem) → At p → c.loop-q.q < p.variables * p.values =
-    λ p l. subst (λ (n : ℕ). c.loop-q.q < n) (size_is p _ l.framed _ _ c.number.ensures c.number-d.ensures) c.loop-q-test.true in
+    λ p l. subst (λ (n : ℕ). c.loop-q.q < n) (size_is p _ l.framed _ _ c.number.ensures c.number-d.ensures) (omega arith) in
     let small : c.loop-q.q < 192 = omega (arith, inside c.requires.0.0 c.requires.0.1, table_small c.requires.0.0 c.requires.0.1.framed.stated) in
     omega (arith, small)
 
@@ -109,7 +109,7 @@ pub overflow_add-offset : goal.overflow_add-offset
 overflow_add-offset c =
     let At : Problem → Type 0 = λ p. TableAt p c.args.sheet.now c.args.offset c.args.numbers.now in
     let inside : (p : Problem) → At p → c.loop-q.q < p.variables * p.values =
-    λ p l. subst (λ (n : ℕ). c.loop-q.q < n) (size_is p _ l.framed _ _ c.number.ensures c.number-d.ensures) c.loop-q-test.true in
+    λ p l. subst (λ (n : ℕ). c.loop-q.q < n) (size_is p _ l.framed _ _ c.number.ensures c.number-d.ensures) (omega arith) in
     let room : c.args.offset + 2 * c.loop-q.q + 2 ≤ length c.args.sheet.now = omega (arith, inside c.requires.0.0 c.requires.0.1, c.requires.0.1.whole) in
     omega (arith, room)
 
@@ -117,7 +117,7 @@ pub read_word-y-requires : goal.read_word-y-requires
 read_word-y-requires c =
     let At : Problem → Type 0 = λ p. TableAt p c.args.sheet.now c.args.offset c.args.numbers.now in
     let inside : (p : Problem) → At p → c.loop-q.q < p.variables * p.values =
-    λ p l. subst (λ (n : ℕ). c.loop-q.q < n) (size_is p _ l.framed _ _ c.number.ensures c.number-d.ensures) c.loop-q-test.true in
+    λ p l. subst (λ (n : ℕ). c.loop-q.q < n) (size_is p _ l.framed _ _ c.number.ensures c.number-d.ensures) (omega arith) in
     let room : c.args.offset + 2 * c.loop-q.q + 2 ≤ length c.args.sheet.now = omega (arith, inside c.requires.0.0 c.requires.0.1, c.requires.0.1.whole) in
     omega (arith, room)
 
@@ -161,7 +161,7 @@ pub pair_code-requires : goal.pair_code-requires
 pair_code-requires c =
     let At : Problem → Type 0 = λ p. TableAt p c.args.sheet.now c.args.offset c.args.numbers.now in
     let inside : (p : Problem) → At p → c.loop-q.q < p.variables * p.values =
-    λ p l. subst (λ (n : ℕ). c.loop-q.q < n) (size_is p _ l.framed _ _ c.number.ensures c.number-d.ensures) c.loop-q-test.true in
+    λ p l. subst (λ (n : ℕ). c.loop-q.q < n) (size_is p _ l.framed _ _ c.number.ensures c.number-d.ensures) (omega arith) in
     let values : (p : Problem) → At p → c.number-d.result ≡ p.values = λ p l. c.number-d.ensures ∙ l.framed.numbered.values in
     let value : (1 ≤ c.number-d.result) × (c.loop-q.q % c.number-d.result < 16) = let v = values c.requires.0.0 c.requires.0.1 in
     let one : 1 ≤ c.number-d.result = omega (arith, c.requires.0.1.framed.stated.one) in
@@ -194,14 +194,3 @@ overflow_cast-moves c =
 
 pub bounds-moves-e : goal.bounds-moves-e
 bounds-moves-e c = omega (arith, c.pair_code-e.ensures.1)
-
-pub overflow_add-q : goal.overflow_add-q
-overflow_add-q c =
-    let At : Problem → Type 0 = λ p. TableAt p c.args.sheet.now c.args.offset c.args.numbers.now in
-    let inside : (p : Problem) → At p → c.loop-q.q < p.variables * p.values =
-    λ p l. subst (λ (n : ℕ). c.loop-q.q < n) (size_is p _ l.framed _ _ c.number.ensures c.number-d.ensures) c.loop-q-test.true in
-    let small : c.loop-q.q < 192 = omega (arith, inside c.requires.0.0 c.requires.0.1, table_small c.requires.0.0 c.requires.0.1.framed.stated) in
-    omega (arith, small)
-
-pub loop-q-smaller : goal.loop-q-smaller
-loop-q-smaller c = omega arith

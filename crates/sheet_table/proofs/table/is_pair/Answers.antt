@@ -1,4 +1,4 @@
-use Rattle.model.specs.Kit.{◌∙◌, sym, ap, subst, ℕ, ◌<◌, arith}
+use Rattle.model.specs.Kit.{◌∙◌, sym, ap, subst, ℕ, ◌<◌, le-ltb, arith}
 use Rattle.model.specs.Lists.{at}
 use Rattle.sheet_table.proofs.{Frames.size_lt, Frames.pair_variable, Frames.pair_value, Frames.is_pair_lem, Frames.no_pair}
 use Rattle.sheet_table.proofs.table.is_pair.Goals as goal
@@ -18,7 +18,7 @@ returns-then-q-n c = λ p f. c.contains.ensures ∙ is_pair_lem p _ f _ _ _ c.nu
     (λ x e h. c.initial.ensures p f (subst (λ (y : ℕ). y < p.variables) e h) ∙ ap (at p.initial) (sym e))
 
 pub returns-else-q-n : goal.returns-else-q-n
-returns-else-q-n c = λ p f. no_pair p _ f _ _ _ c.number-n.ensures c.number-d.ensures c.if-q-n.false
+returns-else-q-n c = λ p f. le-ltb _ _ c.if-q-n.false ∙ no_pair p _ f _ _ _ c.number-n.ensures c.number-d.ensures c.if-q-n.false
 
 pub overflow_mul-n : goal.overflow_mul-n
 overflow_mul-n c = omega (arith, size_lt c.requires.0 _ c.requires.1 _ _ c.number-n.ensures c.number-d.ensures)

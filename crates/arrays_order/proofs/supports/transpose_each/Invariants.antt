@@ -1,9 +1,0 @@
-use Rattle.model.specs.Kit.{◌*◌, ◌-◌, ◌≤◌}
-use Rattle.arrays_order.specs.Inner.Steps.{Transposed}
-use Rattle.arrays_order.proofs.supports.transpose_each.Given as goal
-
-abbrev pub invariant-loop-v : goal.invariant-loop-v
-invariant-loop-v l = (l.v ≤ l.d) × Transposed l.base (16 * l.v) l.initial.supports l.supports
-
-abbrev pub decreases-loop-v : goal.decreases-loop-v
-decreases-loop-v l = l.d - l.v

@@ -1,8 +1,0 @@
-use Rattle.model.specs.Kit.{◌-◌, ◌≤◌, length}
-use Rattle.examples_lines.proofs.number.Given as goal
-
-abbrev pub invariant-loop-at : goal.invariant-loop-at
-invariant-loop-at l = l.at ≤ length l.line
-
-abbrev pub decreases-loop-at : goal.decreases-loop-at
-decreases-loop-at l = length l.line - l.at

@@ -1,8 +1,0 @@
-use Rattle.model.specs.Kit.{◌-◌, ◌≤◌, length}
-use Rattle.examples_sheet.proofs.put_all.Given as goal
-
-abbrev pub invariant-loop-i : goal.invariant-loop-i
-invariant-loop-i l = l.i ≤ length l.values
-
-abbrev pub decreases-loop-i : goal.decreases-loop-i
-decreases-loop-i l = length l.values - l.i

@@ -1,0 +1,6 @@
+use Rattle.model.specs.Kit.{◌≡◌, ◌≤◌}
+use Rattle.run_join.specs.Join.{nearest_of, head_number}
+use Rattle.run_join.proofs.steps.nearest.Given as goal
+
+abbrev pub invariant-loop-k : goal.invariant-loop-k
+invariant-loop-k l = (head_number l.near ≡ nearest_of l.l l.here l.k) × (head_number l.near ≤ l.k)

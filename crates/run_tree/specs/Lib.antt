@@ -1,0 +1,2 @@
+-- The walk along the tree: how it stopped.
+pub mod Inner

@@ -1,9 +1,0 @@
-use Rattle.model.specs.Kit.{◌≡◌, ◌-◌, ◌≤◌, length}
-use lib.Seq.{paste}
-use Rattle.wire.proofs.put.Given as goal
-
-abbrev pub invariant-loop-i : goal.invariant-loop-i
-invariant-loop-i l = (l.i ≤ length l.bytes) × (l.out ≡ paste l.initial.out l.at l.bytes l.i) × (length l.out ≡ length l.initial.out)
-
-abbrev pub decreases-loop-i : goal.decreases-loop-i
-decreases-loop-i l = length l.bytes - l.i
