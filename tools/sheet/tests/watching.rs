@@ -71,9 +71,18 @@ fn signalled(words: &[&str], signal: &str) -> (Output, Vec<String>) {
     (Output { status, stdout, stderr: Vec::new() }, line.lines().map(String::from).collect())
 }
 
+/// Sends a signal at once: by the program `kill` it would come after the end of a run that takes no longer than that program.
 fn send(run: &Child, signal: &str) {
-    let sent = Command::new("kill").args([signal, &run.id().to_string()]).status().unwrap();
-    assert!(sent.success());
+    unsafe extern "C" {
+        fn kill(process: i32, signal: i32) -> i32;
+    }
+    let number = match signal {
+        "-INT" => 2,
+        "-TERM" => 15,
+        _ => panic!("{signal}"),
+    };
+    // SAFETY: the process is this one's child, which nobody has waited for.
+    assert_eq!(unsafe { kill(run.id().try_into().unwrap(), number) }, 0);
 }
 
 /// The path with which a stopped run goes on.
