@@ -165,7 +165,7 @@ pub fn families(
     let mut numbers = [0u64; NUMBERS];
     let mut images = [0u8; IMAGES];
     let mut order = [0u8; 16];
-    run_input::ask(
+    let asked = run_input::ask(
         sheet,
         pairs,
         block,
@@ -173,7 +173,8 @@ pub fn families(
         &mut supports,
         &mut images,
         &mut order,
-    )?;
+    );
+    asked?;
     let mut wide = [0u8; WIDE];
     let symmetries = put_images(
         pairs,
