@@ -8,10 +8,11 @@ ghost use Rattle.std.specs.Prelude.{◌≡◌, ℕ, ◌^◌, ◌≤◌, ◌<◌,
 ghost use Rattle.model.specs.Written.{Written};
 ghost use Rattle.desk.specs.Queue.{submit, answered, standing_by};
 ghost use Rattle.desk.specs.Meaning.{turned_as};
-ghost use Rattle.export_desk.specs.Told.{four_numbers, kind_of, reply_answer, CallQueue, CallRelease, CallStatus};
-ghost use Rattle.export_desk.specs.Inner.Fits.{ReplyFits};
+ghost use Rattle.export_desk.specs.Told.{four_numbers, kind_of, reply_code, reply_answer, CallQueue, CallRelease, CallStatus};
+ghost use Rattle.export_desk.specs.Inner.{Fits.ReplyFits, Answers.means};
 
 use desk::Stands;
+use model::refusals::Refusal;
 use wire::{WRONG_LENGTH, four, refusal_code, three};
 
 // Puts four numbers at the front; answers the place after them.
@@ -61,6 +62,37 @@ pub fn turned(answer: &mut [u8], served: Option<Stands>)
     }
 }
 
+// What a call on the queue answers: the slot of a new job; how the slot served stands, if a run waited; the bytes that a release wrote.
+#[derive(Clone, Copy, Debug, PartialEq, Eq)]
+pub enum Answer {
+    Queued(usize),
+    Turned(Option<Stands>),
+    Released(usize),
+}
+
+// A reply as the returned number and the answer.
+pub fn told(answer: &mut [u8], r: Result<Answer, Refusal>) -> u32
+    requires { ReplyFits (means r) (length answer.old) }
+    ensures value { result ≡ reply_code (means r) }
+    ensures answer_after { answer.new ≡ reply_answer (means r) answer.old }
+{
+    match r {
+        Err(refusal) => refusal_code(refusal),
+        Ok(Answer::Queued(slot)) => {
+            three(answer, 1, slot, 0);
+            0
+        }
+        Ok(Answer::Turned(served)) => {
+            turned(answer, served);
+            0
+        }
+        Ok(Answer::Released(bytes)) => {
+            three(answer, 1, bytes, 0);
+            0
+        }
+    }
+}
+
 // Puts a job into the lowest free slot. The answer has 12 bytes: 1, the slot, 0.
 pub fn submit(queue: &mut [u8], sheet: &[u8], limit: u32, answer: &mut [u8]) -> u32
     ensures { CallQueue queue.old (submit sheet.now limit) answer.old result queue.new answer.new }
@@ -69,11 +101,8 @@ pub fn submit(queue: &mut [u8], sheet: &[u8], limit: u32, answer: &mut [u8]) -> 
         return WRONG_LENGTH;
     }
     match desk_submit::submit(queue, sheet, limit) {
-        Ok(slot) => {
-            three(answer, 1, slot, 0);
-            0
-        }
-        Err(refusal) => refusal_code(refusal),
+        Ok(slot) => told(answer, Ok(Answer::Queued(slot))),
+        Err(refusal) => told(answer, Err(refusal)),
     }
 }
 
@@ -103,10 +132,7 @@ pub fn release(queue: &mut [u8], slot: u32, room: &mut [u8], answer: &mut [u8]) 
         return WRONG_LENGTH;
     }
     match desk_slots::release(queue, slot, room) {
-        Ok(bytes) => {
-            three(answer, 1, bytes, 0);
-            0
-        }
-        Err(question) => refusal_code(question.into()),
+        Ok(bytes) => told(answer, Ok(Answer::Released(bytes))),
+        Err(question) => told(answer, Err(question.into())),
     }
 }

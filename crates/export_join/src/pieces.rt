@@ -9,7 +9,7 @@ ghost use Rattle.export_join.specs.Joined.{eight_bytes, wides_of, path_bytes_at,
 ghost use Rattle.export_join.specs.Inner.Inside.{InsideHeads};
 
 use run_join::Missing;
-use run_join::paths::four_at;
+use run_join::steps::reach_place;
 use wire::{four, put};
 
 // Puts a number in eight bytes; answers the place after it.
@@ -53,18 +53,6 @@ fn put_path(out: &mut [u8], start: usize, l: &[u8], o: usize)
     ensures { Written out.old start (path_bytes_at l.now o) out.new (start + 13) }
 {
     put(out, start, &l[o..o + 13]);
-}
-
-// Where the path stands that head k reaches.
-fn reach_place(l: &[u8], k: usize) -> usize
-    requires { 115 * k + 115 ≤ length l.now }
-    ensures { result ≡ reach_place l.now k }
-{
-    if four_at(l, 115 * k) == 1 {
-        115 * k + 89
-    } else {
-        115 * k + 102
-    }
 }
 
 // The path where one stands.

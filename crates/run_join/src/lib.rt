@@ -5,7 +5,7 @@
 mod heads;
 mod marks;
 pub mod paths;
-mod steps;
+pub mod steps;
 mod walks;
 mod ways;
 

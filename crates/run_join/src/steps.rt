@@ -1,8 +1,9 @@
 // The heads taken one behind the other.
-ghost use Rattle.std.specs.Prelude.{◌≡◌, [], ◌∷◌, ℕ, suc, ◌*◌, ◌≤◌, ◌<◌};
+ghost use Rattle.std.specs.Prelude.{◌≡◌, [], ◌∷◌, ℕ, suc, ◌+◌, ◌*◌, ◌≤◌, ◌<◌, length};
 ghost use Rattle.model.specs.Lists.{both, choose, same};
 ghost use Rattle.run_cut.specs.Parts.{after};
-ghost use Rattle.run_join.specs.Join.{from_at, reach_at, reach_or, best_of, heads_in, may_take, step_of, stand_path, nearer, nearest_of, head_number};
+ghost use Rattle.run_join.specs.Join.{from_at, reach_place, reach_at, reach_or, best_of, heads_in, may_take, step_of};
+ghost use Rattle.run_join.specs.Join.{stand_path, nearer, nearest_of, head_number};
 ghost use Rattle.run_join.specs.Inner.Inner.{HeadAt, HeadOr, Heads, marked};
 
 use crate::marks::{Marks, is_marked};
@@ -14,6 +15,17 @@ pub fn from(l: &[u8], k: usize) -> &[u8]
     ensures { result.now ≡ from_at l.now k }
 {
     path(l, 115 * k + 76)
+}
+
+// Where the path stands that head k reaches.
+pub fn reach_place(l: &[u8], k: usize) -> usize
+    requires { 115 * k + 115 ≤ length l.now }
+    ensures { result ≡ reach_place l.now k }
+{
+    if four_at(l, 115 * k) == 1 {
+        return 115 * k + 89;
+    }
+    115 * k + 102
 }
 
 // How far head k reaches.
