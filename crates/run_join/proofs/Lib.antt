@@ -1,5 +1,6 @@
 pub mod Slices
 pub mod Orders
+pub mod Padded
 pub mod Questions
 pub mod Turns
 pub mod Fewer

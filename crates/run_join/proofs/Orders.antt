@@ -19,7 +19,7 @@ both_first false b e = e
 
 -- ---- a path's shape
 module _ (l : List ℕ) (o : ℕ) where
-  abbrev behind : ℕ → Bool
+  abbrev pub behind : ℕ → Bool
   behind i = either (ltb i (at l o)) (eqb (at l (o + 1 + i)) 0)
 
   zero_or : (a b : Bool) → a ≡ false → either a b ≡ b

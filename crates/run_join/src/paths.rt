@@ -37,6 +37,22 @@ pub fn path(l: &[u8], o: usize) -> &[u8]
     &l[o + 1..o + 1 + length]
 }
 
+// The thirteen bytes of the path there: how many values, the values, and zeros.
+pub fn padded(l: &[u8], o: usize) -> &[u8; 13]
+    requires { Path l.now o }
+    ensures { Path result.now 0 × (path_at result.now 0 ≡ path_at l.now o) }
+{
+    l[o..o + 13].first_chunk().unwrap()
+}
+
+// Whether two paths of thirteen bytes are the same. The values come first, as they differ more often than how many there are.
+pub fn padded_same(a: &[u8; 13], b: &[u8; 13]) -> bool
+    requires { Path a.now 0 × Path b.now 0 }
+    ensures { result ≡ same (path_at a.now 0) (path_at b.now 0) }
+{
+    (1..13).all(|i| a[i] == b[i]) && a[0] == b[0]
+}
+
 // Whether two paths are the same.
 pub fn are_same(a: &[u8], b: &[u8]) -> bool
     ensures { result ≡ same a.now b.now }
@@ -44,7 +60,8 @@ pub fn are_same(a: &[u8], b: &[u8]) -> bool
     a == b
 }
 
-// Whether the second of two paths comes after the first.
+// Whether the second of two paths comes after the first. Not inlined: the loops over heads need it rarely, and run faster without it.
+#[inline(never)]
 pub fn comes_after(a: &[u8], b: &[u8]) -> bool
     ensures { result ≡ after a.now b.now }
 {

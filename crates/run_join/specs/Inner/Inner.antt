@@ -1,7 +1,8 @@
 -- What the functions inside the crate say to each other.
 use Rattle.std.specs.Prelude.{◌≡◌, Bool, true, false, Option, None, Some, List, ℕ, ◌+◌, ◌*◌, ◌/◌, ◌%◌, ◌^◌, ◌≤◌, ◌<◌, T, eqb, length}
 use Rattle.model.specs.{Lists.at, Lists.both, Lists.either, Lists.same, ValueSets.has}
-use Rattle.run_join.specs.Join.{four_at, path_shaped, reach_at, head_shaped, heads_in, goes_on, joined, leads, may_take, stand_path, nearest_of, head_number, stands, plans_of, nodes_of, count_of}
+use Rattle.run_join.specs.Join.{four_at, path_shaped, from_at, reach_at}
+use Rattle.run_join.specs.Join.{head_shaped, heads_in, goes_on, joined, leads, may_take, stand_path, nearest_of, head_number, stands, plans_of, nodes_of, count_of}
 use Rattle.run_join.specs.declared.Missing.{Missing}
 
 -- a path stands at an offset
@@ -28,6 +29,15 @@ HeadOr l (Some k) = HeadAt l k
 -- head k is marked by a bit
 unfoldable pub marked : List ℕ → ℕ → Bool
 marked marks k = has (at marks (k / 64)) (k % 64)
+
+-- head k is marked and begins at the path s
+abbrev pub begins : List ℕ → List ℕ → List ℕ → ℕ → Bool
+begins marks l s k = both (marked marks k) (same (from_at l k) s)
+
+-- of the numbers from k on, below n, the first that passes a test
+abbrev pub First : (ℕ → Bool) → ℕ → ℕ → Option ℕ → Type 0
+First test k n None = (j : ℕ) → k ≤ j → j < n → test j ≡ false
+First test k n (Some i) = (k ≤ i) × (i < n) × (test i ≡ true) × ((j : ℕ) → k ≤ j → j < i → test j ≡ false)
 
 pub record NoMarks (marks : List ℕ) : Type 0 where
   pub long : length marks ≡ 1024
